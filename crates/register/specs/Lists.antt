@@ -3,8 +3,8 @@ use mathlib.Core.Path.{_≡_}
 use mathlib.Core.Bool.{Bool, true, false, _&&_, _||_, cond}
 use mathlib.Core.Logic.{_⊎_}
 use mathlib.Core.List.{List, [], _∷_, _++_}
-use Prim.Native.Nat.{ℕ, zero, suc, _+_}
-use lib.Dec.{ltb, eqb}
+use Prim.Native.Nat.{ℕ, zero, suc, _+_, max}
+use lib.Dec.{eqb}
 
 -- 1 for a test that passes
 abbrev pub one-if : Bool → ℕ
@@ -64,7 +64,7 @@ distinct (x ∷ xs) = let rest : List ℕ = distinct xs in cond (member x rest) 
 -- the highest of x and the list
 unfoldable pub highest : ℕ → List ℕ → ℕ
 highest x [] = x
-highest x (y ∷ ys) = highest (cond (ltb x y) y x) ys
+highest x (y ∷ ys) = highest (max x y) ys
 
 -- the same numbers in the same order
 unfoldable pub sameList : List ℕ → List ℕ → Bool

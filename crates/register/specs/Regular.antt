@@ -3,6 +3,7 @@ use mathlib.Core.Bool.{Bool, not, _&&_, _||_}
 use mathlib.Core.List.{List, map}
 use Prim.Native.Nat.{ℕ}
 use lib.Dec.{leb, ltb, eqb}
+use lib.ListN.{length}
 use Rattle.register.specs.Lists.{any, filter, highest}
 use Rattle.register.specs.Plan.{Plan, Write, Read, readEnd, writeEnd}
 
@@ -27,3 +28,7 @@ module _ (P : Plan) where
   -- desk begins no write of that cue and number at a smaller tick than that end'
   unfoldable pub hasBegun : ℕ → ℕ → Bool
   hasBegun t p = eqb p (P .initial) || any (λ w. eqb (w .pair) p && ltb (w .begun) t) (P .writes)
+
+  -- how many writes of a higher number began at a smaller tick than t
+  unfoldable pub laterBegun : ℕ → ℕ → ℕ
+  laterBegun t p = length (filter (λ (w : Write). ltb p (w .pair) && ltb (w .begun) t) (P .writes))
