@@ -1,0 +1,4 @@
+pub mod Header
+pub mod Parts
+pub mod Packed
+pub mod Check

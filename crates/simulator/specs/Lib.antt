@@ -1,0 +1,5 @@
+pub mod Answers
+pub mod Play
+pub mod Look
+pub mod Judge
+pub mod PointThree

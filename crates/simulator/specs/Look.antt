@@ -1,0 +1,63 @@
+-- Look (document 01, 'Operations of the library'): its result and the lent workspace, for all inputs.
+use mathlib.Core.Bool.{_&&_, cond}
+use mathlib.Core.List.{List, map}
+use Prim.Native.Nat.{ℕ, suc}
+use lib.Dec.{ltb}
+use lib.ListN.{length}
+use Rattle.register.specs.Plan.{valueOf, numberOf}
+use Rattle.register.specs.Server.{Server, Status, faulty, cured, correct}
+use Rattle.register.specs.Cluster.{cluster, serverOf}
+use Rattle.plan.specs.Header.{Header, headerOf}
+use Rattle.plan.specs.Packed.{planOf}
+use Rattle.plan.specs.Check.{Outcome, refused, result, checkOf}
+use Rattle.simulator.specs.Play.{workspaceSize, zeroed}
+
+-- 'held, curing or sound'
+pub data Condition : Type 0 where
+  is-faulty : Condition
+  is-cured : Condition
+  is-correct : Condition
+
+unfoldable pub conditionOf : Status → Condition
+conditionOf faulty = is-faulty
+conditionOf (cured since) = is-cured
+conditionOf correct = is-correct
+
+pub record Stamped : Type 0 where
+  pub value : ℕ
+  pub number : ℕ
+
+-- 'held, curing or sound, and its pairs, highest number first'
+pub record Shown : Type 0 where
+  pub condition : Condition
+  pub pairs : List Stamped
+
+-- 'a held box shows none': a faulty server stands as blank.
+unfoldable pub shownBy : ℕ → Server → Shown
+shownBy w x = record {
+  condition = conditionOf (x .status);
+  pairs = map (λ p. record { value = valueOf w p; number = numberOf w p }) (x .kept);
+}
+
+-- What Look returns, and the lent bytes afterwards.
+pub record Looked : Type 0 where
+  pub outcome : Outcome Shown
+  pub workspace : List ℕ
+
+module _ (w : ℕ) (s workspace : List ℕ) (b t : ℕ) where
+  abbrev pub lookRefused : ℕ → Looked
+  lookRefused number = record { outcome = refused number; workspace = workspace }
+
+  unfoldable pub lookAfter : Outcome ℕ → Looked
+  lookAfter (refused number) = lookRefused number
+  lookAfter (result m) =
+      let h : Header = headerOf w s in
+      cond (ltb (length workspace) workspaceSize)
+      (lookRefused 10)
+      (cond (ltb b (h .n) && ltb t (h .ticks))
+      (record { outcome = result (shownBy w (serverOf (cluster (planOf w s) (suc t)) b)); workspace = zeroed workspace })
+      (lookRefused 11))
+
+  -- 'Look at a box after a tick, same workspace and rule for it. Check's refusals; then 10; 11 box not below n, or tick not below H.'
+  unfoldable pub lookOf : Looked
+  lookOf = lookAfter (checkOf w s)
