@@ -3,3 +3,4 @@ pub mod Play
 pub mod Look
 pub mod Judge
 pub mod PointThree
+pub mod Starred

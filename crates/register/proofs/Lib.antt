@@ -1,0 +1,11 @@
+pub mod Logic
+pub mod Lists
+pub mod Counting
+pub mod Good
+pub mod Placements
+pub mod Genuine
+pub mod Stores
+pub mod Claims
+pub mod Safety
+pub mod SafetyTick
+pub mod ReadSafety

@@ -1,0 +1,146 @@
+-- The starred cases hold: one test that is computed over the whole table, and a law that turns it into each row.
+use mathlib.Core.Path.{_≡_, refl, ap, ap₂}
+use mathlib.Core.Bool.{Bool, true, false, _&&_}
+use mathlib.Core.Logic.{_⊎_, inl, inr}
+use mathlib.Core.List.{List, [], _∷_}
+use Prim.Native.Nat.{ℕ, suc}
+use native.Mathlib.Omega.{arith}
+use lib.Dec.{T, eqb, eqb→eq}
+use lib.ListN.{length}
+use Rattle.bits.specs.Field.{bitOf, fieldOf}
+use Rattle.register.specs.Lists
+use Rattle.register.specs.Plan
+use Rattle.register.specs.Server
+use Rattle.register.specs.Cluster
+use Rattle.register.specs.Reading
+use Rattle.plan.specs.Header
+use Rattle.plan.specs.Parts
+use Rattle.plan.specs.Packed
+use Rattle.plan.specs.Check
+use Rattle.simulator.specs.Answers
+use Rattle.simulator.specs.Look
+use Rattle.simulator.specs.Judge
+use Rattle.simulator.specs.Starred as S
+
+-- every definition that a row computes with, opened under one name
+unfoldable pub opened : List ℕ → Check.Outcome ℕ
+unfolding bitOf fieldOf Lists.count Lists.anyUpTo Lists.allUpTo Lists.tabFrom Lists.flat Lists.any Lists.filter Lists.distinct Lists.highest Lists.sameList Plan.stamped Plan.valueOf Plan.numberOf Plan.kOf Plan.isMove Server.claimOf Server.has Server.pairsOf Server.insert Server.insertAll Server.takeIn Server.quorum Server.votedIn Server.deliver Server.stage1 Server.stage2 Server.moved Server.stage3 Server.stage4 Cluster.sentIn Cluster.writesIn Cluster.readsIn Cluster.votesFrom Cluster.forgedIn Cluster.votesIn Cluster.step Cluster.serverOf Cluster.tick Cluster.cluster Reading.sameRead Reading.replyFrom Reading.forgedTo Reading.noted Reading.notedBy Reading.countIn Reading.best Reading.answerFrom Header.headerOf Header.moves Parts.inPlacement Parts.operationOf Parts.forgeryOf Parts.delayOf Parts.operationsOf Parts.isLink Parts.writesFrom Parts.readsFrom Packed.planOf Check.headerInRange Check.enoughServers Check.endOf Check.placementStands Check.operationRises Check.operationWaits Check.operationStands Check.readOpen Check.forgeryRises Check.forgeryStands Check.delayStands Check.finalBitsZero Check.placementsStand Check.operationsStand Check.forgeriesStand Check.delaysStand Check.checkOf Answers.bytesOf Answers.packed Answers.answerBytes Answers.answersFor Answers.answersOf Look.conditionOf Look.shownBy S.k-one S.k-two S.period-short S.five S.four S.six S.five-two S.no-reads S.one-read S.written S.takeover S.starred
+opened s = Check.checkOf 16 s
+
+and-left : (a b : Bool) → T (a && b) → T a
+and-left true b h = tt
+and-left false b h = h
+
+and-right : (a b : Bool) → T (a && b) → T b
+and-right true b h = h
+and-right false b h = absurd h
+
+-- Tests for equality, each with the law that it is one.
+same-outcome : Check.Outcome ℕ → Check.Outcome ℕ → Bool
+same-outcome (Check.refused i) (Check.refused j) = eqb i j
+same-outcome (Check.refused i) (Check.result n) = false
+same-outcome (Check.result m) (Check.refused j) = false
+same-outcome (Check.result m) (Check.result n) = eqb m n
+
+outcome-same : (x y : Check.Outcome ℕ) → T (same-outcome x y) → x ≡ y
+unfolding same-outcome
+outcome-same (Check.refused i) (Check.refused j) h = ap Check.refused (eqb→eq i j h)
+outcome-same (Check.refused i) (Check.result n) h = absurd h
+outcome-same (Check.result m) (Check.refused j) h = absurd h
+outcome-same (Check.result m) (Check.result n) h = ap Check.result (eqb→eq m n h)
+
+condition-number : Look.Condition → ℕ
+condition-number Look.is-faulty = 0
+condition-number Look.is-cured = 1
+condition-number Look.is-correct = 2
+
+condition-same : (x y : Look.Condition) → condition-number x ≡ condition-number y → x ≡ y
+unfolding condition-number
+condition-same Look.is-faulty Look.is-faulty h = refl
+condition-same Look.is-faulty Look.is-cured h = absurd (omega arith)
+condition-same Look.is-faulty Look.is-correct h = absurd (omega arith)
+condition-same Look.is-cured Look.is-faulty h = absurd (omega arith)
+condition-same Look.is-cured Look.is-cured h = refl
+condition-same Look.is-cured Look.is-correct h = absurd (omega arith)
+condition-same Look.is-correct Look.is-faulty h = absurd (omega arith)
+condition-same Look.is-correct Look.is-cured h = absurd (omega arith)
+condition-same Look.is-correct Look.is-correct h = refl
+
+numbers-same : (xs ys : List ℕ) → T (Lists.sameList xs ys) → xs ≡ ys
+unfolding Lists.sameList
+numbers-same [] [] h = refl
+numbers-same [] (y ∷ ys) h = absurd h
+numbers-same (x ∷ xs) [] h = absurd h
+numbers-same (x ∷ xs) (y ∷ ys) h =
+    ap₂ (λ (z : ℕ) (zs : List ℕ). z ∷ zs) (eqb→eq x y (and-left (eqb x y) _ h)) (numbers-same xs ys (and-right (eqb x y) _ h))
+
+same-pairs : List Look.Stamped → List Look.Stamped → Bool
+same-pairs [] [] = true
+same-pairs [] (y ∷ ys) = false
+same-pairs (x ∷ xs) [] = false
+same-pairs (x ∷ xs) (y ∷ ys) = eqb (x .value) (y .value) && (eqb (x .number) (y .number) && same-pairs xs ys)
+
+pairs-same : (xs ys : List Look.Stamped) → T (same-pairs xs ys) → xs ≡ ys
+unfolding same-pairs
+pairs-same [] [] h = refl
+pairs-same [] (y ∷ ys) h = absurd h
+pairs-same (x ∷ xs) [] h = absurd h
+pairs-same (x ∷ xs) (y ∷ ys) h =
+    let e : x .value ≡ y .value = eqb→eq (x .value) (y .value) (and-left (eqb (x .value) (y .value)) _ h) in
+    let k = and-right (eqb (x .value) (y .value)) _ h in
+    let d : x .number ≡ y .number = eqb→eq (x .number) (y .number) (and-left (eqb (x .number) (y .number)) _ k) in
+    let r = pairs-same xs ys (and-right (eqb (x .number) (y .number)) _ k) in
+    ap₂ (λ (z : Look.Stamped) (zs : List Look.Stamped). z ∷ zs) (ap₂ (λ (v m : ℕ). let z : Look.Stamped = record { value = v; number = m } in z) e d) r
+
+shown-same : (x y : Look.Shown) → T (eqb (condition-number (x .condition)) (condition-number (y .condition)) && same-pairs (x .pairs) (y .pairs)) → x ≡ y
+shown-same x y h =
+    let c = condition-same (x .condition) (y .condition) (eqb→eq _ (condition-number (y .condition)) (and-left (eqb (condition-number (x .condition)) (condition-number (y .condition))) _ h)) in
+    let p = pairs-same (x .pairs) (y .pairs) (and-right (eqb (condition-number (x .condition)) (condition-number (y .condition))) _ h) in
+    ap₂ (λ (d : Look.Condition) (q : List Look.Stamped). let z : Look.Shown = record { condition = d; pairs = q } in z) c p
+
+-- the test of a row
+passes : S.Row → Bool
+passes (S.has-length s n) = eqb (length s) n
+passes (S.checks s o) = same-outcome (Check.checkOf 16 s) o
+passes (S.has-k s k) = eqb (Header.kIn (Header.headerOf 16 s)) k
+passes (S.writes-bytes s bytes) = Lists.sameList (Answers.answersOf 16 s) bytes
+passes (S.answers s value number count) =
+    let P : Plan.Plan = Packed.planOf 16 s in
+    let a : Reading.Answer = Reading.answerOf P (Judge.readOf P 0) in
+    eqb (Plan.valueOf 16 (a .pair)) value && (eqb (Plan.numberOf 16 (a .pair)) number && eqb (a .count) count)
+passes (S.shows s b t shown) =
+    let x : Look.Shown = Look.shownBy 16 (Cluster.serverOf (Cluster.cluster (Packed.planOf 16 s) (suc t)) b) in
+    eqb (condition-number (x .condition)) (condition-number (shown .condition)) && same-pairs (x .pairs) (shown .pairs)
+
+-- a row that passes holds
+row-holds : (r : S.Row) → T (passes r) → S.Holds r
+unfolding passes S.Holds
+row-holds (S.has-length s n) h = eqb→eq _ n h
+row-holds (S.checks s o) h = outcome-same _ o h
+row-holds (S.has-k s k) h = eqb→eq _ k h
+row-holds (S.writes-bytes s bytes) h = numbers-same _ bytes h
+row-holds (S.answers s value number count) h =
+    let P : Plan.Plan = Packed.planOf 16 s in
+    let a : Reading.Answer = Reading.answerOf P (Judge.readOf P 0) in
+    let k = and-right (eqb (Plan.valueOf 16 (a .pair)) value) _ h in
+    (eqb→eq _ value (and-left (eqb (Plan.valueOf 16 (a .pair)) value) _ h), eqb→eq _ number (and-left (eqb (Plan.numberOf 16 (a .pair)) number) _ k), eqb→eq _ count (and-right (eqb (Plan.numberOf 16 (a .pair)) number) _ k))
+row-holds (S.shows s b t shown) h = shown-same (Look.shownBy 16 (Cluster.serverOf (Cluster.cluster (Packed.planOf 16 s) (suc t)) b)) shown h
+
+-- all rows pass, by computation
+all-pass : List S.Row → Bool
+all-pass [] = true
+all-pass (r ∷ rs) = passes r && all-pass rs
+
+table-passes : T (all-pass S.starred)
+unfolding opened same-outcome condition-number same-pairs passes all-pass
+table-passes = tt
+
+each : (rs : List S.Row) → T (all-pass rs) → (r : S.Row) → Lists.In r rs → S.Holds r
+unfolding all-pass
+each [] h r i = absurd i
+each (x ∷ rs) h r (inl e) = rw e (row-holds x (and-left (passes x) (all-pass rs) h))
+each (x ∷ rs) h r (inr i) = each rs (and-right (passes x) (all-pass rs) h) r i
+
+-- every starred case holds
+pub starred-holds : (r : S.Row) → Lists.In r S.starred → S.Holds r
+starred-holds = each S.starred table-passes
