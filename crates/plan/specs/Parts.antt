@@ -1,12 +1,12 @@
 -- The parts of a packed plan behind its header, field by field (document 01, 'The plan, packed').
 use mathlib.Core.Bool.{Bool, not, _&&_, cond}
 use mathlib.Core.List.{List, [], _∷_, map}
-use Prim.Native.Nat.{ℕ, _+_, _*_, _/_}
+use Prim.Native.Nat.{ℕ, _+_}
 use lib.Dec.{ltb, eqb}
 use Rattle.bits.specs.Field.{fieldOf}
 use Rattle.register.specs.Lists.{tab, filter}
-use Rattle.register.specs.Plan.{Plan, Write, Read, Forgery, stamped}
-use Rattle.plan.specs.Header.{Header, moves, placementAt, operationAt, forgeryAt, delayAt}
+use Rattle.register.specs.Plan.{Write, Read, Forgery, stamped}
+use Rattle.plan.specs.Header.{Header, placementAt, operationAt, forgeryAt, delayAt}
 
 -- 'operations, 26 bits: tick 7, party 3 (0 desk, else a screen), cue 16 (0 for a read)'
 pub record Operation : Type 0 where

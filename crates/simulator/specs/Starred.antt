@@ -10,7 +10,7 @@ use Rattle.plan.specs.Header.{headerOf, kIn}
 use Rattle.plan.specs.Packed.{planOf}
 use Rattle.plan.specs.Check.{Outcome, refused, result, checkOf}
 use Rattle.simulator.specs.Answers.{answersOf}
-use Rattle.simulator.specs.Look.{Condition, is-cured, is-correct, Shown, Stamped, shownBy}
+use Rattle.simulator.specs.Look.{is-cured, is-correct, Shown, shownBy}
 use Rattle.simulator.specs.Judge.{readOf}
 
 -- n = 1, δ = 2, Δ = 4
