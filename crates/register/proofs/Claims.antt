@@ -3,11 +3,11 @@
 use mathlib.Core.Path.{_≡_, refl}
 use mathlib.Core.Bool.{Bool, true, false, _&&_, _||_}
 use mathlib.Core.Logic.{_⊎_, inl, inr}
-use mathlib.Core.List.{List, [], _++_, map}
+use mathlib.Core.List.{List, [], _∷_, _++_, map}
 use Prim.Native.Nat.{ℕ, zero, suc, _≤_}
 use native.Mathlib.Omega.{arith}
 use lib.Dec.{T, leb, eqb, eqb→eq, eqb-refl, leb→le}
-use Rattle.register.specs.Lists.{count, anyUpTo, flat, any, In}
+use Rattle.register.specs.Lists.{count, anyUpTo, flat, any, In, member}
 use Rattle.register.specs.Plan.{Plan, echoQuorum, replyQuorum}
 use Rattle.register.specs.Server.{Claim, claimOf, has, pairsOf, quorum}
 use Rattle.register.proofs.Logic.{and-l, and-r, and-i, or-e, or-l}
@@ -37,6 +37,18 @@ has-nil p i = refl
 pub has-append : (l m : List Claim) (p i : ℕ) → has (l ++ m) p i ≡ has l p i || has m p i
 unfolding has
 has-append l m p i = any-append (λ (c : Claim). eqb (c .pair) p && eqb (c .from) i) l m
+
+-- what one server names
+pub has-claims : (j p i : ℕ) (ps : List ℕ) → has (map (claimOf j) ps) p i ≡ member p ps && eqb j i
+unfolding has any claimOf
+has-claims j p i [] = refl
+has-claims j p i (x ∷ ps) = go (eqb x p) (eqb j i) (member p ps) (has-claims j p i ps)
+  where
+    go : (a b c : Bool) → has (map (claimOf j) ps) p i ≡ c && b → a && b || has (map (claimOf j) ps) p i ≡ (a || c) && b
+    go true true c e = refl
+    go true false true e = e
+    go true false false e = e
+    go false b c e = e
 
 or-swap : (a b : Bool) → a || b ≡ b || a
 or-swap true true = refl
@@ -68,7 +80,9 @@ counted-named cs n p h = let r = count-some (λ i. has cs p i) n h in has-named 
 
 pub quorum-named : (P : Plan) (fresh old : List Claim) (p : ℕ) → T (quorum P fresh old p) → In p (pairsOf (fresh ++ old))
 unfolding quorum
-quorum-named P fresh old p h = counted-named (fresh ++ old) (P .n) p (go (or-e (leb (echoQuorum P) (count (λ i. has fresh p i) (P .n))) (leb (replyQuorum P) (count both (P .n))) h))
+quorum-named P fresh old p h =
+    counted-named (fresh ++ old) (P .n) p
+    (go (or-e (leb (echoQuorum P) (count (λ i. has fresh p i) (P .n))) (leb (replyQuorum P) (count both (P .n))) h))
   where
     both : ℕ → Bool
     both i = has fresh p i || has old p i

@@ -44,7 +44,8 @@ count-none (suc n) = omega (arith, count-none n)
 pub count-mono : (P Q : ℕ → Bool) (n : ℕ) → ((i : ℕ) → i < n → T (P i) → T (Q i)) → count P n ≤ count Q n
 count-mono P Q n h = omega (arith, count-or P Q (λ i. false) n (λ i l t. inl (h i l t)), count-none n)
 
-pub count-or3 : (P Q R S : ℕ → Bool) (n : ℕ) → ((i : ℕ) → i < n → T (P i) → T (Q i) ⊎ (T (R i) ⊎ T (S i))) → count P n ≤ count Q n + count R n + count S n
+pub count-or3 : (P Q R S : ℕ → Bool) (n : ℕ) → ((i : ℕ) → i < n → T (P i) → T (Q i) ⊎ (T (R i) ⊎ T (S i)))
+    → count P n ≤ count Q n + count R n + count S n
 count-or3 P Q R S n h =
     omega (
       arith,

@@ -35,7 +35,8 @@ module _ (P : Plan) where
       begun : Write → Bool
       begun w = eqb (w .pair) p && ltb (w .begun) t
 
-      go : T (eqb p (P .initial)) ⊎ T (any begun (P .writes)) → (p ≡ P .initial) ⊎ ((w : Write) × In w (P .writes) × (w .pair ≡ p) × (w .begun < t))
+      go : T (eqb p (P .initial)) ⊎ T (any begun (P .writes))
+          → (p ≡ P .initial) ⊎ ((w : Write) × In w (P .writes) × (w .pair ≡ p) × (w .begun < t))
       go (inl e) = inl (eqb→eq p (P .initial) e)
       go (inr h) =
           let r = any-in begun (P .writes) h in

@@ -9,3 +9,15 @@ pub mod Claims
 pub mod Safety
 pub mod SafetyTick
 pub mod ReadSafety
+pub mod Trace
+pub mod Stages
+pub mod Statuses
+pub mod Keeping
+pub mod Votes
+pub mod Recovery
+pub mod WriteCases
+pub mod LemmaA
+pub mod Replies
+pub mod Named
+pub mod Regular
+pub mod Theorem

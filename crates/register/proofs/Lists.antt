@@ -33,7 +33,8 @@ module _ {A : Type 0} where
   in-filter p x [] i = absurd i
   in-filter p x (y ∷ l) i = go (p y) refl i (in-filter p x l)
     where
-      go : (b : Bool) → p y ≡ b → In x (cond b (y ∷ filter p l) (filter p l)) → (In x (filter p l) → In x l × T (p x)) → In x (y ∷ l) × T (p x)
+      go : (b : Bool) → p y ≡ b → In x (cond b (y ∷ filter p l) (filter p l)) → (In x (filter p l) → In x l × T (p x))
+          → In x (y ∷ l) × T (p x)
       go true e (inl h) ih = (inl h, rw (h, e) tt)
       go true e (inr h) ih = (inr (ih h .0), ih h .1)
       go false e h ih = (inr (ih h .0), ih h .1)
@@ -45,6 +46,18 @@ module _ {A : Type 0} where
       cond-e (λ (m : List A). In x m) (p y) (y ∷ filter p l) (filter p l) (λ u. inl e) (λ u. absurd (T-not (p y) u (rw e at t)))
   filter-in p x (y ∷ l) (inr i) t =
       cond-e (λ (m : List A). In x m) (p y) (y ∷ filter p l) (filter p l) (λ u. inr (filter-in p x l i t)) (λ u. filter-in p x l i t)
+
+  pub length-filter-mono : (p q : A → Bool) → ((x : A) → T (p x) → T (q x)) → (l : List A) → length (filter p l) ≤ length (filter q l)
+  unfolding filter
+  length-filter-mono p q f [] = omega arith
+  length-filter-mono p q f (y ∷ l) = go (p y) (q y) (f y) (length-filter-mono p q f l)
+    where
+      go : (a b : Bool) → (T a → T b) → length (filter p l) ≤ length (filter q l)
+          → length (cond a (y ∷ filter p l) (filter p l)) ≤ length (cond b (y ∷ filter q l) (filter q l))
+      go true true h e = omega arith
+      go true false h e = absurd (h tt)
+      go false true h e = omega arith
+      go false false h e = e
 
   pub any-in : (p : A → Bool) (l : List A) → T (any p l) → (x : A) × In x l × T (p x)
   unfolding any
@@ -187,7 +200,8 @@ in-distinct x (y ∷ l) (inl e) = go (member y (distinct l)) refl
     go true q = let r = any-in (λ z. eqb z y) (distinct l) (rw q tt) in rw (e ∙ sym (eqb→eq (r .0) y (r .2))) (r .1)
     go false q = inl e
 in-distinct x (y ∷ l) (inr i) =
-    cond-e (λ (m : List ℕ). In x m) (member y (distinct l)) (distinct l) (y ∷ distinct l) (λ t. in-distinct x l i) (λ t. inr (in-distinct x l i))
+    cond-e (λ (m : List ℕ). In x m) (member y (distinct l)) (distinct l) (y ∷ distinct l) (λ t. in-distinct x l i)
+    (λ t. inr (in-distinct x l i))
 
 pub distinct-in : (x : ℕ) (l : List ℕ) → In x (distinct l) → In x l
 unfolding distinct

@@ -1,10 +1,11 @@
--- Placements and periods: which placement is in force in a tick, and how many servers are faulty in a row of placements (at most (m + 1) f in
--- m + 1 of them). It stands on Good and Counting.
+-- Placements and periods: which placement is in force in a tick, and how many servers are faulty in a row of placements (at most (m + 1) f
+-- in m + 1 of them). It stands on Good and Counting.
 use mathlib.Core.Path.{_≡_}
 use mathlib.Core.Bool.{Bool, not, _||_}
 use mathlib.Core.Logic.{_≢_}
 use Prim.Native.Nat.{ℕ, zero, suc, _+_, _*_, _-_, _/_, _%_, _≤_, _<_}
-use native.Mathlib.Nat.{le-div-iff-mul-le, div-lt-iff-lt-mul, div-mul-le-self, lt-div-mul-add, div-add-mod', mul-mod-left, add-mul-div-right}
+use native.Mathlib.Nat.{le-div-iff-mul-le, div-lt-iff-lt-mul, div-mul-le-self, lt-div-mul-add, div-add-mod', mul-mod-left}
+use native.Mathlib.Nat.{add-mul-div-right}
 use native.Mathlib.Omega.{arith}
 use native.Mathlib.Decide.{decLe}
 use lib.Dec.{T, eqb→eq, T-not, not-T}
@@ -34,6 +35,10 @@ near-in P c (suc m) b (j, l, u, h) = go (decLe c (j + m)) (λ v. near-in P c m b
 -- a server outside them is faulty in none
 pub outside : (P : Plan) (c m b j : ℕ) → T (not (near P c m b)) → j ≤ c → c ≤ j + m → T (not (P .placed j b))
 outside P c m b j h a z = not-T (P .placed j b) (λ k. T-not (near P c m b) h (near-in P c m b (j, a, z, k)))
+
+-- server b is faulty after none of the ticks m .. t - 1
+abbrev pub FreeSince : Plan → ℕ → ℕ → ℕ → Type 0
+FreeSince P b m t = (v : ℕ) → m ≤ v → v < t → T (not (P .placed (v / P .period) b))
 
 -- a tick without a movement, and one with
 pub not-moving : (P : Plan) (t : ℕ) → T (not (isMove P t)) → t % P .period ≢ 0

@@ -116,7 +116,8 @@ module _ (P : Plan) (cs : List Claim) where
   unfolding quorums enough? countIn
   in-quorums p h = filter-in enough? p (pairsOf cs) (counted-named cs (P .n) p (omega arith)) (le→leb (replyQuorum P) (countIn P cs p) h)
 
-  best-top : (p : ℕ) (l : List ℕ) → In p l → (p ≤ best P cs l .pair) × In (best P cs l .pair) l × (best P cs l .count ≡ countIn P cs (best P cs l .pair))
+  best-top : (p : ℕ) (l : List ℕ) → In p l
+      → (p ≤ best P cs l .pair) × In (best P cs l .pair) l × (best P cs l .count ≡ countIn P cs (best P cs l .pair))
   unfolding best
   best-top p [] i = absurd i
   best-top p (x ∷ l) (inl e) = (omega (arith, highest-le x l), highest-in x l, refl)
@@ -124,7 +125,8 @@ module _ (P : Plan) (cs : List Claim) where
 
   -- where some pair has a quorum, the answer has one, says its count, and is the highest such pair
   pub answer-from : (p : ℕ) → replyQuorum P ≤ countIn P cs p
-      → (p ≤ answerFrom P cs .pair) × (answerFrom P cs .count ≡ countIn P cs (answerFrom P cs .pair)) × (replyQuorum P ≤ answerFrom P cs .count)
+      → (p ≤ answerFrom P cs .pair) × (answerFrom P cs .count ≡ countIn P cs (answerFrom P cs .pair))
+      × (replyQuorum P ≤ answerFrom P cs .count)
   unfolding answerFrom quorums enough?
   answer-from p h =
       let b = best-top p quorums (in-quorums p h) in

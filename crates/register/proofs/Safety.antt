@@ -10,7 +10,8 @@ use native.Mathlib.Omega.{arith}
 use lib.Dec.{T, leb, eqb, eqb→eq, leb→le, T-not}
 use Rattle.register.specs.Lists.{count, In}
 use Rattle.register.specs.Plan.{Read, Plan, kk, echoQuorum, replyQuorum, isMove}
-use Rattle.register.specs.Server.{Status, faulty, cured, isFaulty, isCorrect, curedAt, Claim, has, pairsOf, Server, Sent, nothing, Out, takeIn, quorum, votedIn, deliver, stage1, stage2, blank, moved, stage3, stage4}
+use Rattle.register.specs.Server.{Status, faulty, cured, isFaulty, isCorrect, curedAt, Claim, has, pairsOf, Server, Sent, nothing}
+use Rattle.register.specs.Server.{Out, takeIn, quorum, votedIn, deliver, stage1, stage2, blank, moved, stage3, stage4}
 use Rattle.register.proofs.Logic.{or-e, cond-e}
 use Rattle.register.proofs.Lists.{in-append, in-filter}
 use Rattle.register.proofs.Counting.{count-pick}
@@ -76,29 +77,35 @@ module _ (P : Plan) (G : Good P) (t c : ℕ) where
 
   pub honest-recent : (fresh old : List Claim) (p : ℕ) → replyQuorum P ≤ count (λ i. has fresh p i || has old p i) (P .n)
       → (i : ℕ) × (i < P .n) × T (has fresh p i || has old p i) × T (not (near P c (kk P) i))
-  honest-recent fresh old p h = count-pick (λ i. has fresh p i || has old p i) (near P c (kk P)) (P .n) (omega (arith, near-few P G c (kk P)))
+  honest-recent fresh old p h =
+      count-pick (λ i. has fresh p i || has old p i) (near P c (kk P)) (P .n) (omega (arith, near-few P G c (kk P)))
 
   -- so a pair with a quorum is genuine
   pub voted-genuine : (fresh old : List Claim) → ((v : Claim) → In v fresh → FreshSafe P t c v) → ((v : Claim) → In v old → OldSafe P t c v)
       → (p : ℕ) → T (quorum P fresh old p) → Genuine P t p
   unfolding quorum
-  voted-genuine fresh old fs os p q =
-      go (or-e (leb (echoQuorum P) (count (λ i. has fresh p i) (P .n))) (leb (replyQuorum P) (count (λ i. has fresh p i || has old p i) (P .n))) q)
+  voted-genuine fresh old fs os p q = go (or-e (leb (echoQuorum P) voters) (leb (replyQuorum P) recent) q)
     where
+      voters : ℕ
+      voters = count (λ i. has fresh p i) (P .n)
+
+      recent : ℕ
+      recent = count (λ i. has fresh p i || has old p i) (P .n)
+
       both : (i : ℕ) → T (not (near P c (kk P) i)) → T (has fresh p i) ⊎ T (has old p i) → Genuine P t p
       both i h (inl a) = fresh-genuine fresh fs (kk P) p i (k-pos P) a h
       both i h (inr b) = old-genuine old os p i b h
 
-      go : T (leb (echoQuorum P) (count (λ i. has fresh p i) (P .n))) ⊎ T (leb (replyQuorum P) (count (λ i. has fresh p i || has old p i) (P .n)))
-          → Genuine P t p
+      go : T (leb (echoQuorum P) voters) ⊎ T (leb (replyQuorum P) recent) → Genuine P t p
       go (inl h) =
-          let r = honest-fresh fresh p (leb→le (echoQuorum P) (count (λ i. has fresh p i) (P .n)) h) in
+          let r = honest-fresh fresh p (leb→le (echoQuorum P) voters h) in
           fresh-genuine fresh fs 1 p (r .0) (omega arith) (r .2) (r .3)
       go (inr h) =
-          let r = honest-recent fresh old p (leb→le (replyQuorum P) (count (λ i. has fresh p i || has old p i) (P .n)) h) in
+          let r = honest-recent fresh old p (leb→le (replyQuorum P) recent h) in
           both (r .0) (r .3) (or-e (has fresh p (r .0)) (has old p (r .0)) (r .2))
 
-  pub votedIn-genuine : (fresh old : List Claim) → ((v : Claim) → In v fresh → FreshSafe P t c v) → ((v : Claim) → In v old → OldSafe P t c v)
+  pub votedIn-genuine : (fresh old : List Claim) → ((v : Claim) → In v fresh → FreshSafe P t c v)
+      → ((v : Claim) → In v old → OldSafe P t c v)
       → (p : ℕ) → In p (votedIn P fresh old) → Genuine P t p
   unfolding votedIn
   votedIn-genuine fresh old fs os p i = voted-genuine fresh old fs os p (in-filter (quorum P fresh old) p (pairsOf (fresh ++ old)) i .1)
@@ -108,7 +115,12 @@ module _ (P : Plan) (G : Good P) (t c : ℕ) where
   unfolding deliver
   deliver-safe x ws vs rs safe wsafe vsafe =
       record {
-        server = record { kept = kept-safe; falling = falling-takeIn (P .depth) (ws ++ voted) (x .kept) (safe .falling); fresh = fresh-safe; old = safe .old };
+        server = record {
+          kept = kept-safe;
+          falling = falling-takeIn (P .depth) (ws ++ voted) (x .kept) (safe .falling);
+          fresh = fresh-safe;
+          old = safe .old;
+        };
         sent = record { votes = wsafe; replyWith = kept-safe };
       }
     where
@@ -118,9 +130,12 @@ module _ (P : Plan) (G : Good P) (t c : ℕ) where
       voted : List ℕ
       voted = votedIn P (x .fresh ++ vs) (x .old)
 
+      voted-safe : (p : ℕ) → In p voted → Genuine P t p
+      voted-safe = votedIn-genuine (x .fresh ++ vs) (x .old) fresh-safe (safe .old)
+
       kept-safe : (p : ℕ) → In p (takeIn (P .depth) (ws ++ voted) (x .kept)) → Genuine P t p
       kept-safe p i = elim (in-takeIn p (P .depth) (ws ++ voted) (x .kept) i) [
-        | inl a ↦ elim (in-append p ws voted a) [ inl w ↦ wsafe p w | inr q ↦ votedIn-genuine (x .fresh ++ vs) (x .old) fresh-safe (safe .old) p q ]
+        | inl a ↦ elim (in-append p ws voted a) [ inl w ↦ wsafe p w | inr q ↦ voted-safe p q ]
         | inr b ↦ safe .kept p b
       ]
 
@@ -137,7 +152,12 @@ module _ (P : Plan) (G : Good P) (t c : ℕ) where
   stage2-safe o safe =
       cond-e (λ (u : Out). OutSafe P t c u) (curedAt (P .delta) t (o .server .status)) _ o
       (λ h. record {
-        server = record { kept = safe .server .kept; falling = safe .server .falling; fresh = safe .server .fresh; old = safe .server .old };
+        server = record {
+          kept = safe .server .kept;
+          falling = safe .server .falling;
+          fresh = safe .server .fresh;
+          old = safe .server .old;
+        };
         sent = record { votes = safe .sent .votes; replyWith = safe .server .kept };
       })
       (λ h. safe)
@@ -148,15 +168,17 @@ module _ (P : Plan) (G : Good P) (t c : ℕ) where
       cond-e (λ (u : Out). OutSafe P t c u) (isMove P t && isCorrect (o .server .status)) _ o
       (λ h. record {
         server = safe .server;
-        sent = record {
-          votes = λ p i. elim (in-append p (o .sent .votes) (o .server .kept) i) [ inl a ↦ safe .sent .votes p a | inr b ↦ safe .server .kept p b ];
-          replyWith = safe .sent .replyWith;
-        };
+        sent = record { votes = votes-safe; replyWith = safe .sent .replyWith };
       })
       (λ h. safe)
+    where
+      votes-safe : (p : ℕ) → In p (o .sent .votes ++ o .server .kept) → Genuine P t p
+      votes-safe p i =
+          elim (in-append p (o .sent .votes) (o .server .kept) i) [ inl a ↦ safe .sent .votes p a | inr b ↦ safe .server .kept p b ]
 
 -- a movement: the fresh votes of period c become the old ones of c', the next period (or, at tick 0, the same)
-pub moved-safe : (P : Plan) (t c c' : ℕ) (h : Bool) (x : Server) → c ≤ c' → c' ≤ c + 1 → ServerSafe P t c x → ServerSafe P t c' (moved P t h x)
+pub moved-safe : (P : Plan) (t c c' : ℕ) (h : Bool) (x : Server) → c ≤ c' → c' ≤ c + 1 → ServerSafe P t c x
+    → ServerSafe P t c' (moved P t h x)
 unfolding moved
 moved-safe P t c c' true x l u safe = blank-safe P t c' faulty
 moved-safe P t c c' false x l u safe =

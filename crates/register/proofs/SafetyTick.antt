@@ -11,14 +11,16 @@ use lib.ListN.{getD}
 use Rattle.register.specs.Lists.{tab, flat, filter, In}
 use Rattle.register.specs.Plan.{Write, Forgery, Plan}
 use Rattle.register.specs.Server.{faulty, Claim, claimOf, Server, Sent, nothing, Out, stage1, stage2, blank, stage3}
-use Rattle.register.specs.Cluster.{Cluster, Log, sentIn, writesIn, readsIn, votesFrom, forgedIn, votesIn, step, first, serverOf, tick, cluster}
+use Rattle.register.specs.Cluster.{Cluster, Log, sentIn, writesIn, readsIn, votesFrom, forgedIn, votesIn, step, first, serverOf, tick}
+use Rattle.register.specs.Cluster.{cluster}
 use Rattle.register.proofs.Logic.{and-r}
 use Rattle.register.proofs.Lists.{in-append, in-filter, in-flat, in-tabFrom, getD-all, getD-append-all, in-map}
 use Rattle.register.proofs.Good.{Good}
 use Rattle.register.proofs.Placements.{Near, not-moving, sent-near, period-step}
 use Rattle.register.proofs.Genuine.{Genuine, genuine-initial, genuine-write, genuine-mono}
 use Rattle.register.proofs.Stores.{Falling}
-use Rattle.register.proofs.Safety.{FreshSafe, ServerSafe, SentSafe, OutSafe, blank-safe, nothing-safe, stage1-safe, stage2-safe, stage4-safe, stage3-safe}
+use Rattle.register.proofs.Safety.{FreshSafe, ServerSafe, SentSafe, OutSafe, blank-safe, nothing-safe, stage1-safe, stage2-safe}
+use Rattle.register.proofs.Safety.{stage4-safe, stage3-safe}
 
 -- what was sent before tick t
 abbrev pub LogSafe : Plan → ℕ → Log → Type 0
@@ -44,12 +46,15 @@ module _ (P : Plan) (G : Good P) (t : ℕ) where
       let m = in-map (λ (g : Forgery). claimOf (g .from) (g .pair)) v (filter here (P .forged)) i in
       let g = m .0 in
       let r = in-filter here g (P .forged) (m .1) in
-      let e = eqb→eq (g .at + P .delay (g .at) (g .from) b) t (and-r (eqb (g .to) b) (eqb (g .at + P .delay (g .at) (g .from) b) t) (r .1)) in
+      let e = eqb→eq (arrival g) t (and-r (eqb (g .to) b) (eqb (arrival g) t) (r .1)) in
       let n = sent-near P G t (g .at) (omega (arith, G .delay-lo (g .at) (g .from) b)) (omega (arith, G .delay-hi (g .at) (g .from) b)) in
       rw (m .2) (inr (g .at / P .period, n .0, n .1, G .forger g (r .0)))
     where
+      arrival : Forgery → ℕ
+      arrival g = g .at + P .delay (g .at) (g .from) b
+
       here : Forgery → Bool
-      here g = eqb (g .to) b && eqb (g .at + P .delay (g .at) (g .from) b) t
+      here g = eqb (g .to) b && eqb (arrival g) t
 
   pub votesFrom-safe : (log : Log) (b u i : ℕ) → LogSafe P t log → (v : Claim) → In v (votesFrom P t log b u i) → Genuine P t (v .pair)
   unfolding votesFrom claimOf
@@ -75,7 +80,8 @@ module _ (P : Plan) (G : Good P) (t : ℕ) where
       → OutSafe P t ((t - 1) / P .period) (stage2 P t (stage1 P x (writesIn P t b) (votesIn P t log b) (readsIn P t b)))
   mid-safe b log x safe lsafe =
       stage2-safe P G t ((t - 1) / P .period) (stage1 P x (writesIn P t b) (votesIn P t log b) (readsIn P t b))
-      (stage1-safe P G t ((t - 1) / P .period) x (writesIn P t b) (votesIn P t log b) (readsIn P t b) safe (writesIn-genuine b) (votesIn-safe log b lsafe))
+      (stage1-safe P G t ((t - 1) / P .period) x (writesIn P t b) (votesIn P t log b) (readsIn P t b) safe (writesIn-genuine b)
+      (votesIn-safe log b lsafe))
 
   -- after the whole tick
   pub step-safe : (b : ℕ) (log : Log) (x : Server) → ServerSafe P t ((t - 1) / P .period) x → LogSafe P t log
@@ -143,7 +149,8 @@ module _ (P : Plan) (G : Good P) where
 
       log-safe : (u i : ℕ) → SentSafe P (suc t) (getD (getD (c .log ++ (map (λ (o : Out). o .sent) outs ∷ [])) u []) i nothing)
       log-safe u =
-          getD-append-all (λ (row : List Sent). (i : ℕ) → SentSafe P (suc t) (getD row i nothing)) (c .log) (map (λ (o : Out). o .sent) outs ∷ []) []
+          getD-append-all (λ (row : List Sent). (i : ℕ) → SentSafe P (suc t) (getD row i nothing)) (c .log)
+          (map (λ (o : Out). o .sent) outs ∷ []) []
           (λ v i. sent-mono P t (sentIn (c .log) v i) (lsafe v i)) rows u
 
   pub cluster-safe : (t : ℕ) → ClusterSafe P t (cluster P t)

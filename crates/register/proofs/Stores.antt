@@ -25,7 +25,8 @@ in-insert p q [] (inr i) = absurd i
 in-insert p q (x ∷ l) i =
     go (ltb x p) (eqb x p) i (in-insert p q l)
   where
-    go : (a b : Bool) → In q (cond a (p ∷ x ∷ l) (cond b (x ∷ l) (x ∷ insert p l))) → (In q (insert p l) → (q ≡ p) ⊎ In q l) → (q ≡ p) ⊎ In q (x ∷ l)
+    go : (a b : Bool) → In q (cond a (p ∷ x ∷ l) (cond b (x ∷ l) (x ∷ insert p l))) → (In q (insert p l) → (q ≡ p) ⊎ In q l)
+        → (q ≡ p) ⊎ In q (x ∷ l)
     go true b (inl h) ih = inl h
     go true b (inr h) ih = inr h
     go false true h ih = inr h
@@ -89,7 +90,8 @@ insert-in x p [] (inl e) = inl e
 insert-in x p [] (inr i) = absurd i
 insert-in x p (y ∷ l) h = go (ltb y x) (eqb y x) refl h (insert-in x p l)
   where
-    go : (a b : Bool) → eqb y x ≡ b → (p ≡ x) ⊎ In p (y ∷ l) → ((p ≡ x) ⊎ In p l → In p (insert x l)) → In p (cond a (x ∷ y ∷ l) (cond b (y ∷ l) (y ∷ insert x l)))
+    go : (a b : Bool) → eqb y x ≡ b → (p ≡ x) ⊎ In p (y ∷ l) → ((p ≡ x) ⊎ In p l → In p (insert x l))
+        → In p (cond a (x ∷ y ∷ l) (cond b (y ∷ l) (y ∷ insert x l)))
     go true b e (inl k) ih = inl k
     go true b e (inr k) ih = inr k
     go false true e (inl k) ih = inl (k ∙ sym (eqb→eq y x (rw e tt)))
