@@ -2,3 +2,4 @@ pub mod Header
 pub mod Parts
 pub mod Packed
 pub mod Check
+pub mod Shape

@@ -1,0 +1,29 @@
+use native.Mathlib.Omega.{arith}
+use mathlib.Core.Path.{refl}
+use Rattle.plan.proofs.Laws.{moves-few}
+use Rattle.plan.specs.Header.{moves}
+use borrow.Author.Needs.{needs}
+use Rattle.plan.proofs.header.Shape.moves.Statement.{statement}
+use Rattle.plan.proofs.header.Shape.moves.Tie as tie
+
+cast-period : tie.Need-cast-period
+cast-period c = search needs
+
+cast-result : tie.Need-cast-result
+cast-result c = search needs
+
+sub-result : tie.Need-sub-result
+sub-result c = search needs
+
+add-result : tie.Need-add-result
+add-result c = search needs
+
+div-result : tie.Need-div-result
+div-result c = search needs
+
+returns : tie.Need-returns
+unfolding moves
+returns c = let a = c .before .before .args .self in (refl, omega (arith, moves-few (a .ticks) (a .period) (omega arith)))
+
+pub moves-spec : {M : Type 1} → statement M
+moves-spec = tie.close (tie.spec cast-period cast-result sub-result add-result div-result returns)

@@ -1,0 +1,32 @@
+use Rattle.plan.proofs.Laws.{few-times}
+use native.Mathlib.Omega.{arith}
+use Prim.Native.Nat.{_+_}
+use borrow.Author.Needs.{needs}
+use Rattle.plan.proofs.header.Shape.reply_quorum.Statement.{statement}
+use Rattle.plan.proofs.header.Shape.reply_quorum.Tie as tie
+
+k-requires : tie.Need-k-requires
+k-requires c κs = search needs
+
+cast-result : tie.Need-cast-result
+cast-result c = search needs
+
+add-result : tie.Need-add-result
+add-result c = search needs
+
+cast-result-2 : tie.Need-cast-result-2
+cast-result-2 c = search needs
+
+mul-result : tie.Need-mul-result
+mul-result c = omega (arith, few-times (c .before .k .result + 1) (c .before .before .args .self .f) (omega arith) (omega arith))
+
+add-result-2 : tie.Need-add-result-2
+add-result-2 c = omega (arith, few-times (c .before .k .result + 1) (c .before .before .args .self .f) (omega arith) (omega arith))
+
+returns : tie.Need-returns
+returns c = rw (← c .before .k .ensures .0)
+
+pub reply-quorum-spec : {M : Type 1} → statement M
+reply-quorum-spec =
+    tie.close
+    (tie.spec k-requires cast-result add-result cast-result-2 mul-result add-result-2 returns)

@@ -1,0 +1,170 @@
+// The header of a plan by value, the sizes that follow from it, and the limits of all sizes.
+ghost use mathlib.Core.Path.{_≡_};
+ghost use mathlib.Core.Bool.{_&&_};
+ghost use Prim.Native.Nat.{_+_, _*_, _≤_, _<_};
+ghost use lib.ListN.{length};
+ghost use Rattle.plan.specs.Header.{headerOf, kIn, moves, parties, operationAt, forgeryAt, bitLength};
+ghost use Rattle.plan.specs.Check.{within, headerInRange, enoughServers};
+ghost use Rattle.plan.specs.Shape.{shape, Ranged};
+
+// The shape of a cluster and of its plan (document 01: of the hall).
+pub struct Shape {
+    pub n: u8,
+    pub f: u8,
+    pub delta: u8,
+    pub period: u8,
+    pub readers: u8,
+    pub ticks: u8,
+    pub initial: u16,
+    pub operations: u8,
+    pub forgeries: u16,
+    pub zero: u8,
+}
+
+fn is_within(low: u8, high: u8, x: u8) -> bool
+    ensures { λ r. ⌜ r ≡ within low high x ⌝ }
+{
+    both(low <= x, x <= high)
+}
+
+fn both(a: bool, b: bool) -> bool
+    ensures { λ r. ⌜ r ≡ a && b ⌝ }
+{
+    if a { b } else { false }
+}
+
+impl Shape {
+    pub const HEADER_BYTES: usize = 8;
+
+    pub const MOST_BYTES: usize = 34362;
+
+    pub const MOST_SERVERS: u8 = 16;
+
+    pub const MOST_DELTA: u8 = 15;
+
+    pub const MOST_PERIOD: u8 = 63;
+
+    pub const MOST_READERS: u8 = 4;
+
+    pub const MOST_TICKS: u8 = 128;
+
+    pub const MOST_FORGERIES: u16 = 1024;
+
+    pub fn read(plan: &[u8]) -> Shape
+        requires { ⌜ 8 ≤ length (now plan) ⌝ }
+        ensures { λ r. ⌜ shape r ≡ headerOf 16 (now (plan .entry)) ⌝ }
+    {
+        Shape {
+            n: bits::field(plan, 0, 5) as u8,
+            f: bits::field(plan, 5, 2) as u8,
+            delta: bits::field(plan, 7, 4) as u8,
+            period: bits::field(plan, 11, 6) as u8,
+            readers: bits::field(plan, 17, 3) as u8,
+            ticks: bits::field(plan, 20, 8) as u8,
+            initial: bits::field(plan, 28, 16) as u16,
+            operations: bits::field(plan, 44, 8) as u8,
+            forgeries: bits::field(plan, 52, 11) as u16,
+            zero: bits::field(plan, 63, 1) as u8,
+        }
+    }
+
+    pub fn is_in_range(self) -> bool
+        ensures { λ r. ⌜ r ≡ headerInRange (shape self) ⌝ }
+    {
+        both(
+            is_within(1, Self::MOST_SERVERS, self.n),
+            both(
+                is_within(1, Self::MOST_DELTA, self.delta),
+                both(
+                    is_within(self.delta, Self::MOST_PERIOD, self.period),
+                    both(
+                        is_within(1, Self::MOST_READERS, self.readers),
+                        both(
+                            is_within(1, Self::MOST_TICKS, self.ticks),
+                            both(self.forgeries <= Self::MOST_FORGERIES, self.zero == 0),
+                        ),
+                    ),
+                ),
+            ),
+        )
+    }
+
+    // In how many periods a vote counts.
+    pub fn k(self) -> u8
+        ensures { λ r. ⌜ (r ≡ kIn (shape self)) × (r ≤ 2) ⌝ }
+    {
+        if 2 * (self.delta as u16) <= self.period as u16 {
+            1
+        } else {
+            2
+        }
+    }
+
+    // How many different servers must vote for a pair in one period.
+    pub fn echo_quorum(self) -> u32
+        ensures { λ r. ⌜ r ≡ 2 * self .f + 1 ⌝ }
+    {
+        2 * (self.f as u32) + 1
+    }
+
+    // The same over k periods, and how many must name a read's answer.
+    pub fn reply_quorum(self) -> u32
+        ensures { λ r. ⌜ r ≡ (kIn (shape self) + 1) * self .f + 1 ⌝ }
+    {
+        (self.k() as u32 + 1) * (self.f as u32) + 1
+    }
+
+    pub fn has_enough_servers(self) -> bool
+        ensures { λ r. ⌜ r ≡ enoughServers (shape self) ⌝ }
+    {
+        (self.k() as u32 + 3) * (self.f as u32) + 1 <= self.n as u32
+    }
+
+    // How many movements there are, and so how many placements.
+    pub fn moves(self) -> usize
+        requires { ⌜ Ranged (shape self) ⌝ }
+        ensures { λ r. ⌜ (r ≡ moves (shape self)) × (r ≤ 128) ⌝ }
+    {
+        let period = self.period as usize;
+        (self.ticks as usize + (period - 1)) / period
+    }
+
+    pub fn parties(self) -> usize
+        ensures { λ r. ⌜ r ≡ parties (shape self) ⌝ }
+    {
+        self.n as usize + 1 + self.readers as usize
+    }
+
+    // The first bit of the operations.
+    pub fn operations_at(self) -> usize
+        requires { ⌜ Ranged (shape self) ⌝ }
+        ensures { λ r. ⌜ (r ≡ 64 + 16 * moves (shape self)) × (r ≤ 2112) ⌝ }
+    {
+        64 + 16 * self.moves()
+    }
+
+    // The first bit of the forgeries.
+    pub fn forgeries_at(self) -> usize
+        requires { ⌜ Ranged (shape self) ⌝ }
+        ensures { λ r. ⌜ (r ≡ operationAt 16 (shape self) (self .operations)) × (r ≤ 8742) ⌝ }
+    {
+        self.operations_at() + 26 * (self.operations as usize)
+    }
+
+    // The first bit of the delays.
+    pub fn delays_at(self) -> usize
+        requires { ⌜ Ranged (shape self) ⌝ }
+        ensures { λ r. ⌜ (r ≡ forgeryAt 16 (shape self) (self .forgeries)) × (r ≤ 49702) ⌝ }
+    {
+        self.forgeries_at() + 40 * (self.forgeries as usize)
+    }
+
+    // The first of the final zero bits.
+    pub fn bits(self) -> usize
+        requires { ⌜ Ranged (shape self) ⌝ }
+        ensures { λ r. ⌜ (r ≡ bitLength 16 (shape self)) × (r ≤ 275494) ⌝ }
+    {
+        let parties = self.parties();
+        self.delays_at() + 4 * (self.ticks as usize * (parties * parties))
+    }
+}
