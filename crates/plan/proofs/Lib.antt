@@ -1,0 +1,10 @@
+pub mod Laws
+pub mod Ranges
+pub mod Tests
+pub mod Stamped
+pub mod Accept
+pub mod AcceptOperations
+pub mod AcceptReads
+pub mod AcceptWrites
+pub mod AcceptForgeries
+pub mod AcceptGood
