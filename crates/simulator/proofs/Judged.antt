@@ -1,0 +1,122 @@
+-- Judge says yes to all answers of an accepted plan, where every read is served.
+-- It stands on what Check accepts and on the answers' bytes.
+use mathlib.Core.Path.{_≡_, sym, ap, _∙_}
+use mathlib.Core.Bool.{Bool, true, _&&_}
+use mathlib.Core.Logic.{_⊎_, inl, inr}
+use mathlib.Core.List.{List, map}
+use Prim.Native.Nat.{ℕ, _*_, _%_, _<_}
+use native.Mathlib.Omega.{arith}
+use lib.Dec.{T, eqb, eqb→eq, eqb-refl}
+use lib.ListN.{length}
+use Rattle.bits.proofs.Laws.{field-lt}
+use Rattle.register.specs.Lists.{In, any, allUpTo, filter}
+use Rattle.register.specs.Plan.{Plan, Write, Read, numberOf}
+use Rattle.register.specs.Server.{has}
+use Rattle.register.specs.Reading.{countIn, notedBy, answerOf}
+use Rattle.register.specs.Regular.{finished, concurrent, lastFinished, allowed}
+use Rattle.register.specs.Promise.{Served}
+use Rattle.register.proofs.Logic.{and-l, and-i, or-e, T-eq}
+use Rattle.register.proofs.Lists.{any-in, in-map, in-filter, highest-in}
+use Rattle.register.proofs.Counting.{count-le}
+use Rattle.plan.specs.Header.{headerOf}
+use Rattle.plan.specs.Packed.{planOf}
+use Rattle.plan.specs.Check.{result}
+use Rattle.plan.proofs.Tests.{all-from, getD-in}
+use Rattle.plan.proofs.Stamped.{number-stamped}
+use Rattle.plan.proofs.Accept.{Accepted, in-range, accepts}
+use Rattle.plan.proofs.AcceptReads.{read-stands}
+use Rattle.plan.proofs.AcceptWrites.{number-hi}
+use Rattle.simulator.specs.Answers.{answerSize, answersOf}
+use Rattle.simulator.specs.Judge.{readOf, answerFits, answerAllowed, judgeAfter, judgeOf}
+use Rattle.simulator.proofs.AnswerBytes.{Fits, begin-of, reader-of, pair-of, zero-of, answersOf-length}
+
+-- what the regular register allows is the initial pair or that of a write
+pub allowed-cases : (P : Plan) (r : Read) (p : ℕ) → allowed P r p ≡ true → (p ≡ P .initial) ⊎ ((u : Write) × In u (P .writes) × (u .pair ≡ p))
+unfolding allowed lastFinished
+allowed-cases P r p e = go (or-e (eqb p (lastFinished P r)) (any written (P .writes)) (rw e tt))
+  where
+    written : Write → Bool
+    written u = eqb (u .pair) p && concurrent P r u
+
+    ended : List Write
+    ended = filter (finished P r) (P .writes)
+
+    Known : Type 0
+    Known = (p ≡ P .initial) ⊎ ((u : Write) × In u (P .writes) × (u .pair ≡ p))
+
+    last : p ≡ lastFinished P r → (lastFinished P r ≡ P .initial) ⊎ In (lastFinished P r) (map (λ (u : Write). u .pair) ended) → Known
+    last q (inl h) = inl (q ∙ h)
+    last q (inr h) =
+        let (u, i, f) = in-map (λ (u : Write). u .pair) (lastFinished P r) ended h in
+        inr (u, in-filter (finished P r) u (P .writes) i .0, sym (q ∙ f))
+
+    go : T (eqb p (lastFinished P r)) ⊎ T (any written (P .writes)) → Known
+    go (inl h) = last (eqb→eq p (lastFinished P r) h) (highest-in (P .initial) (map (λ (u : Write). u .pair) ended))
+    go (inr h) =
+        let (u, i, t) = any-in written (P .writes) h in
+        inr (u, i, eqb→eq (u .pair) p (and-l (eqb (u .pair) p) (concurrent P r u) t))
+
+pub initial-number : (w : ℕ) (s : List ℕ) → numberOf w (planOf w s .initial) ≡ 0
+unfolding planOf headerOf
+initial-number w s = number-stamped w (headerOf w s .initial) 0 (field-lt s 28 w)
+
+module _ (w : ℕ) (s : List ℕ) (A : Accepted w s) where
+  -- the number of an allowed pair fits its field
+  pub allowed-number : (r : Read) (p : ℕ) → allowed (planOf w s) r p ≡ true → numberOf w p < 256
+  allowed-number r p e = go (allowed-cases (planOf w s) r p e)
+    where
+      go : (p ≡ planOf w s .initial) ⊎ ((u : Write) × In u (planOf w s .writes) × (u .pair ≡ p)) → numberOf w p < 256
+      go (inl q) = omega (arith, ap (numberOf w) q, initial-number w s)
+      go (inr (u, i, q)) = omega (arith, ap (numberOf w) q, number-hi w s A u i)
+
+  -- the answer of a served read fits its fields
+  pub fits : (r : Read) → In r (planOf w s .reads) → Served (planOf w s) r → Fits w r (answerOf (planOf w s) r)
+  unfolding countIn planOf
+  fits r i S =
+      let P : Plan = planOf w s in
+      let R = read-stands w s A r i in
+      let most = count-le (λ b. has (notedBy P r) (answerOf P r .pair) b) (P .n) in
+      record {
+        begun-fits = R .begun-below;
+        reader-fits = R .reader-below;
+        number-fits = allowed-number r (answerOf P r .pair) (S .regular);
+        count-fits = omega (arith, S .counted, most, in-range w s A .n-hi);
+      }
+
+  -- Judge's yes to all answers, in three tests
+  module _ (whole : w % 8 ≡ 0) (served : (r : Read) → In r (planOf w s .reads) → Served (planOf w s) r) where
+    abbrev none : Read
+    none = record { begun = 0; reader = 0 }
+
+    read-in : (i : ℕ) → i < length (planOf w s .reads) → In (readOf (planOf w s) i) (planOf w s .reads)
+    read-in i l = getD-in (planOf w s .reads) i none l
+
+    read-fits : (i : ℕ) → i < length (planOf w s .reads) → Fits w (readOf (planOf w s) i) (answerOf (planOf w s) (readOf (planOf w s) i))
+    read-fits i l = fits (readOf (planOf w s) i) (read-in i l) (served (readOf (planOf w s) i) (read-in i l))
+
+    all-fit : (i : ℕ) → i < length (planOf w s .reads) → T (answerFits w s (answersOf w s) i)
+    unfolding answerFits answersOf
+    all-fit i l =
+        let P : Plan = planOf w s in
+        let r : Read = readOf P i in
+        let F = read-fits i l in
+        rw (begin-of w P whole (P .reads) none i l F, reader-of w P whole (P .reads) none i l F, zero-of w P whole (P .reads) none i l F)
+        (and-i (eqb (r .begun) (r .begun)) (eqb (r .reader) (r .reader) && eqb 0 0) (eqb-refl (r .begun))
+        (and-i (eqb (r .reader) (r .reader)) (eqb 0 0) (eqb-refl (r .reader)) tt))
+
+    all-allowed : (i : ℕ) → i < length (planOf w s .reads) → T (answerAllowed w s (answersOf w s) i)
+    unfolding answerAllowed answersOf
+    all-allowed i l =
+        let P : Plan = planOf w s in
+        rw (pair-of w P whole (P .reads) none i l (read-fits i l), served (readOf P i) (read-in i l) .regular) tt
+
+    pub judge-yes : judgeOf w s (answersOf w s) ≡ result true
+    unfolding judgeOf judgeAfter
+    judge-yes =
+        let m : ℕ = length (planOf w s .reads) in
+        let a : List ℕ = answersOf w s in
+        let n : ℕ = answerSize w * m in
+        let long : eqb (length a) n ≡ true = T-eq (eqb (length a) n) (rw (answersOf-length w s) (eqb-refl n)) in
+        let fit : allUpTo m (answerFits w s a) ≡ true = T-eq (allUpTo m (answerFits w s a)) (all-from m (answerFits w s a) all-fit) in
+        let yes : allUpTo m (answerAllowed w s a) ≡ true = T-eq (allUpTo m (answerAllowed w s a)) (all-from m (answerAllowed w s a) all-allowed) in
+        rw (accepts w s A, long, fit, yes)

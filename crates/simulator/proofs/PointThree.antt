@@ -1,0 +1,22 @@
+-- Point 3, whole: every plan that Check accepts has it, at every width of whole bytes.
+-- It composes the register's theorem, what Check accepts and Judge's yes, and argues nothing else.
+use mathlib.Core.Path.{_≡_}
+use mathlib.Core.List.{List}
+use Prim.Native.Nat.{ℕ, _%_}
+use Rattle.register.specs.Lists.{In}
+use Rattle.register.specs.Plan.{Read}
+use Rattle.register.specs.Promise.{Served}
+use Rattle.register.proofs.Theorem.{served}
+use Rattle.plan.specs.Packed.{planOf}
+use Rattle.plan.specs.Check.{result, checkOf}
+use Rattle.plan.proofs.Accept.{Accepted, accepted, enough}
+use Rattle.plan.proofs.AcceptGood.{good}
+use Rattle.simulator.specs.PointThree.{PointThree}
+use Rattle.simulator.proofs.Judged.{judge-yes}
+use Rattle.simulator.proofs.Played.{play-writes}
+
+pub pointThree : (w : ℕ) → w % 8 ≡ 0 → (s : List ℕ) (m : ℕ) → checkOf w s ≡ result m → PointThree w s
+pointThree w whole s m e =
+    let A : Accepted w s = accepted w s m e in
+    let all : (r : Read) → In r (planOf w s .reads) → Served (planOf w s) r = λ r i. served (planOf w s) (good w s A) (enough w s A) r i in
+    record { served = all; judged = λ answers workspace k h. rw (play-writes w s A answers workspace k h) (judge-yes w s A whole all) }
