@@ -6,7 +6,7 @@ use Prim.Native.Nat.{ℕ, suc, _+_, _*_, _-_, _/_, _^_, _≤_, _<_}
 use lib.Dec.{eqb}
 use lib.ListN.{getD, length}
 use Rattle.register.specs.Lists.{any, anyUpTo, In, member}
-use Rattle.register.specs.Plan.{Plan, Write, Read, stamped, kk, echoQuorum, replyQuorum, isMove, readEnd}
+use Rattle.register.specs.Plan.{Plan, Write, Read, kk, echoQuorum, replyQuorum, isMove, readEnd}
 use Rattle.register.specs.Server.{has}
 use Rattle.register.specs.Cluster.{writesIn, readsIn, forgedIn}
 use Rattle.register.specs.Reading.{sameRead}
@@ -17,11 +17,12 @@ use Rattle.cluster.specs.declared.Arrivals.{Arrivals}
 use Rattle.cluster.specs.declared.Movement.{Movement}
 use Rattle.cluster.specs.declared.Window.{Window}
 use Rattle.cluster.specs.Bits.{bit}
+use Rattle.cluster.specs.Stored.{pairOf}
 use Rattle.cluster.specs.Layout.{entryAt, forgedAt, linkBit, delayAt}
 
 -- pair j: value j of the known ones, under number j
 abbrev pub pairAt : Known → ℕ → ℕ
-pairAt known j = stamped 16 (getD (known .values) j 0) j
+pairAt known j = pairOf (known .values) j
 
 -- the plan's pairs are g 0 .. g (m - 1), each under its own number
 pub record Knows (P : Plan) (g : ℕ → ℕ) (m : ℕ) : Type 0 where
@@ -39,6 +40,8 @@ pub record Sized (plan work : List ℕ) (t : ℕ) (rules : Rules) (known : Known
   pub servers : rules .n ≤ 16
   pub delta : rules .delta ≤ 15
   pub pairs : known .m ≤ 65
+  pub echo : 1 ≤ rules .echo
+  pub reply : 1 ≤ rules .reply
   pub ordered : window .from ≤ window .to
   pub entries : window .to ≤ 1024
   pub start : links .at < 2 ^ 32

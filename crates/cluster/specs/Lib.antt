@@ -1,3 +1,5 @@
 pub mod Bits
 pub mod Layout
+pub mod Stored
+pub mod Stages
 pub mod Inputs

@@ -1,4 +1,7 @@
 // The cluster as the engine keeps it, and what a tick is fed. Pairs are known by number: pair 0 is the initial one, pair j the j-th write.
+pub mod servers;
+pub mod stages;
+pub mod store;
 
 // A place of a store: a stamped value (document 01: a pair), or empty.
 pub struct Stamped {
@@ -67,4 +70,18 @@ pub struct Movement {
 pub struct Window {
     pub from: usize,
     pub to: usize,
+}
+
+// What a server sends in a tick: its row of the log.
+pub struct Row {
+    pub wrote: u8,
+    pub echoed: bool,
+    pub readers: u8,
+    pub kept: [Stamped; 3],
+}
+
+// A server, and what it sends.
+pub struct Step {
+    pub server: Server,
+    pub row: Row,
 }

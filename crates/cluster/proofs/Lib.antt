@@ -1,0 +1,4 @@
+pub mod BitLaws
+pub mod StoreLaws
+pub mod StageLaws
+pub mod Sizes

@@ -1,0 +1,18 @@
+-- `Server::wipe` meets its contract.
+use mathlib.Core.Path.{_∙_}
+use borrow.Author.Needs.{needs}
+use Rattle.cluster.proofs.Server.wipe.Statement.{statement}
+use Rattle.cluster.proofs.Server.wipe.Tie as tie
+use Rattle.cluster.proofs.StageLaws.{zero-table, zero-set}
+
+none-requires : tie.Need-none-requires
+none-requires c κs = search needs
+
+restated-requires : tie.Need-restated-requires
+restated-requires c κs = search needs
+
+returns : tie.Need-returns
+returns c = c .restated .ensures ∙ rw (c .before .none .ensures, zero-table, zero-set)
+
+pub wipe-spec : {M : Type 1} → statement M
+wipe-spec = tie.close (tie.spec none-requires restated-requires returns)

@@ -1,0 +1,110 @@
+-- Steps of the stages' proofs: the quorum's test by masks, a turn of taking in, and the stages put together from what their calls give.
+-- It stands on BitLaws.
+use mathlib.Core.Path.{_≡_, refl, sym, ap, _∙_, fun-ext}
+use mathlib.Core.Bool.{Bool, true, false, _&&_, _||_, cond}
+use mathlib.Core.List.{List, []}
+use Prim.Native.Nat.{ℕ, suc, _+_, _^_, _≤_, _<_}
+use native.Mathlib.Omega.{arith}
+use native.Mathlib.Numerals.{add-one}
+use lib.Dec.{leb}
+use lib.ListN.{take, replicate}
+use lib.Bits.{bitOr, bitAnd}
+use lib.Count.{ones}
+use borrow.Author.Tests.{le-leb, lt-leb}
+use Rattle.register.specs.Lists.{count, sameList}
+use Rattle.register.specs.Server.{Status, faulty, isFaulty, isCorrect, curedAt, insert}
+use Rattle.register.proofs.Counting.{count-none}
+use Rattle.cluster.specs.Bits.{bit, sets}
+use Rattle.cluster.specs.Stored.{Plain, Said, Both}
+use Rattle.cluster.specs.Stages.{nobody, noVotes, blankAs, restated, wiped, cureEnded, quorate, taken, voting, withWrite, repliesTo, delivered, stageOne, stageTwo, movedOn, stageFour}
+use Rattle.cluster.proofs.BitLaws.{bit-zero, bit-or, bit-and, unmarked, ones-count, ones-either}
+
+pub zero-table : sets (replicate 65 0) ≡ noVotes
+zero-table = fun-ext (λ j. fun-ext (λ k. unmarked 65 j k))
+
+pub zero-set : (λ x. bit x 0) ≡ nobody
+zero-set = fun-ext bit-zero
+
+-- ---- quorums
+
+module _ (e r f o : ℕ) (h : f < 2 ^ 16) (g : o < 2 ^ 16) where
+  pub quorate-yes : e ≤ ones f → true ≡ quorate e r (λ i. bit i f) (λ i. bit i o)
+  quorate-yes l = rw (← ones-count 16 f h, le-leb e (ones f) l)
+
+  pub quorate-no : ones f < e → leb r (ones (bitOr f o)) ≡ quorate e r (λ i. bit i f) (λ i. bit i o)
+  quorate-no l = rw (← ones-count 16 f h, lt-leb e (ones f) l, ones-either 16 f o h g)
+
+-- no votes, no quorum
+pub unvoted : (e r f o : ℕ) → 1 ≤ e → 1 ≤ r → f ≡ 0 → o ≡ 0 → false ≡ quorate e r (λ i. bit i f) (λ i. bit i o)
+unvoted e r f o he hr ef eo = rw (ef, eo) (go (count (λ i. bit i 0) 16) (count (λ i. bit i 0 || bit i 0) 16) none either)
+  where
+    none : count (λ i. bit i 0) 16 ≡ 0
+    none = ap (λ (p : ℕ → Bool). count p 16) zero-set ∙ count-none 16
+
+    either : count (λ i. bit i 0 || bit i 0) 16 ≡ 0
+    either = ap (λ (p : ℕ → Bool). count p 16) (fun-ext (λ i. rw (bit-zero i))) ∙ count-none 16
+
+    go : (x y : ℕ) → x ≡ 0 → y ≡ 0 → false ≡ leb e x || leb r y
+    go x y a b = rw (lt-leb e x (omega arith), lt-leb r y (omega arith))
+
+-- ---- a turn of taking in
+
+module _ (c : ℕ → Bool) (g : ℕ → ℕ) (j : ℕ) (l k r : List ℕ) (e : k ≡ taken c g j l) where
+  pub taken-yes : c j ≡ true → r ≡ take 3 (insert (g j) k) → r ≡ taken c g (j + 1) l
+  unfolding taken
+  taken-yes h q = rw (add-one j, h, ← e) q
+
+  pub taken-no : c j ≡ false → r ≡ k → r ≡ taken c g (j + 1) l
+  unfolding taken
+  taken-no h q = rw (add-one j, h, ← e) q
+
+-- ---- stage 1
+
+pub replied-law : (r a p : ℕ) (c s c' s' : Bool) → r ≡ cond c (cond s a p) 0 → c ≡ c' → s ≡ s'
+    → (λ x. bit x r) ≡ repliesTo c' s' (λ x. bit x a) (λ x. bit x p)
+replied-law r a p c s true true e f g = rw (e, f, g)
+replied-law r a p c s true false e f g = rw (e, f, g)
+replied-law r a p c s false s' e f g = rw (e, f) zero-set
+
+pub pending-law : (p l a : ℕ) → _≡_ {A = ℕ → Bool} (λ x. bit x (bitOr (bitAnd p l) a)) (λ x. (bit x p && bit x l) || bit x a)
+pending-law p l a = fun-ext (λ x. rw (bit-or x (bitAnd p l) a, bit-and x p l))
+
+-- a WRITE changes the store only
+pub write-rest : (g : ℕ → ℕ) (m w : ℕ) (s : Plain) (r : Plain) → r ≡ withWrite g m w s
+    → (r .status ≡ s .status) × (r .pending ≡ s .pending) × (r .old ≡ s .old) × (r .kept ≡ withWrite g m w s .kept)
+write-rest g m w s r e = rw e (go (lib.Dec.ltb w m))
+  where
+    x : Bool → Plain
+    x b = cond b (record { status = s .status; kept = take 3 (insert (g w) (s .kept)); pending = s .pending; fresh = s .fresh; old = s .old }) s
+
+    go : (b : Bool) → (x b .status ≡ s .status) × (x b .pending ≡ s .pending) × (x b .old ≡ s .old) × (x b .kept ≡ x b .kept)
+    go true = (refl, refl, refl, refl)
+    go false = (refl, refl, refl, refl)
+
+pub delivered-law : (g : ℕ → ℕ) (m e r w : ℕ) (votes : ℕ → ℕ → Bool) (asks live : ℕ → Bool) (s q : Plain) (kept : List ℕ) (pend readers : ℕ → Bool)
+    → isFaulty (s .status) ≡ false → q ≡ withWrite g m w s → kept ≡ taken (voting e r votes (q .old)) g m (q .kept)
+    → pend ≡ (λ x. (q .pending x && live x) || asks x) → readers ≡ repliesTo (isCorrect (s .status)) (sameList (s .kept) kept) asks pend
+    → record {
+      server = record { status = q .status; kept = kept; pending = pend; fresh = votes; old = q .old };
+      said = record { wrote = w; echoed = false; readers = readers; pairs = kept };
+    } ≡ stageOne g m e r w votes asks live s
+unfolding stageOne delivered
+delivered-law g m e r w votes asks live s q kept pend readers h u k p a =
+    let z = write-rest g m w s q u in
+    rw (h, a, k, p, z .0, z .1, z .2, z .3)
+
+-- ---- stages 2 to 4
+
+pub cure-law : (delta t : ℕ) (o : Both) (s : Plain) → curedAt delta t (o .server .status) ≡ true → s ≡ cureEnded delta t (o .server)
+    → record { server = s; said = record { wrote = o .said .wrote; echoed = o .said .echoed; readers = s .pending; pairs = s .kept } } ≡ stageTwo delta t o
+unfolding stageTwo
+cure-law delta t o s h e = rw (e, h)
+
+-- a server that becomes faulty is wiped first
+pub seized : (t : ℕ) (s q : Plain) → q ≡ wiped t → s ≡ restated faulty q → s ≡ blankAs faulty
+seized t s q e f = rw (f, e)
+
+pub echo-law : (two h : Bool) (t : ℕ) (o : Both) (s : Plain) (e : Bool) → s ≡ movedOn two h t (o .server) → e ≡ isCorrect (s .status)
+    → record { server = s; said = record { wrote = o .said .wrote; echoed = e; readers = o .said .readers; pairs = o .said .pairs } } ≡ stageFour two h t o
+unfolding stageFour
+echo-law two h t o s e p q = rw (q, p)
