@@ -90,7 +90,8 @@ keep-takeIn P t p recent ps l d g gs i = go (first-or-above p (P .depth) m (fall
         absurd (omega arith)
 
 -- a WRITE arrives
-pub write-arrives : (P : Plan) (w : Write) (b : ℕ) → In w (P .writes) → In (w .pair) (writesIn P (w .begun + P .delay (w .begun) (P .n) b) b)
+pub write-arrives : (P : Plan) (w : Write) (b : ℕ) → In w (P .writes)
+    → In (w .pair) (writesIn P (w .begun + P .delay (w .begun) (P .n) b) b)
 unfolding writesIn
 write-arrives P w b i =
     map-in (λ (w : Write). w .pair) w (filter (λ v. eqb (v .begun + P .delay (v .begun) (P .n) b) t) (P .writes))

@@ -114,6 +114,11 @@ sent-row P (suc t) u b l h = go (ℕ-discrete u t) (sent-row P t u b l)
     go (yes e) ih = rw e (row-new P t b l)
     go (no n) ih = let h : u < t = omega arith in row-kept P t u b h ∙ ih h
 
+pub cluster-sent : (P : Plan) (t u b : ℕ) → b < P .n → u < t
+    → sentIn (cluster P t .log) u b ≡ step P u b (cluster P u .log) (serverOf (cluster P u) b) .sent
+unfolding before
+cluster-sent P t u b l h = sent-row P t u b l h ∙ ap (λ (o : Out). o .sent) (end-is-step P u b)
+
 -- no rows past the log's end
 pub sent-none : (P : Plan) (t u b : ℕ) → t ≤ u → sentIn (cluster P t .log) u b ≡ nothing
 unfolding sentIn

@@ -59,7 +59,8 @@ module _ (P : Plan) (G : Good P) (E : Enough P) where
             go : (kk P ≡ 1) ⊎ (kk P ≡ 2) → Suffices P (suc i) u (λ v. not (near P (suc i) 1 v))
             go (inl e) =
                 let c = rw e at (k-covers P G) in
-                inl (omega (arith, many-outside P G (suc i) 1, enough-two P E), period-is P G (suc i) u (omega (arith, g, g')) (omega (arith, g, g')))
+                let q = period-is P G (suc i) u (omega (arith, g, g')) (omega (arith, g, g')) in
+                inl (omega (arith, many-outside P G (suc i) 1, enough-two P E), q)
             go (inr e) =
                 let q = period-hi P G (suc i + 2) u (omega (arith, g, g')) in
                 inr (omega (arith, many-outside P G (suc i) 1, E), omega arith, e)
