@@ -33,3 +33,17 @@ pub fn field(s: &[u8], at: usize, width: usize) -> u64
     let all = bytes_from(s, at / 8, n);
     (all >> (8 * n - off - width)) % (1 << width)
 }
+
+// The number in the four bits from bit `at` on: of one byte, or of two where they straddle.
+pub fn nibble(s: &[u8], at: usize) -> u8
+    requires { ⌜ at + 4 ≤ 8 * length (now s) ⌝ }
+    ensures { λ r. ⌜ (r ≡ fieldOf (now (s .entry)) at 4) × (r < 16) ⌝ }
+{
+    let b = at / 8;
+    let off = at % 8;
+    if off <= 4 {
+        return (s[b] >> (4 - off)) % 16;
+    }
+    let both = wide(s[b]) * 256 + wide(s[b + 1]);
+    ((both >> (12 - off)) % 16) as u8
+}
