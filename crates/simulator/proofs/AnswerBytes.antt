@@ -13,7 +13,7 @@ use Rattle.register.specs.Plan.{Plan, Read, valueOf, numberOf}
 use Rattle.register.specs.Reading.{Answer, answerOf}
 use Rattle.plan.specs.Packed.{planOf}
 use Rattle.plan.proofs.Stamped.{stamped-back}
-use Rattle.simulator.specs.Answers.{answerSize, packed, answerBytes, answersFor, answersOf, answerAt, beginIn, readerIn, pairIn, zeroIn}
+use Rattle.answers.specs.Answers.{answerSize, packed, answerBytes, answersFor, answersOf, answerAt, beginIn, readerIn, pairIn, zeroIn}
 use Rattle.simulator.proofs.Bytes.{field-high, field-low, parts-lt, length-bytes, field-bytes, joined, length-joined, field-joined}
 
 -- an answer whose parts fit their fields

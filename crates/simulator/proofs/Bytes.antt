@@ -12,7 +12,7 @@ use lib.Arith.{digits-lt}
 use lib.Pow.{high, low, mod-pow-add, pow-add}
 use Rattle.bits.specs.Field.{bitOf, fieldOf}
 use Rattle.bits.proofs.Laws.{field-zero, field-suc, field-lt, field-split, field-part, bytes-more}
-use Rattle.simulator.specs.Answers.{bytesOf}
+use Rattle.answers.specs.Answers.{bytesOf}
 
 bit-left : (a b : List ℕ) (i : ℕ) → i < 8 * length a → bitOf (a ++ b) i ≡ bitOf a i
 unfolding bitOf

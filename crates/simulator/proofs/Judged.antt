@@ -26,7 +26,7 @@ use Rattle.plan.proofs.Stamped.{number-stamped}
 use Rattle.plan.proofs.Accept.{Accepted, in-range, accepts}
 use Rattle.plan.proofs.AcceptReads.{read-stands}
 use Rattle.plan.proofs.AcceptWrites.{number-hi}
-use Rattle.simulator.specs.Answers.{answerSize, answersOf}
+use Rattle.answers.specs.Answers.{answerSize, answersOf}
 use Rattle.simulator.specs.Judge.{readOf, answerFits, answerAllowed, judgeAfter, judgeOf}
 use Rattle.simulator.proofs.AnswerBytes.{Fits, begin-of, reader-of, pair-of, zero-of, answersOf-length}
 

@@ -12,7 +12,7 @@ use Rattle.register.specs.Reading.{countOf}
 use Rattle.plan.specs.Header.{headerOf, moves}
 use Rattle.plan.specs.Packed.{planOf}
 use Rattle.plan.specs.Check.{Outcome, result, checkOf}
-use Rattle.simulator.specs.Answers.{answersOf}
+use Rattle.answers.specs.Answers.{answersOf}
 use Rattle.simulator.specs.Play.{playOf}
 use Rattle.simulator.specs.Judge.{readOf, judgeOf}
 use Rattle.simulator.specs.PointThree.{PointThree}

@@ -12,8 +12,9 @@ use borrow.Author.Tests.{le-ltb}
 use Rattle.plan.specs.Packed.{planOf}
 use Rattle.plan.specs.Check.{result, checkOf}
 use Rattle.plan.proofs.Accept.{Accepted, accepts}
-use Rattle.simulator.specs.Answers.{answerSize, answersOf}
-use Rattle.simulator.specs.Play.{Played, playRefused, playAfter, playOf, workspaceSize, zeroed}
+use Rattle.answers.specs.Answers.{answerSize, answersOf}
+use Rattle.answers.specs.Workspace.{workspaceSize, zeroed}
+use Rattle.simulator.specs.Play.{Played, playRefused, playAfter, playOf}
 use Rattle.simulator.proofs.AnswerBytes.{answersOf-length}
 
 -- Where Play has a result, it wrote all answers at the front.

@@ -17,7 +17,7 @@ use Rattle.plan.specs.Header
 use Rattle.plan.specs.Parts
 use Rattle.plan.specs.Packed
 use Rattle.plan.specs.Check
-use Rattle.simulator.specs.Answers
+use Rattle.answers.specs.Answers
 use Rattle.simulator.specs.Look
 use Rattle.simulator.specs.Judge
 use Rattle.simulator.specs.Starred as S

@@ -9,7 +9,7 @@ use Rattle.register.specs.Plan.{Plan, Read}
 use Rattle.register.specs.Regular.{allowed}
 use Rattle.plan.specs.Packed.{planOf}
 use Rattle.plan.specs.Check.{Outcome, refused, result, unless, checkOf}
-use Rattle.simulator.specs.Answers.{answerSize, beginIn, readerIn, pairIn, zeroIn}
+use Rattle.answers.specs.Answers.{answerSize, beginIn, readerIn, pairIn, zeroIn}
 
 -- read i of a plan
 abbrev pub readOf : Plan → ℕ → Read

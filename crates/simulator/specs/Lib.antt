@@ -1,4 +1,3 @@
-pub mod Answers
 pub mod Play
 pub mod Look
 pub mod Judge

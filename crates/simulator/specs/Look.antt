@@ -10,7 +10,7 @@ use Rattle.register.specs.Cluster.{cluster, serverOf}
 use Rattle.plan.specs.Header.{Header, headerOf}
 use Rattle.plan.specs.Packed.{planOf}
 use Rattle.plan.specs.Check.{Outcome, refused, result, checkOf}
-use Rattle.simulator.specs.Play.{workspaceSize, zeroed}
+use Rattle.answers.specs.Workspace.{workspaceSize, zeroed}
 
 -- 'held, curing or sound'
 pub data Condition : Type 0 where

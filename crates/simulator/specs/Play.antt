@@ -3,17 +3,10 @@ use mathlib.Core.Bool.{cond}
 use mathlib.Core.List.{List, _++_}
 use Prim.Native.Nat.{ℕ, _*_}
 use lib.Dec.{ltb}
-use lib.ListN.{length, drop, replicate}
+use lib.ListN.{length, drop}
 use Rattle.plan.specs.Check.{Outcome, refused, result, checkOf}
-use Rattle.simulator.specs.Answers.{answerSize, answersOf}
-
--- '10 workspace under 60,000 bytes'
-abbrev pub workspaceSize : ℕ
-workspaceSize = 60000
-
--- 'the first 60,000 of the workspace are zero, the rest unchanged'
-unfoldable pub zeroed : List ℕ → List ℕ
-zeroed k = replicate workspaceSize 0 ++ drop workspaceSize k
+use Rattle.answers.specs.Answers.{answerSize, answersOf}
+use Rattle.answers.specs.Workspace.{workspaceSize, zeroed}
 
 -- What Play returns, and the lent bytes afterwards.
 pub record Played : Type 0 where

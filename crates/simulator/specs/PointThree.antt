@@ -9,7 +9,7 @@ use Rattle.register.specs.Plan.{Read}
 use Rattle.register.specs.Promise.{Served}
 use Rattle.plan.specs.Packed.{planOf}
 use Rattle.plan.specs.Check.{result}
-use Rattle.simulator.specs.Answers.{answerSize}
+use Rattle.answers.specs.Answers.{answerSize}
 use Rattle.simulator.specs.Play.{playOf}
 use Rattle.simulator.specs.Judge.{judgeOf}
 

@@ -9,7 +9,7 @@ use Rattle.register.specs.Reading.{Answer, answerOf}
 use Rattle.plan.specs.Header.{headerOf, kIn}
 use Rattle.plan.specs.Packed.{planOf}
 use Rattle.plan.specs.Check.{Outcome, refused, result, checkOf}
-use Rattle.simulator.specs.Answers.{answersOf}
+use Rattle.answers.specs.Answers.{answersOf}
 use Rattle.simulator.specs.Look.{is-cured, is-correct, Shown, shownBy}
 use Rattle.simulator.specs.Judge.{readOf}
 

@@ -1,0 +1,65 @@
+-- `choose::chosen` meets its contract. The loop's invariant: the best is the highest of the numbers passed.
+use borrow.Author.Needs.{needs}
+use native.Mathlib.Omega.{arith}
+use mathlib.Core.Path.{_≡_, refl}
+use Prim.Native.Nat.{_≤_, _-_}
+use Rattle.answers.specs.Choosing.{highestOf}
+use Rattle.answers.proofs.Chosen.{highest-more}
+use Rattle.answers.proofs.choose.chosen.Statement.{statement}
+use Rattle.answers.proofs.choose.chosen.Tie as tie
+
+abbrev Inv-loop : tie.InvT-loop
+Inv-loop m reply names best₀ j₀ best j = (j ≤ m) × (best ≡ highestOf names reply j)
+
+abbrev μ-loop : tie.MeasureT-loop
+μ-loop m reply names best₀ j₀ best j = m - j
+
+loop-holds : tie.Need-loop-holds Inv-loop μ-loop
+unfolding highestOf
+loop-holds c = (omega arith, refl)
+
+mul-set : tie.Need-mul-set Inv-loop μ-loop
+mul-set c = search needs
+
+array-read-set : tie.Need-array-read-set Inv-loop μ-loop
+array-read-set c = search needs
+
+cast-better : tie.Need-cast-better Inv-loop μ-loop
+cast-better c = search needs
+
+better-requires : tie.Need-better-requires Inv-loop μ-loop
+better-requires c κs = search needs
+
+add-j : tie.Need-add-j Inv-loop μ-loop
+add-j c = search needs
+
+loop-less : tie.Need-loop-less Inv-loop μ-loop
+loop-less c = search needs
+
+loop-again : tie.Need-loop-again Inv-loop μ-loop
+loop-again c =
+    let h = c .before .before .loop .inv in
+    let a = c .before .before .before .args in
+    (omega arith, highest-more (a .t1) (a .reply) _ _ _ (h .1) (c .better .ensures))
+
+returns : tie.Need-returns Inv-loop μ-loop
+returns c =
+    let l = c .before .loop in
+    let e : l .j ≡ c .before .before .args .m = omega arith in
+    rw e at (l .inv .1)
+
+pub chosen-spec : {M : Type 1} → statement M
+chosen-spec =
+    tie.close
+    (tie.spec
+    Inv-loop
+    μ-loop
+    loop-holds
+    mul-set
+    array-read-set
+    cast-better
+    better-requires
+    add-j
+    loop-less
+    loop-again
+    returns)

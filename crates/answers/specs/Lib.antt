@@ -1,0 +1,5 @@
+pub mod Named
+pub mod Choosing
+pub mod Heard
+pub mod Answers
+pub mod Workspace
