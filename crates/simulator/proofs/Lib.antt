@@ -5,3 +5,6 @@ pub mod Judged
 pub mod Played
 pub mod PointThree
 pub mod NotEmpty
+pub mod JudgeLaws
+pub mod JudgeLawsSteps
+pub mod JudgeLawsPlan

@@ -3,3 +3,5 @@ pub mod Look
 pub mod Judge
 pub mod PointThree
 pub mod Starred
+pub mod JudgeTables
+pub mod Numbered

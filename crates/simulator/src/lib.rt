@@ -1,1 +1,2 @@
 // The library's operations.
+pub mod judge;
