@@ -1,12 +1,13 @@
 -- Laws of numbers and tests that the proofs of Check share.
 -- It stands on nothing of the plan.
-use mathlib.Core.Path.{_≡_, refl}
-use mathlib.Core.Bool.{Bool, true, false, _&&_}
+use mathlib.Core.Path.{_≡_, refl, sym}
+use mathlib.Core.Bool.{Bool, true, false, _&&_, _||_}
 use Prim.Native.Nat.{ℕ, zero, suc, _+_, _*_, _-_, _/_, _≤_, _<_}
-use native.Mathlib.Nat.{mul-le-mul, div-lt-iff-lt-mul, not-suc-le-zero}
+use native.Mathlib.Nat.{mul-le-mul, mul-le-mul-right, div-lt-iff-lt-mul, not-suc-le-zero}
 use native.Mathlib.Decide.{ℕ-discrete}
 use native.Mathlib.Numerals.{add-one}
 use native.Mathlib.Omega.{arith}
+use lib.ListN.{getD, replicate}
 use Rattle.register.specs.Lists.{allUpTo}
 
 -- a small multiple of a byte
@@ -39,7 +40,7 @@ pub and-both : (a b : Bool) → a && b ≡ true → (a ≡ true) × (b ≡ true)
 and-both true b e = (refl, e)
 and-both false b e = let z : _≡_ {A = ℕ} 0 1 = cc in absurd (omega arith)
 
-and-false : (b : Bool) → b && false ≡ false
+pub and-false : (b : Bool) → b && false ≡ false
 and-false true = refl
 and-false false = refl
 
@@ -55,3 +56,47 @@ pub all-stop : (g : ℕ → Bool) (i n : ℕ) → i < n → g i ≡ false → al
 unfolding allUpTo
 all-stop g i zero h t = absurd (not-suc-le-zero h)
 all-stop g i (suc n) h t = stop-step g i n t (λ l. all-stop g i n l t) h
+
+-- all were passed
+pub all-end : (g : ℕ → Bool) (i n : ℕ) → i ≤ n → n ≤ i → allUpTo i g ≡ true → true ≡ allUpTo n g
+all-end g i n a b h = let e : i ≡ n = omega arith in rw e at (sym h)
+
+at-step : (g : ℕ → Bool) (n i : ℕ) → g n && allUpTo n g ≡ true → (i < n → allUpTo n g ≡ true → g i ≡ true) → i < suc n → g i ≡ true
+at-step g n i h ih l = let b = and-both (g n) (allUpTo n g) h in go b (ℕ-discrete i n)
+  where
+    go : (g n ≡ true) × (allUpTo n g ≡ true) → Dec (i ≡ n) → g i ≡ true
+    go b (yes e) = rw e (b .0)
+    go b (no d) = ih (omega arith) (b .1)
+
+-- what all pass, each passes
+pub all-at : (g : ℕ → Bool) (n i : ℕ) → i < n → allUpTo n g ≡ true → g i ≡ true
+unfolding allUpTo
+all-at g zero i l h = absurd (not-suc-le-zero l)
+all-at g (suc n) i l h = at-step g n i h (all-at g n i) l
+
+pub or-false : (b : Bool) → b || false ≡ b
+or-false true = refl
+or-false false = refl
+
+-- a row inside a table
+pub row-inside : (i n p : ℕ) → i < n → i * p + p ≤ n * p
+row-inside i n p h = let m = mul-le-mul-right p h in omega (arith, m)
+
+pub square-byte : (p : ℕ) → p ≤ 511 → p * p ≤ 261121
+square-byte p h = mul-le-mul {n₂ = 511} {m₂ = 511} h h
+
+-- what each passes, all pass
+pub all-from : (g : ℕ → Bool) (n : ℕ) → ((i : ℕ) → i < n → g i ≡ true) → allUpTo n g ≡ true
+unfolding allUpTo
+all-from g zero f = refl
+all-from g (suc n) f = rw (f n (omega arith), all-from g n (λ i l. f i (omega arith)))
+
+pub or-true : (b : Bool) → b || true ≡ true
+or-true true = refl
+or-true false = refl
+
+-- a table of one value has it at every place
+pub getD-replicate-same : {A : Type 0} (k j : ℕ) (d : A) → getD (replicate k d) j d ≡ d
+getD-replicate-same zero j d = refl
+getD-replicate-same (suc k) zero d = refl
+getD-replicate-same (suc k) (suc j) d = getD-replicate-same k j d

@@ -8,3 +8,13 @@ pub mod AcceptReads
 pub mod AcceptWrites
 pub mod AcceptForgeries
 pub mod AcceptGood
+pub mod Ones
+pub mod Waiting
+pub mod Passed
+pub mod Reading
+pub mod Spans
+pub mod Forging
+pub mod Rows
+pub mod Chain
+pub mod Longest
+pub mod Sizes

@@ -3,3 +3,5 @@ pub mod Parts
 pub mod Packed
 pub mod Check
 pub mod Shape
+pub mod Steps
+pub mod Numbered

@@ -4,7 +4,7 @@ use mathlib.Core.List.{List}
 use Prim.Native.Nat.{ℕ, _≤_}
 use lib.ListN.{length}
 use Rattle.plan.specs.declared.header.Shape.{Shape}
-use Rattle.plan.specs.Header.{Header, bitLength}
+use Rattle.plan.specs.Header.{Header, moves, bitLength}
 use Rattle.plan.specs.Check.{bytesFor}
 
 abbrev pub shape : Shape → Header
@@ -37,7 +37,9 @@ pub record Ranged (h : Header) : Type 0 where
   pub forgeries-hi : h .forgeries ≤ 1024
   pub zero-bit-zero : h .zero-bit ≡ 0
 
--- a header in range, and as many bytes as it implies
+-- a header in range, as many bytes as it implies, and what follows for sizes
 pub record Sized (s : List ℕ) (h : Header) : Type 0 where
   pub ranged : Ranged h
   pub size : length s ≡ bytesFor (bitLength 16 h)
+  pub moves-hi : moves h ≤ 128
+  pub bits-hi : bitLength 16 h ≤ 275494

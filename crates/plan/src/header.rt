@@ -1,10 +1,11 @@
 // The header of a plan by value, the sizes that follow from it, and the limits of all sizes.
+use crate::logic::both;
+use crate::logic::is_within;
 ghost use mathlib.Core.Path.{_≡_};
-ghost use mathlib.Core.Bool.{_&&_};
 ghost use Prim.Native.Nat.{_+_, _*_, _≤_, _<_};
 ghost use lib.ListN.{length};
 ghost use Rattle.plan.specs.Header.{headerOf, kIn, moves, parties, operationAt, forgeryAt, bitLength};
-ghost use Rattle.plan.specs.Check.{within, headerInRange, enoughServers};
+ghost use Rattle.plan.specs.Check.{headerInRange, enoughServers};
 ghost use Rattle.plan.specs.Shape.{shape, Ranged};
 
 // The shape of a cluster and of its plan (document 01: of the hall).
@@ -19,18 +20,6 @@ pub struct Shape {
     pub operations: u8,
     pub forgeries: u16,
     pub zero: u8,
-}
-
-fn is_within(low: u8, high: u8, x: u8) -> bool
-    ensures { λ r. ⌜ r ≡ within low high x ⌝ }
-{
-    both(low <= x, x <= high)
-}
-
-fn both(a: bool, b: bool) -> bool
-    ensures { λ r. ⌜ r ≡ a && b ⌝ }
-{
-    if a { b } else { false }
 }
 
 impl Shape {

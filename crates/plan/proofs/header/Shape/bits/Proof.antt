@@ -1,8 +1,8 @@
-use Rattle.plan.specs.Header.{parties}
-use Rattle.plan.proofs.Laws.{table-few, square-few}
+-- `header::Shape::bits` meets its contract: the products stay small in a header that is in range.
 use Prim.Native.Nat.{_≤_}
 use native.Mathlib.Omega.{arith}
-use borrow.Author.Needs.{needs}
+use Rattle.plan.specs.Header.{parties}
+use Rattle.plan.proofs.Laws.{table-few, square-few}
 use Rattle.plan.proofs.header.Shape.bits.Statement.{statement}
 use Rattle.plan.proofs.header.Shape.bits.Tie as tie
 
@@ -10,13 +10,13 @@ few : (c : tie.After-struct-known) → c .before .before .parties .result ≤ 21
 few c = omega arith
 
 parties-requires : tie.Need-parties-requires
-parties-requires c κs = search needs
+parties-requires c κs = omega arith
 
 delays-at-requires : tie.Need-delays-at-requires
-delays-at-requires c κs = search needs
+delays-at-requires c κs = omega arith
 
 cast-result : tie.Need-cast-result
-cast-result c = search needs
+cast-result c = omega arith
 
 mul-result : tie.Need-mul-result
 mul-result c = omega (arith, square-few (c .before .before .parties .result) (few c))

@@ -1,22 +1,22 @@
+-- `header::Shape::has_enough_servers` meets its contract.
+use Prim.Native.Nat.{_+_}
+use native.Mathlib.Omega.{arith}
 use Rattle.plan.specs.Check.{enoughServers}
 use Rattle.plan.proofs.Laws.{few-times}
-use native.Mathlib.Omega.{arith}
-use Prim.Native.Nat.{_+_}
-use borrow.Author.Needs.{needs}
 use Rattle.plan.proofs.header.Shape.has_enough_servers.Statement.{statement}
 use Rattle.plan.proofs.header.Shape.has_enough_servers.Tie as tie
 
 k-requires : tie.Need-k-requires
-k-requires c κs = search needs
+k-requires c κs = omega arith
 
 cast-result : tie.Need-cast-result
-cast-result c = search needs
+cast-result c = omega arith
 
 add-result : tie.Need-add-result
-add-result c = search needs
+add-result c = omega arith
 
 cast-result-2 : tie.Need-cast-result-2
-cast-result-2 c = search needs
+cast-result-2 c = omega arith
 
 mul-result : tie.Need-mul-result
 mul-result c = omega (arith, few-times (c .before .k .result + 3) (c .before .before .args .self .f) (omega arith) (omega arith))
@@ -25,7 +25,7 @@ add-result-2 : tie.Need-add-result-2
 add-result-2 c = omega (arith, few-times (c .before .k .result + 3) (c .before .before .args .self .f) (omega arith) (omega arith))
 
 cast-result-3 : tie.Need-cast-result-3
-cast-result-3 c = search needs
+cast-result-3 c = omega arith
 
 returns : tie.Need-returns
 unfolding enoughServers

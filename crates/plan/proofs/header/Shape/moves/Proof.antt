@@ -1,25 +1,25 @@
-use native.Mathlib.Omega.{arith}
+-- `header::Shape::moves` meets its contract.
 use mathlib.Core.Path.{refl}
-use Rattle.plan.proofs.Laws.{moves-few}
+use native.Mathlib.Omega.{arith}
 use Rattle.plan.specs.Header.{moves}
-use borrow.Author.Needs.{needs}
+use Rattle.plan.proofs.Laws.{moves-few}
 use Rattle.plan.proofs.header.Shape.moves.Statement.{statement}
 use Rattle.plan.proofs.header.Shape.moves.Tie as tie
 
 cast-period : tie.Need-cast-period
-cast-period c = search needs
+cast-period c = omega arith
 
 cast-result : tie.Need-cast-result
-cast-result c = search needs
+cast-result c = omega arith
 
 sub-result : tie.Need-sub-result
-sub-result c = search needs
+sub-result c = omega arith
 
 add-result : tie.Need-add-result
-add-result c = search needs
+add-result c = omega arith
 
 div-result : tie.Need-div-result
-div-result c = search needs
+div-result c = omega arith
 
 returns : tie.Need-returns
 unfolding moves

@@ -1,21 +1,21 @@
-use Rattle.plan.proofs.Laws.{few-times}
-use native.Mathlib.Omega.{arith}
+-- `header::Shape::reply_quorum` meets its contract.
 use Prim.Native.Nat.{_+_}
-use borrow.Author.Needs.{needs}
+use native.Mathlib.Omega.{arith}
+use Rattle.plan.proofs.Laws.{few-times}
 use Rattle.plan.proofs.header.Shape.reply_quorum.Statement.{statement}
 use Rattle.plan.proofs.header.Shape.reply_quorum.Tie as tie
 
 k-requires : tie.Need-k-requires
-k-requires c κs = search needs
+k-requires c κs = omega arith
 
 cast-result : tie.Need-cast-result
-cast-result c = search needs
+cast-result c = omega arith
 
 add-result : tie.Need-add-result
-add-result c = search needs
+add-result c = omega arith
 
 cast-result-2 : tie.Need-cast-result-2
-cast-result-2 c = search needs
+cast-result-2 c = omega arith
 
 mul-result : tie.Need-mul-result
 mul-result c = omega (arith, few-times (c .before .k .result + 1) (c .before .before .args .self .f) (omega arith) (omega arith))

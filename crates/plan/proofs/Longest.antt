@@ -1,0 +1,124 @@
+-- An accepted plan has at most 34,362 bytes: a party's operations stand apart, so that few fit below the plan's ticks.
+-- It stands on the laws of waiting and on the ranges of the header.
+use mathlib.Core.Path.{_≡_, refl}
+use mathlib.Core.Bool.{Bool, true, false, not, _&&_, _||_}
+use mathlib.Core.List.{List}
+use Prim.Native.Nat.{ℕ, zero, suc, _+_, _*_, _≤_, _<_}
+use native.Mathlib.Nat.{mul-le-mul-left}
+use native.Mathlib.Omega.{arith}
+use lib.Dec.{leb, ltb, eqb}
+use lib.ListN.{length}
+use borrow.Author.Tests.{leb-true, ltb-true, eqb-true, lt-ltb, ne-eqb}
+use Rattle.register.specs.Lists.{allUpTo, count, one-if}
+use Rattle.plan.specs.Header.{Header, headerOf, parties}
+use Rattle.plan.specs.Parts.{operationOf}
+use Rattle.plan.specs.Check.{operationStands, operationsStand, operationRises, operationWaits, endOf, checkOf, result}
+use Rattle.plan.specs.Shape.{Ranged}
+use Rattle.plan.proofs.Laws.{and-both, or-true, all-at, all-from, table-few}
+use Rattle.register.proofs.Logic.{T-eq}
+use Rattle.plan.proofs.Accept.{accepted}
+use Rattle.plan.proofs.Sizes.{accepted-sizes}
+use Rattle.plan.proofs.Waiting.{ended}
+
+-- Operations of one party, each of which begins after the last one's end.
+module _ (party at end : ℕ → ℕ) (p d : ℕ) where
+  mine : ℕ → ℕ
+  mine i = count (λ j. eqb (party j) p) i
+
+  -- so many of them take so many ticks
+  apart-step : (i t : ℕ) (b : Bool) → eqb (party i) p ≡ b → (b ≡ true → mine i * (d + 1) ≤ at i) → (b ≡ true → at i + d ≤ end i)
+      → (not b || ltb (end i) t) && ended party end i p t ≡ true → (ended party end i p t ≡ true → mine i * (d + 1) ≤ t)
+      → (one-if b + mine i) * (d + 1) ≤ t
+  apart-step i t true e w f h ih =
+      let l = ltb-true (end i) t (and-both (ltb (end i) t) (ended party end i p t) h .0) in
+      let x = w refl in
+      let y = f refl in
+      omega arith
+  apart-step i t false e w f h ih = omega (arith, ih h)
+
+  apart : (n : ℕ) → ((j : ℕ) → j < n → eqb (party j) p ≡ true → at j + d ≤ end j)
+      → ((j : ℕ) → j < n → eqb (party j) p ≡ true → ended party end j p (at j) ≡ true)
+      → (i t : ℕ) → i ≤ n → ended party end i p t ≡ true → mine i * (d + 1) ≤ t
+  unfolding mine count ended allUpTo
+  apart n f w zero t l h = omega arith
+  apart n f w (suc i) t l h =
+      apart-step i t (eqb (party i) p) refl (λ e. apart n f w i (at i) (omega arith) (w i (omega arith) e)) (f i (omega arith)) h (apart n f w i t (omega arith))
+
+one-of-five : (p : ℕ) → p ≤ 4 → one-if (eqb p 0) + one-if (eqb p 1) + one-if (eqb p 2) + one-if (eqb p 3) + one-if (eqb p 4) ≡ 1
+one-of-five zero l = refl
+one-of-five (suc zero) l = refl
+one-of-five (suc (suc zero)) l = refl
+one-of-five (suc (suc (suc zero))) l = refl
+one-of-five (suc (suc (suc (suc zero)))) l = refl
+one-of-five (suc (suc (suc (suc (suc p))))) l = absurd (omega arith)
+
+-- every operation is some party's
+five-parties : (party : ℕ → ℕ) (n : ℕ) → ((j : ℕ) → j < n → party j ≤ 4)
+    → count (λ j. eqb (party j) 0) n + count (λ j. eqb (party j) 1) n + count (λ j. eqb (party j) 2) n + count (λ j. eqb (party j) 3) n + count (λ j. eqb (party j) 4) n ≡ n
+unfolding count
+five-parties party zero f = refl
+five-parties party (suc n) f = omega (arith, one-of-five (party n) (f n (omega arith)), five-parties party n (λ j l. f j (omega arith)))
+
+module _ (s : List ℕ) (h : Header) (r : Ranged h) (stand : operationsStand 16 s h ≡ true) where
+  party : ℕ → ℕ
+  party j = operationOf 16 s h j .party
+
+  begun : ℕ → ℕ
+  begun j = operationOf 16 s h j .at
+
+  done : ℕ → ℕ
+  done j = endOf h (operationOf 16 s h j)
+
+  -- the five tests of an operation
+  each : (j : ℕ) → j < h .operations → (party j ≤ h .readers) × (done j < h .ticks) × (ended party done j (party j) (begun j) ≡ true)
+  unfolding operationsStand operationStands operationWaits ended party begun done
+  each j l =
+      let o = operationOf 16 s h j in
+      let all = all-at (operationStands 16 s h) (h .operations) j l stand in
+      let b1 = and-both (leb (o .party) (h .readers)) _ all in
+      let b2 = and-both (eqb (o .party) 0 || eqb (o .value) 0) _ (b1 .1) in
+      let b3 = and-both (ltb (endOf h o) (h .ticks)) _ (b2 .1) in
+      let b4 = and-both (operationRises 16 s h j) _ (b3 .1) in
+      (leb-true (o .party) (h .readers) (b1 .0), ltb-true (endOf h o) (h .ticks) (b3 .0), b4 .1)
+
+  -- so many of a party fit below the ticks
+  fit : (p d : ℕ) → ((j : ℕ) → eqb (party j) p ≡ true → begun j + d ≤ done j) → count (λ j. eqb (party j) p) (h .operations) * (d + 1) ≤ 128
+  unfolding mine ended
+  fit p d f =
+      let n = h .operations in
+      let below = all-from (λ j. not (eqb (party j) p) || ltb (done j) (h .ticks)) n (λ j l. rw (lt-ltb (done j) (h .ticks) (each j l .1)) (or-true (not (eqb (party j) p)))) in
+      let waits : (j : ℕ) → j < n → eqb (party j) p ≡ true → ended party done j p (begun j) ≡ true = λ j l e. rw (eqb-true (party j) p e) at (each j l .2) in
+      omega (arith, apart party begun done p d n (λ j l. f j) waits n (h .ticks) (omega arith) below)
+
+  -- 64 writes
+  writes-few : count (λ j. eqb (party j) 0) (h .operations) ≤ 64
+  unfolding party begun done endOf
+  writes-few =
+      let c = count (λ j. eqb (party j) 0) (h .operations) in
+      let m = fit 0 (h .delta) (λ j e. rw e (omega arith)) in
+      omega (arith, mul-le-mul-left {m = 2} {n = h .delta + 1} c (omega arith))
+
+  -- 42 reads of one reader
+  reads-few : (p : ℕ) → 1 ≤ p → count (λ j. eqb (party j) p) (h .operations) ≤ 42
+  unfolding party begun done endOf
+  reads-few p l =
+      let c = count (λ j. eqb (party j) p) (h .operations) in
+      let m = fit p (2 * h .delta) (λ j e. rw (ne-eqb (operationOf 16 s h j .party) 0 (λ z. omega (arith, eqb-true (operationOf 16 s h j .party) p e))) (omega arith)) in
+      omega (arith, mul-le-mul-left {m = 3} {n = 2 * h .delta + 1} c (omega arith))
+
+  -- 232 operations
+  pub operations-few : h .operations ≤ 232
+  operations-few =
+      let all = five-parties party (h .operations) (λ j l. omega (arith, each j l .0)) in
+      let one : (p : ℕ) → 1 ≤ p → count (λ j. eqb (party j) p) (h .operations) ≤ 42 = reads-few in
+      omega (arith, all, writes-few, one 1 (omega arith), one 2 (omega arith), one 3 (omega arith), one 4 (omega arith))
+
+-- 'An accepted plan has at most 34,362 bytes.'
+pub longest : (s : List ℕ) (m : ℕ) → checkOf 16 s ≡ result m → length s ≤ 34362
+longest s m e =
+    let h = headerOf 16 s in
+    let z = accepted-sizes s m e in
+    let r = z .ranged in
+    let o = operations-few s h r (T-eq (operationsStand 16 s h) (accepted 16 s m e .operations)) in
+    let t = table-few (h .ticks) (parties h) (omega arith) (omega arith) in
+    omega arith

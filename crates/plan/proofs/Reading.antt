@@ -1,0 +1,83 @@
+-- The reads among a table of operations: counted, and tested, by an index that rises.
+-- It stands on the definitions of the plan's parts.
+use mathlib.Core.Path.{_≡_, refl, ap, _∙_}
+use mathlib.Core.Bool.{Bool, true, false, not, _&&_, _||_, cond}
+use mathlib.Core.List.{List, [], _∷_, _++_, map}
+use Prim.Native.Nat.{ℕ, zero, suc, _+_}
+use native.Mathlib.Nat.{add-zero, zero-add}
+use native.Mathlib.Numerals.{add-one}
+use native.Mathlib.Omega.{arith}
+use lib.Dec.{eqb}
+use lib.ListN.{length, length-append}
+use Rattle.register.specs.Lists.{count, one-if, anyUpTo, any, filter, tab, tabFrom}
+use Rattle.register.specs.Plan.{Read}
+use Rattle.register.proofs.Lists.{any-append}
+use Rattle.plan.specs.Parts.{Operation, readsFrom}
+
+abbrev pub isRead : Operation → Bool
+isRead o = not (eqb (o .party) 0)
+
+abbrev pub readOf : Operation → Read
+readOf o = record { begun = o .at; reader = o .party }
+
+-- a table grows at its end
+tab-last : {A : Type 0} (a n : ℕ) (g : ℕ → A) → tabFrom a (suc n) g ≡ tabFrom a n g ++ (g (a + n) ∷ [])
+unfolding tabFrom
+tab-last a zero g = rw add-zero
+tab-last a (suc n) g = ap (λ l. g a ∷ l) (tab-last (suc a) n g ∙ ap (λ k. tabFrom (suc a) n g ++ (g k ∷ [])) (omega arith))
+
+reads-append : (l m : List Operation) → readsFrom (l ++ m) ≡ readsFrom l ++ readsFrom m
+unfolding readsFrom filter
+reads-append [] m = refl
+reads-append (o ∷ l) m = go (isRead o) (reads-append l m)
+  where
+    go : (b : Bool) → readsFrom (l ++ m) ≡ readsFrom l ++ readsFrom m
+        → map readOf (cond b (o ∷ filter isRead (l ++ m)) (filter isRead (l ++ m))) ≡ map readOf (cond b (o ∷ filter isRead l) (filter isRead l)) ++ readsFrom m
+    go true e = ap (λ r. readOf o ∷ r) e
+    go false e = e
+
+reads-last : (n : ℕ) (g : ℕ → Operation) → readsFrom (tab (suc n) g) ≡ readsFrom (tab n g) ++ cond (isRead (g n)) (readOf (g n) ∷ []) []
+unfolding readsFrom filter
+reads-last n g = ap readsFrom (tab-last 0 n g) ∙ reads-append (tab n g) (g (0 + n) ∷ []) ∙ rw (zero-add n) (ap (λ r. readsFrom (tab n g) ++ r) (go (isRead (g n))))
+  where
+    go : (b : Bool) → map readOf (cond b (g n ∷ []) []) ≡ cond b (readOf (g n) ∷ []) []
+    go true = refl
+    go false = refl
+
+pub length-reads : (n : ℕ) (g : ℕ → Operation) → length (readsFrom (tab n g)) ≡ count (λ j. isRead (g j)) n
+unfolding count readsFrom filter tabFrom
+length-reads zero g = refl
+length-reads (suc n) g = ap length (reads-last n g) ∙ length-append (readsFrom (tab n g)) _ ∙ rw (length-reads n g) (go (isRead (g n)))
+  where
+    go : (b : Bool) → count (λ j. isRead (g j)) n + length (cond b (readOf (g n) ∷ []) []) ≡ one-if b + count (λ j. isRead (g j)) n
+    go true = omega arith
+    go false = omega arith
+
+or-comm : (a b : Bool) → a || b ≡ b || a
+or-comm true true = refl
+or-comm true false = refl
+or-comm false true = refl
+or-comm false false = refl
+
+pub any-reads : (p : Read → Bool) (n : ℕ) (g : ℕ → Operation) → any p (readsFrom (tab n g)) ≡ anyUpTo n (λ j. isRead (g j) && p (readOf (g j)))
+unfolding anyUpTo any readsFrom filter tabFrom
+any-reads p zero g = refl
+any-reads p (suc n) g =
+    let rest : Bool = anyUpTo n (λ j. isRead (g j) && p (readOf (g j))) in
+    let here : List Read = cond (isRead (g n)) (readOf (g n) ∷ []) [] in
+    ap (any p) (reads-last n g)
+    ∙ any-append p (readsFrom (tab n g)) here
+    ∙ rw (any-reads p n g) (or-comm rest (any p here) ∙ ap (λ b. b || rest) (go (isRead (g n))))
+  where
+    go : (b : Bool) → any p (cond b (readOf (g n) ∷ []) []) ≡ b && p (readOf (g n))
+    go true = or-comm (p (readOf (g n))) false
+    go false = refl
+
+-- one more index
+pub count-yes : (g : ℕ → Bool) (n : ℕ) → g n ≡ true → count g (n + 1) ≡ count g n + 1
+unfolding count
+count-yes g n t = rw (add-one, t) (omega arith)
+
+pub count-no : (g : ℕ → Bool) (n : ℕ) → g n ≡ false → count g (n + 1) ≡ count g n
+unfolding count
+count-no g n t = rw (add-one, t) (omega arith)

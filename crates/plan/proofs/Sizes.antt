@@ -1,0 +1,27 @@
+-- What an accepted plan has of sizes: what the code's header functions require.
+-- It stands on what Check accepts and on the ranges of the header.
+use mathlib.Core.Path.{_≡_}
+use mathlib.Core.List.{List}
+use Prim.Native.Nat.{ℕ}
+use native.Mathlib.Omega.{arith}
+use lib.ListN.{length}
+use Rattle.register.proofs.Logic.{T-eq}
+use Rattle.plan.specs.Header.{Header, headerOf, moves, parties, bitLength}
+use Rattle.plan.specs.Check.{result, checkOf, bytesFor, headerInRange}
+use Rattle.plan.specs.Shape.{Ranged, Sized}
+use Rattle.plan.proofs.Laws.{moves-few, table-few}
+use Rattle.plan.proofs.Ranges.{ranged-header}
+use Rattle.plan.proofs.Accept.{accepted, exact}
+
+pub sizes : (s : List ℕ) (h : Header) → Ranged h → length s ≡ bytesFor (bitLength 16 h) → Sized s h
+unfolding moves
+sizes s h r e =
+    let m = moves-few (h .ticks) (h .period) (omega arith) in
+    let t = table-few (h .ticks) (parties h) (omega arith) (omega arith) in
+    record { ranged = r; size = e; moves-hi = omega arith; bits-hi = omega arith }
+
+pub accepted-sizes : (s : List ℕ) (m : ℕ) → checkOf 16 s ≡ result m → Sized s (headerOf 16 s)
+accepted-sizes s m e =
+    let A = accepted 16 s m e in
+    let h = headerOf 16 s in
+    sizes s h (ranged-header s (T-eq (headerInRange h) (A .header))) (exact 16 s A)
