@@ -2,3 +2,11 @@ pub mod BitLaws
 pub mod StoreLaws
 pub mod StageLaws
 pub mod Sizes
+pub mod PullLaws
+pub mod RowLaws
+pub mod ForgeLaws
+pub mod TickLaws
+pub mod Order
+pub mod RepLaws
+pub mod Arrive
+pub mod StateLaws

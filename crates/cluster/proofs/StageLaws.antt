@@ -6,17 +6,18 @@ use mathlib.Core.List.{List, []}
 use Prim.Native.Nat.{ℕ, suc, _+_, _^_, _≤_, _<_}
 use native.Mathlib.Omega.{arith}
 use native.Mathlib.Numerals.{add-one}
-use lib.Dec.{leb}
+use lib.Dec.{leb, ltb}
 use lib.ListN.{take, replicate}
 use lib.Bits.{bitOr, bitAnd}
 use lib.Count.{ones}
 use borrow.Author.Tests.{le-leb, lt-leb}
 use Rattle.register.specs.Lists.{count, sameList}
 use Rattle.register.specs.Server.{Status, faulty, isFaulty, isCorrect, curedAt, insert}
+use Rattle.register.proofs.Logic.{cond-ap}
 use Rattle.register.proofs.Counting.{count-none}
 use Rattle.cluster.specs.Bits.{bit, sets}
 use Rattle.cluster.specs.Stored.{Plain, Said, Both}
-use Rattle.cluster.specs.Stages.{nobody, noVotes, blankAs, restated, wiped, cureEnded, quorate, taken, voting, withWrite, repliesTo, delivered, stageOne, stageTwo, movedOn, stageFour}
+use Rattle.cluster.specs.Stages.{nobody, noVotes, blankAs, restated, written, wiped, cureEnded, quorate, taken, voting, withWrite, repliesTo, delivered, stageOne, stageTwo, movedOn, stageFour}
 use Rattle.cluster.proofs.BitLaws.{bit-zero, bit-or, bit-and, unmarked, ones-count, ones-either}
 
 pub zero-table : sets (replicate 65 0) ≡ noVotes
@@ -69,10 +70,13 @@ replied-law r a p c s false s' e f g = rw (e, f) zero-set
 pub pending-law : (p l a : ℕ) → _≡_ {A = ℕ → Bool} (λ x. bit x (bitOr (bitAnd p l) a)) (λ x. (bit x p && bit x l) || bit x a)
 pending-law p l a = fun-ext (λ x. rw (bit-or x (bitAnd p l) a, bit-and x p l))
 
+pub write-kept : (g : ℕ → ℕ) (m w : ℕ) (s : Plain) → withWrite g m w s .kept ≡ cond (ltb w m) (take 3 (insert (g w) (s .kept))) (s .kept)
+write-kept g m w s = cond-ap (λ (x : Plain). x .kept) (ltb w m) (written (g w) s) s
+
 -- a WRITE changes the store only
 pub write-rest : (g : ℕ → ℕ) (m w : ℕ) (s : Plain) (r : Plain) → r ≡ withWrite g m w s
     → (r .status ≡ s .status) × (r .pending ≡ s .pending) × (r .old ≡ s .old) × (r .kept ≡ withWrite g m w s .kept)
-write-rest g m w s r e = rw e (go (lib.Dec.ltb w m))
+write-rest g m w s r e = rw e (go (ltb w m))
   where
     x : Bool → Plain
     x b = cond b (record { status = s .status; kept = take 3 (insert (g w) (s .kept)); pending = s .pending; fresh = s .fresh; old = s .old }) s

@@ -12,13 +12,17 @@ use Rattle.cluster.specs.declared.Links.{Links}
 abbrev pub byteAt : List ℕ → ℕ → ℕ → ℕ
 byteAt work row k = getD work (8 * row + k) 0
 
+-- its first byte: the number voted for on receipt of a WRITE
+abbrev pub wroteAt : List ℕ → ℕ → ℕ
+wroteAt work row = getD work (8 * row) 0
+
 -- the row names pair j among the pairs kept
 unfoldable pub keptIn : List ℕ → ℕ → ℕ → Bool
 keptIn work row j = eqb j (byteAt work row 3) || (eqb j (byteAt work row 4) || eqb j (byteAt work row 5))
 
 -- the row has a vote for pair j
 unfoldable pub votedIn : List ℕ → ℕ → ℕ → Bool
-votedIn work row j = eqb j (byteAt work row 0) || (eqb (byteAt work row 1) 1 && keptIn work row j)
+votedIn work row j = eqb j (wroteAt work row) || (eqb (byteAt work row 1) 1 && keptIn work row j)
 
 -- byte k of the forged entry e
 abbrev pub entryAt : List ℕ → ℕ → ℕ → ℕ

@@ -2,4 +2,8 @@ pub mod Bits
 pub mod Layout
 pub mod Stored
 pub mod Stages
+pub mod Pull
+pub mod Rows
 pub mod Inputs
+pub mod Tick
+pub mod State

@@ -6,6 +6,7 @@ use lib.Dec.{eqb, leb, ltb}
 use lib.ListN.{take}
 use Rattle.register.specs.Lists.{count, sameList}
 use Rattle.register.specs.Server.{Status, faulty, cured, correct, isFaulty, isCorrect, curedAt, insert}
+use Rattle.cluster.specs.declared.Rules.{Rules}
 use Rattle.cluster.specs.Stored.{Plain, Said, Both}
 
 abbrev pub nobody : ℕ → Bool
@@ -100,3 +101,9 @@ unfoldable pub stageFour : Bool → Bool → ℕ → Both → Both
 stageFour two now-faulty t o =
     let s : Plain = movedOn two now-faulty t (o .server) in
     record { server = s; said = record { wrote = o .said .wrote; echoed = isCorrect (s .status); readers = o .said .readers; pairs = o .said .pairs } }
+
+-- all stages
+unfoldable pub stagesOf : (ℕ → ℕ) → ℕ → Rules → ℕ → (ℕ → ℕ → Bool) → (ℕ → Bool) → (ℕ → Bool) → Bool → Bool → ℕ → Plain → Both
+stagesOf g m rules w votes asks live moving now-faulty t s =
+    let second : Both = stageTwo (rules .delta) t (stageOne g m (rules .echo) (rules .reply) w votes asks live s) in
+    cond moving (stageFour (rules .two) now-faulty t second) second

@@ -1,7 +1,9 @@
 // The cluster as the engine keeps it, and what a tick is fed. Pairs are known by number: pair 0 is the initial one, pair j the j-th write.
+pub mod log;
 pub mod servers;
 pub mod stages;
 pub mod store;
+pub mod tick;
 
 // A place of a store: a stamped value (document 01: a pair), or empty.
 pub struct Stamped {
@@ -70,6 +72,17 @@ pub struct Movement {
 pub struct Window {
     pub from: usize,
     pub to: usize,
+}
+
+// All that a tick is fed beside the plan and the workspace.
+pub struct Feed {
+    pub t: u8,
+    pub rules: Rules,
+    pub known: Known,
+    pub links: Links,
+    pub arrivals: Arrivals,
+    pub movement: Movement,
+    pub window: Window,
 }
 
 // What a server sends in a tick: its row of the log.

@@ -1,0 +1,158 @@
+-- Taking in depends only on the set of candidates, so the engine may take in the WRITE's pair first and then the known pairs by number.
+-- It stands on register's laws of stores.
+use mathlib.Core.Path.{_≡_, refl, sym, ap, _∙_}
+use mathlib.Core.Bool.{Bool, true, false, _||_, cond}
+use mathlib.Core.Logic.{_⊎_, inl, inr}
+use mathlib.Core.List.{List, [], _∷_, _++_}
+use Prim.Native.Nat.{ℕ, zero, suc, _≤_, _<_}
+use native.Mathlib.Omega.{arith}
+use native.Mathlib.Decide.{ℕ-discrete}
+use lib.Dec.{T, ltb, eqb, eqb→eq, eqb-refl, ltb→lt, lt→ltb}
+use lib.ListN.{length, take, length-take}
+use lib.Seq.{take-take, take-all}
+use Rattle.register.specs.Lists.{In}
+use Rattle.register.specs.Server.{insert, insertAll, takeIn}
+use Rattle.register.proofs.Logic.{or-e, or-l, or-r, T-eq}
+use Rattle.register.proofs.Lists.{in-append, in-left, in-right}
+use Rattle.register.proofs.Stores.{Falling, in-insertAll, falling-insertAll, insertAll-in}
+use Rattle.cluster.specs.Stages.{taken}
+
+-- two falling lists with the same members are equal
+falling-ext : (l m : List ℕ) → Falling l → Falling m → ((q : ℕ) → In q l → In q m) → ((q : ℕ) → In q m → In q l) → l ≡ m
+falling-ext [] [] d e f g = refl
+falling-ext [] (y ∷ m) d e f g = absurd (g y (inl refl))
+falling-ext (x ∷ l) [] d e f g = absurd (f x (inl refl))
+falling-ext (x ∷ l) (y ∷ m) d e f g =
+    let h : x ≡ y = head (f x (inl refl)) (g y (inl refl)) in
+    rw h (ap (λ (k : List ℕ). y ∷ k) (falling-ext l m (d .1) (e .1) (λ q i. right q h i (f q (inr i))) (λ q i. left q h i (g q (inr i)))))
+  where
+    head : In x (y ∷ m) → In y (x ∷ l) → x ≡ y
+    head (inl a) b = a
+    head (inr a) (inl b) = sym b
+    head (inr a) (inr b) = absurd (omega (arith, e .0 x a, d .0 y b))
+
+    right : (q : ℕ) → x ≡ y → In q l → In q (y ∷ m) → In q m
+    right q h i (inl a) = absurd (omega (arith, d .0 q i))
+    right q h i (inr a) = a
+
+    left : (q : ℕ) → x ≡ y → In q m → In q (x ∷ l) → In q l
+    left q h i (inl a) = absurd (omega (arith, e .0 q i))
+    left q h i (inr a) = a
+
+-- what is cut off does not matter for what is put in later
+take-insert : (k p : ℕ) (l : List ℕ) → take k (insert p (take k l)) ≡ take k (insert p l)
+unfolding insert
+take-insert zero p l = refl
+take-insert (suc k) p [] = refl
+take-insert (suc k) p (x ∷ l) = go (ltb x p) (eqb x p) (take-insert k p l)
+  where
+    more : (k : ℕ) → take k (x ∷ take k l) ≡ take k (x ∷ l)
+    more zero = refl
+    more (suc k) = ap (λ (m : List ℕ). x ∷ m) (take-take k (suc k) l (omega arith))
+
+    go : (a b : Bool) → take k (insert p (take k l)) ≡ take k (insert p l)
+        → take (suc k) (cond a (p ∷ x ∷ take k l) (cond b (x ∷ take k l) (x ∷ insert p (take k l)))) ≡ take (suc k) (cond a (p ∷ x ∷ l) (cond b (x ∷ l) (x ∷ insert p l)))
+    go true b ih = ap (λ (m : List ℕ). p ∷ m) (more k)
+    go false true ih = ap (λ (m : List ℕ). x ∷ m) (take-take k k l (omega arith))
+    go false false ih = ap (λ (m : List ℕ). x ∷ m) ih
+
+take-insertAll : (k : ℕ) (ps l : List ℕ) → take k (insertAll ps (take k l)) ≡ take k (insertAll ps l)
+unfolding insertAll
+take-insertAll k [] l = take-take k k l (omega arith)
+take-insertAll k (p ∷ ps) l = sym (take-insertAll k ps (insert p (take k l))) ∙ rw (take-insert k p l) (take-insertAll k ps (insert p l))
+
+-- taking in depends only on the set of candidates
+take-in-set : (k : ℕ) (ps qs l : List ℕ) → Falling l → ((q : ℕ) → In q ps → In q qs) → ((q : ℕ) → In q qs → In q ps) → takeIn k ps l ≡ takeIn k qs l
+unfolding takeIn
+take-in-set k ps qs l d f g =
+    ap (take k) (falling-ext (insertAll ps l) (insertAll qs l) (falling-insertAll ps l d) (falling-insertAll qs l d) (to ps qs f) (to qs ps g))
+  where
+    to : (a b : List ℕ) → ((q : ℕ) → In q a → In q b) → (q : ℕ) → In q (insertAll a l) → In q (insertAll b l)
+    to a b f q i = insertAll-in q b l (elim (in-insertAll q a l i) [ inl x ↦ inl (f q x) | inr y ↦ inr y ])
+
+-- ---- by number
+
+-- the pairs 0 .. m - 1 that pass
+unfoldable picked : (ℕ → Bool) → (ℕ → ℕ) → ℕ → List ℕ
+picked c g zero = []
+picked c g (suc j) = picked c g j ++ cond (c j) (g j ∷ []) []
+
+all-append : (a b l : List ℕ) → insertAll (a ++ b) l ≡ insertAll b (insertAll a l)
+unfolding insertAll
+all-append [] b l = refl
+all-append (x ∷ a) b l = all-append a b (insert x l)
+
+taken-picked : (c : ℕ → Bool) (g : ℕ → ℕ) (m : ℕ) (l : List ℕ) → length l ≤ 3 → taken c g m l ≡ takeIn 3 (picked c g m) l
+unfolding taken picked takeIn insertAll
+taken-picked c g zero l h = sym (take-all 3 l h)
+taken-picked c g (suc j) l h = rw (taken-picked c g j l h, all-append (picked c g j) (cond (c j) (g j ∷ []) []) l) (go (c j))
+  where
+    go : (b : Bool) → cond b (take 3 (insert (g j) (take 3 (insertAll (picked c g j) l)))) (take 3 (insertAll (picked c g j) l)) ≡ take 3 (insertAll (cond b (g j ∷ []) []) (insertAll (picked c g j) l))
+    go true = take-insert 3 (g j) (insertAll (picked c g j) l)
+    go false = refl
+
+picked-in : (c : ℕ → Bool) (g : ℕ → ℕ) (m j : ℕ) → j < m → T (c j) → In (g j) (picked c g m)
+unfolding picked
+picked-in c g zero j h t = absurd (omega arith)
+picked-in c g (suc m) j h t = go (ℕ-discrete j m) (λ l. picked-in c g m j l t)
+  where
+    one : (b : Bool) → T b → In (g m) (cond b (g m ∷ []) [])
+    one true t = inl refl
+    one false t = absurd t
+
+    go : Dec (j ≡ m) → (j < m → In (g j) (picked c g m)) → In (g j) (picked c g m ++ cond (c m) (g m ∷ []) [])
+    go (yes e) ih = rw e (in-right (g m) (picked c g m) _ (one (c m) (rw e at t)))
+    go (no d) ih = in-left (g j) (picked c g m) _ (ih (omega arith))
+
+in-picked : (c : ℕ → Bool) (g : ℕ → ℕ) (m q : ℕ) → In q (picked c g m) → (j : ℕ) × (j < m) × T (c j) × (q ≡ g j)
+unfolding picked
+in-picked c g zero q i = absurd i
+in-picked c g (suc m) q i = go (in-append q (picked c g m) _ i) (in-picked c g m q)
+  where
+    Res : ℕ → Type 0
+    Res k = (j : ℕ) × (j < k) × T (c j) × (q ≡ g j)
+
+    one : (b : Bool) → c m ≡ b → In q (cond b (g m ∷ []) []) → Res (suc m)
+    one true e (inl h) = (m, omega arith, rw e tt, h)
+    one true e (inr h) = absurd h
+    one false e h = absurd h
+
+    go : In q (picked c g m) ⊎ In q (cond (c m) (g m ∷ []) []) → (In q (picked c g m) → Res m) → Res (suc m)
+    go (inl h) ih = let r = ih h in (r .0, omega arith, r .2, r .3)
+    go (inr h) ih = one (c m) refl h
+
+-- the WRITE's pair first, then the others by number, is taking in, for the same set
+pub by-number : (c : ℕ → Bool) (g : ℕ → ℕ) (m w : ℕ) (ps l : List ℕ) → Falling l → length l ≤ 3
+    → ((q : ℕ) → In q ps → (j : ℕ) × (j < m) × T (eqb j w || c j) × (q ≡ g j)) → ((j : ℕ) → j < m → T (eqb j w || c j) → In (g j) ps)
+    → takeIn 3 ps l ≡ taken c g m (cond (ltb w m) (take 3 (insert (g w) l)) l)
+unfolding takeIn insertAll
+by-number c g m w ps l d h f k = go (ltb w m) refl
+  where
+    others : (q : ℕ) → In q (picked c g m) → In q ps
+    others q i = let r = in-picked c g m q i in rw (r .3) (k (r .0) (r .1) (or-r (eqb (r .0) w) (c (r .0)) (r .2)))
+
+    go : (b : Bool) → ltb w m ≡ b → takeIn 3 ps l ≡ taken c g m (cond b (take 3 (insert (g w) l)) l)
+    go false e = take-in-set 3 ps (picked c g m) l d to others ∙ sym (taken-picked c g m l h)
+      where
+        to : (q : ℕ) → In q ps → In q (picked c g m)
+        to q i =
+            let r = f q i in
+            elim (or-e (eqb (r .0) w) (c (r .0)) (r .2)) [
+              | inl x ↦ absurd (rw e at (lt→ltb w m (omega (arith, r .1, eqb→eq (r .0) w x))))
+              | inr y ↦ rw (r .3) (picked-in c g m (r .0) (r .1) y)
+            ]
+    go true e =
+        take-in-set 3 ps (g w ∷ picked c g m) l d to from
+        ∙ sym (taken-picked c g m (take 3 (insert (g w) l)) (omega (arith, length-take 3 (insert (g w) l))) ∙ take-insertAll 3 (picked c g m) (insert (g w) l))
+      where
+        to : (q : ℕ) → In q ps → In q (g w ∷ picked c g m)
+        to q i =
+            let r = f q i in
+            elim (or-e (eqb (r .0) w) (c (r .0)) (r .2)) [
+              | inl x ↦ inl (r .3 ∙ ap g (eqb→eq (r .0) w x))
+              | inr y ↦ inr (rw (r .3) (picked-in c g m (r .0) (r .1) y))
+            ]
+
+        from : (q : ℕ) → In q (g w ∷ picked c g m) → In q ps
+        from q (inl x) = rw x (k w (ltb→lt w m (rw e tt)) (or-l (eqb w w) (c w) (eqb-refl w)))
+        from q (inr y) = others q y

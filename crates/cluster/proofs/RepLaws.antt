@@ -1,0 +1,408 @@
+-- The engine's stages keep the relation with the step rules: what they make of a server that stands for the definitions' server stands for
+-- what the definitions make of it. Every quorate pair is genuine, and so a known one. It stands on Order and on register's safety.
+use mathlib.Core.Path.{_≡_, refl, sym, ap, _∙_, fun-ext}
+use mathlib.Core.Bool.{Bool, true, false, not, _&&_, _||_, cond}
+use mathlib.Core.Logic.{_⊎_, inl, inr}
+use mathlib.Core.List.{List, [], _∷_, _++_}
+use Prim.Native.Nat.{ℕ, zero, suc, _+_, _*_, _/_, _≤_, _<_}
+use native.Mathlib.Omega.{arith}
+use native.Mathlib.Decide.{decLe, ℕ-discrete}
+use lib.Dec.{T, leb, ltb, eqb, eqb→eq, eqb-refl, T-not}
+use lib.ListN.{length, take, length-take}
+use borrow.Author.Tests.{lt-ltb, le-ltb, ne-eqb}
+use Rattle.register.specs.Lists.{count, one-if, any, filter, In, member, sameList}
+use Rattle.register.specs.Plan.{Plan, Write, Read, kk, echoQuorum, replyQuorum, isMove, readEnd}
+use Rattle.register.specs.Server.{Status, faulty, cured, correct, isFaulty, isCorrect, curedAt, Claim, has, pairsOf, Server, Sent, nothing, Out, insert, insertAll, takeIn, quorum, votedIn, deliver, stage1, stage2, stage3, stage4, blank, moved}
+use Rattle.register.specs.Reading.{sameRead}
+use Rattle.register.proofs.Logic.{or-e, or-l, or-r, T-eq, F-eq}
+use Rattle.register.proofs.Lists.{in-append, in-left, in-right, in-filter, filter-in, any-in, in-any, any-append}
+use Rattle.register.proofs.Good.{Good}
+use Rattle.register.proofs.Genuine.{Genuine, genuine-cases}
+use Rattle.register.proofs.Stores.{Falling}
+use Rattle.register.proofs.Claims.{quorum-named}
+use Rattle.register.proofs.Safety.{FreshSafe, OldSafe, ServerSafe, voted-genuine}
+use Rattle.cluster.specs.Stored.{Plain, Said, Both}
+use Rattle.cluster.specs.Stages.{nobody, noVotes, blankAs, restated, silent, turned, quorate, taken, voting, withWrite, repliesTo, delivered, stageOne, stageTwo, movedOn, stageFour}
+use Rattle.cluster.specs.Inputs.{Knows}
+use Rattle.cluster.specs.State.{Votes, Rep}
+use Rattle.cluster.proofs.StageLaws.{write-kept}
+use Rattle.cluster.proofs.PullLaws.{and-none, or-none}
+use Rattle.cluster.proofs.Order.{by-number}
+
+-- ---- counting by masks
+
+count-in : (p : ℕ → Bool) (n k : ℕ) → k ≤ n → count (λ i. ltb i n && p i) k ≡ count p k
+unfolding count
+count-in p n zero h = refl
+count-in p n (suc k) h = rw (lt-ltb k n (omega arith), count-in p n k (omega arith))
+
+-- members past n do not count
+pub count-cut : (p : ℕ → Bool) (n k : ℕ) → n ≤ k → count (λ i. ltb i n && p i) k ≡ count p n
+unfolding count
+count-cut p n zero h = let e : n ≡ 0 = omega arith in rw e
+count-cut p n (suc k) h = go (decLe n k) (λ l. count-cut p n k l)
+  where
+    go : Dec (n ≤ k) → (n ≤ k → count (λ i. ltb i n && p i) k ≡ count p n) → one-if (ltb k n && p k) + count (λ i. ltb i n && p i) k ≡ count p n
+    go (yes l) ih = rw (le-ltb k n l) (omega (arith, ih l))
+    go (no l) ih = let e : n ≡ suc k = omega arith in rw e (count-in p (suc k) (suc k) (omega arith))
+
+both-in : (a b c : Bool) → (a && b) || (a && c) ≡ a && (b || c)
+both-in true b c = refl
+both-in false b c = refl
+
+-- ---- what a server sent and what its row says, in tick t
+
+module _ (P : Plan) (g : ℕ → ℕ) (m : ℕ) where
+  pub record Told (t : ℕ) (o : Sent) (q : Said) : Type 0 where
+    pub votes : (j : ℕ) → j < m → member (g j) (o .votes) ≡ eqb j (q .wrote) || (q .echoed && member (g j) (q .pairs))
+    pub readers : (r : Read) → In r (P .reads) → r .begun < t → t ≤ readEnd P r → any (sameRead r) (o .replyTo) ≡ q .readers (r .reader)
+    pub pairs : o .replyWith ≡ q .pairs
+    pub short : length (q .pairs) ≤ 3
+    pub early : (r : Read) → In r (P .reads) → t ≤ r .begun → any (sameRead r) (o .replyTo) ≡ false
+
+  -- after stages 1 and 2
+  pub record Mid (t : ℕ) (o : Out) (q : Both) : Type 0 where
+    pub server : Rep P g m (suc t) (o .server) (q .server)
+    pub sent : Told t (o .sent) (q .said)
+    pub whole : T (not (isFaulty (o .server .status))) → o .sent .replyWith ≡ o .server .kept
+    pub quiet : q .said .echoed ≡ false
+
+  -- after the tick
+  pub record End (t : ℕ) (o : Out) (q : Both) : Type 0 where
+    pub server : Rep P g m (suc t) (o .server) (q .server)
+    pub sent : Told t (o .sent) (q .said)
+
+  -- what arrives in tick t: the number w of the WRITE, the votes with those that were there, the readers asking, and those whose read did
+  -- not begin in tick t - 1
+  pub record Came (t : ℕ) (x : Server) (ws : List ℕ) (vs : List Claim) (rs : List Read) (w : ℕ) (votes : ℕ → ℕ → Bool) (asks live : ℕ → Bool) : Type 0 where
+    pub wrote : (j : ℕ) → j < m → member (g j) ws ≡ eqb j w
+    pub tally : isFaulty (x .status) ≡ false → Votes P g m (x .fresh ++ vs) votes
+    pub asking : (r : Read) → In r (P .reads) → r .begun < t → t ≤ readEnd P r → any (sameRead r) rs ≡ asks (r .reader)
+    pub later : (r : Read) → In r (P .reads) → t ≤ r .begun → any (sameRead r) rs ≡ false
+    pub lasting : (r : Read) → In r (P .reads) → suc (r .begun) < t → t ≤ readEnd P r → live (r .reader) ≡ true
+    pub began : (r : Read) → In r (P .reads) → suc (r .begun) ≡ t → live (r .reader) ≡ false
+
+module _ (P : Plan) (G : Good P) (g : ℕ → ℕ) (m : ℕ) (K : Knows P g m) where
+  -- a genuine pair has a number
+  pub genuine-known : (t p : ℕ) → Genuine P t p → (j : ℕ) × (j < m) × (p ≡ g j)
+  genuine-known t p h = elim (genuine-cases P t p h) [
+    | inl e ↦ (0, K .first .0, e ∙ K .first .1)
+    | inr w ↦ (let r = K .write (w .0) (w .1) in (r .0, r .1, sym (w .2) ∙ r .2))
+  ]
+
+  -- the engine's test of a quorum is that of the step rules
+  quorate-is : (fresh old : List Claim) (f o : ℕ → Bool) (p : ℕ) → ((i : ℕ) → f i ≡ (ltb i (P .n) && has fresh p i)) → ((i : ℕ) → o i ≡ (ltb i (P .n) && has old p i))
+      → quorate (echoQuorum P) (replyQuorum P) f o ≡ quorum P fresh old p
+  unfolding quorum
+  quorate-is fresh old f o p hf ho =
+      let a : count f 16 ≡ count (λ i. has fresh p i) (P .n) = ap (λ (q : ℕ → Bool). count q 16) (fun-ext hf) ∙ count-cut (λ i. has fresh p i) (P .n) 16 (K .servers) in
+      let b : count (λ i. f i || o i) 16 ≡ count (λ i. has fresh p i || has old p i) (P .n) =
+      ap (λ (q : ℕ → Bool). count q 16) (fun-ext (λ i. rw (hf i, ho i) (both-in (ltb i (P .n)) (has fresh p i) (has old p i)))) ∙ count-cut (λ i. has fresh p i || has old p i) (P .n) 16 (K .servers) in
+      rw (a, b)
+
+  -- what is taken in
+  kept-rep : (t c : ℕ) (x : Server) (ws : List ℕ) (fresh : List Claim) (w : ℕ) (votes old : ℕ → ℕ → Bool) → Falling (x .kept) → length (x .kept) ≤ 3
+      → ((p : ℕ) → In p ws → Genuine P t p) → ((v : Claim) → In v fresh → FreshSafe P t c v) → ((v : Claim) → In v (x .old) → OldSafe P t c v)
+      → Votes P g m fresh votes → Votes P g m (x .old) old → ((j : ℕ) → j < m → member (g j) ws ≡ eqb j w)
+      → takeIn 3 (ws ++ votedIn P fresh (x .old)) (x .kept) ≡ taken (voting (echoQuorum P) (replyQuorum P) votes old) g m (cond (ltb w m) (take 3 (insert (g w) (x .kept))) (x .kept))
+  unfolding votedIn
+  kept-rep t c x ws fresh w votes old d l wok vok ook ev eo ew =
+      by-number cnd g m w (ws ++ qs) (x .kept) d l to from
+    where
+      qs : List ℕ
+      qs = filter (quorum P fresh (x .old)) (pairsOf (fresh ++ x .old))
+
+      cnd : ℕ → Bool
+      cnd j = quorate (echoQuorum P) (replyQuorum P) (votes j) (old j)
+
+      same : (j : ℕ) → j < m → cnd j ≡ quorum P fresh (x .old) (g j)
+      same j h = quorate-is fresh (x .old) (votes j) (old j) (g j) (λ i. ev j i h) (λ i. eo j i h)
+
+      by-write : (q j : ℕ) → j < m → q ≡ g j → In q ws → T (eqb j w || cnd j)
+      by-write q j h e i = or-l (eqb j w) _ (rw (ew j h) at (in-any (λ p. eqb p (g j)) q ws i (rw e (eqb-refl (g j)))))
+
+      by-votes : (q j : ℕ) → j < m → q ≡ g j → T (quorum P fresh (x .old) q) → T (eqb j w || cnd j)
+      by-votes q j h e y = or-r (eqb j w) _ (rw (same j h) (rw e at y))
+
+      to : (q : ℕ) → In q (ws ++ qs) → (j : ℕ) × (j < m) × T (eqb j w || cnd j) × (q ≡ g j)
+      to q i = elim (in-append q ws qs i) [
+        | inl a ↦ (let k = genuine-known t q (wok q a) in (k .0, k .1, by-write q (k .0) (k .1) (k .2) a, k .2))
+        | inr a ↦ (let f = in-filter (quorum P fresh (x .old)) q (pairsOf (fresh ++ x .old)) a in
+            let k = genuine-known t q (voted-genuine P G t c fresh (x .old) vok ook q (f .1)) in
+            (k .0, k .1, by-votes q (k .0) (k .1) (k .2) (f .1), k .2))
+      ]
+
+      from : (j : ℕ) → j < m → T (eqb j w || cnd j) → In (g j) (ws ++ qs)
+      from j h y = elim (or-e (eqb j w) _ y) [
+        | inl a ↦ (let e : T (member (g j) ws) = rw (ew j h) a in
+            let r = any-in (λ p. eqb p (g j)) ws e in
+            in-left (g j) ws qs (rw (eqb→eq (r .0) (g j) (r .2)) at (r .1)))
+        | inr a ↦ (let e : T (quorum P fresh (x .old) (g j)) = rw (same j h) at a in
+            in-right (g j) ws qs (filter-in (quorum P fresh (x .old)) (g j) (pairsOf (fresh ++ x .old)) (quorum-named P fresh (x .old) (g j) e) e))
+      ]
+
+  -- ---- stage 1
+
+  replies-rep : (r : Read) (a c : Bool) (rs hs : List Read) (asks list : ℕ → Bool) → any (sameRead r) rs ≡ asks (r .reader) → any (sameRead r) hs ≡ list (r .reader)
+      → any (sameRead r) (cond a (cond c rs hs) []) ≡ repliesTo a c asks list (r .reader)
+  unfolding any
+  replies-rep r true true rs hs asks list e f = e
+  replies-rep r true false rs hs asks list e f = f
+  replies-rep r false c rs hs asks list e f = refl
+
+  not-replied : (r : Read) (a c : Bool) (rs hs : List Read) → any (sameRead r) rs ≡ false → any (sameRead r) hs ≡ false → any (sameRead r) (cond a (cond c rs hs) []) ≡ false
+  unfolding any
+  not-replied r true true rs hs e f = e
+  not-replied r true false rs hs e f = f
+  not-replied r false c rs hs e f = refl
+
+  module _ (t : ℕ) (x : Server) (s : Plain) (ws : List ℕ) (vs : List Claim) (rs : List Read) (w : ℕ) (votes : ℕ → ℕ → Bool) (asks live : ℕ → Bool)
+      (R : Rep P g m t x s) (I : Came P g m t x ws vs rs w votes asks live) where
+    -- the reads heard of
+    list-rep : (r : Read) → In r (P .reads) → r .begun < t → t ≤ readEnd P r
+        → any (sameRead r) (x .pending ++ rs) ≡ (s .pending (r .reader) && live (r .reader)) || asks (r .reader)
+    list-rep r i l u = any-append (sameRead r) (x .pending) rs ∙ rw (I .asking r i l u) (go (ℕ-discrete (suc (r .begun)) t))
+      where
+        and-true : (a : Bool) → a ≡ a && true
+        and-true true = refl
+        and-true false = refl
+
+        go : Dec (suc (r .begun) ≡ t) → any (sameRead r) (x .pending) || asks (r .reader) ≡ (s .pending (r .reader) && live (r .reader)) || asks (r .reader)
+        go (yes e) = rw (I .began r i e, R .unheard r i (omega arith), and-none (s .pending (r .reader)))
+        go (no d) = rw (I .lasting r i (omega arith) u, R .heard r i (omega arith) (omega arith)) (ap (λ (b : Bool). b || asks (r .reader)) (and-true (s .pending (r .reader))))
+
+    unlisted : (r : Read) → In r (P .reads) → t ≤ r .begun → any (sameRead r) (x .pending ++ rs) ≡ false
+    unlisted r i a = any-append (sameRead r) (x .pending) rs ∙ rw (R .unheard r i (omega arith)) (I .later r i a)
+
+    pub one-rep : (c : ℕ) → ServerSafe P t c x → ((p : ℕ) → In p ws → Genuine P t p) → ((v : Claim) → In v (x .fresh ++ vs) → FreshSafe P t c v)
+        → Mid P g m t (stage1 P x ws vs rs) (stageOne g m (echoQuorum P) (replyQuorum P) w votes asks live s)
+    unfolding stage1 stageOne deliver delivered any takeIn
+    one-rep c ok wok vok = rw (ap isFaulty (R .status)) (go (isFaulty (s .status)) refl)
+      where
+        e : ℕ
+        e = echoQuorum P
+
+        q : ℕ
+        q = replyQuorum P
+
+        cs : List ℕ
+        cs = ws ++ votedIn P (x .fresh ++ vs) (x .old)
+
+        kept' : List ℕ
+        kept' = takeIn (P .depth) cs (x .kept)
+
+        eqk : isFaulty (s .status) ≡ false → kept' ≡ taken (voting e q votes (s .old)) g m (withWrite g m w s .kept)
+        eqk h =
+            ap (λ (d : ℕ). takeIn d cs (x .kept)) (K .depth)
+            ∙ kept-rep t c x ws (x .fresh ++ vs) w votes (s .old) (ok .falling) (R .short) wok vok (ok .old) (I .tally (ap isFaulty (R .status) ∙ h)) (R .old) (I .wrote)
+            ∙ ap (λ (l : List ℕ). taken (voting e q votes (s .old)) g m (cond (ltb w m) (take 3 (insert (g w) l)) l)) (R .kept)
+            ∙ ap (taken (voting e q votes (s .old)) g m) (sym (write-kept g m w s))
+
+        lst : ℕ → Bool
+        lst y = (s .pending y && live y) || asks y
+
+        small : length kept' ≤ 3
+        small = rw (← K .depth) (omega (arith, length-take (P .depth) (insertAll cs (x .kept))))
+
+        none : (j : ℕ) → j < m → false ≡ eqb j 255 || false
+        none j h = rw (ne-eqb j 255 (λ z. omega (arith, K .few)))
+
+        go : (b : Bool) → isFaulty (s .status) ≡ b
+            → Mid P g m t (cond b (record { server = x; sent = nothing }) (deliver P x ws vs rs)) (cond b (record { server = s; said = silent }) (delivered g m e q w votes asks live s))
+        go true h =
+            let z = R .empty (rw (R .status, h) tt) in
+            record {
+              server = record {
+                status = R .status;
+                kept = R .kept;
+                short = R .short;
+                fresh = R .fresh;
+                old = R .old;
+                heard = λ r i a b. rw (z .0, z .1);
+                unheard = λ r i a. rw (z .0);
+                empty = R .empty;
+              };
+              sent = record { votes = none; readers = λ r i a b. refl; pairs = refl; short = omega arith; early = λ r i a. refl };
+              whole = λ n. absurd (T-not (isFaulty (x .status)) n (rw (R .status, h) tt));
+              quiet = refl;
+            }
+        go false h =
+            record {
+              server = record {
+                status = R .status;
+                kept = eqk h;
+                short = small;
+                fresh = I .tally (ap isFaulty (R .status) ∙ h);
+                old = R .old;
+                heard = λ r i a b. list-rep r i (omega arith) (omega arith);
+                unheard = λ r i a. unlisted r i (omega arith);
+                empty = λ y. absurd (T-not (isFaulty (x .status)) (rw (R .status, h) tt) y);
+              };
+              sent = record {
+                votes = λ j l. I .wrote j l ∙ or-none (eqb j w);
+                readers = λ r i a b. rw (R .status, eqk h, R .kept)
+                    (replies-rep r (isCorrect (s .status)) (sameList (s .kept) (taken (voting e q votes (s .old)) g m (withWrite g m w s .kept))) rs (x .pending ++ rs) asks lst
+                    (I .asking r i a b) (list-rep r i a b));
+                pairs = eqk h;
+                short = rw (← eqk h) small;
+                early = λ r i a. not-replied r (isCorrect (x .status)) (sameList (x .kept) kept') rs (x .pending ++ rs) (I .later r i a) (unlisted r i a);
+              };
+              whole = λ n. refl;
+              quiet = refl;
+            }
+
+  -- ---- stage 2
+
+  pub two-rep : (t : ℕ) (o : Out) (q : Both) → Mid P g m t o q → Mid P g m t (stage2 P t o) (stageTwo (P .delta) t q)
+  unfolding stage2 stageTwo
+  two-rep t o q M = rw (ap (curedAt (P .delta) t) (M .server .status)) (go (curedAt (P .delta) t (q .server .status)) refl)
+    where
+      free : (s : Status) → T (curedAt (P .delta) t s) → T (not (isFaulty s))
+      free faulty y = absurd y
+      free (cured c) y = tt
+      free correct y = absurd y
+
+      go : (b : Bool) → curedAt (P .delta) t (q .server .status) ≡ b → Mid P g m t
+          (cond b (record {
+            server = record { status = correct; kept = o .server .kept; pending = o .server .pending; fresh = o .server .fresh; old = o .server .old };
+            sent = record { votes = o .sent .votes; replyTo = o .server .pending; replyWith = o .server .kept };
+          }) o)
+          (cond b (record {
+            server = restated correct (q .server);
+            said = record { wrote = q .said .wrote; echoed = q .said .echoed; readers = q .server .pending; pairs = q .server .kept };
+          }) q)
+      go false h = M
+      go true h =
+          let f : T (not (isFaulty (o .server .status))) = rw (M .server .status) (free (q .server .status) (rw h tt)) in
+          let e : q .said .pairs ≡ q .server .kept = sym (M .sent .pairs) ∙ M .whole f ∙ M .server .kept in
+          record {
+            server = record {
+              status = refl;
+              kept = M .server .kept;
+              short = M .server .short;
+              fresh = M .server .fresh;
+              old = M .server .old;
+              heard = M .server .heard;
+              unheard = M .server .unheard;
+              empty = λ y. absurd y;
+            };
+            sent = record {
+              votes = λ j l. M .sent .votes j l ∙ rw e;
+              readers = λ r i a b. M .server .heard r i (omega arith) (omega arith);
+              pairs = M .server .kept;
+              short = rw (← M .server .kept) (M .server .short);
+              early = λ r i a. M .server .unheard r i (omega arith);
+            };
+            whole = λ n. refl;
+            quiet = M .quiet;
+          }
+
+  -- ---- stages 3 and 4 at a movement
+
+  no-votes : Votes P g m [] noVotes
+  unfolding has any
+  no-votes j i h = sym (and-none (ltb i (P .n)))
+
+  moved-rep : (t : ℕ) (h : Bool) (x : Server) (s : Plain) → Rep P g m (suc t) x s → Rep P g m (suc t) (moved P t h x) (movedOn (eqb (kk P) 2) h t s)
+  unfolding moved movedOn any
+  moved-rep t true x s R = record {
+    status = refl;
+    kept = refl;
+    short = omega arith;
+    fresh = no-votes;
+    old = no-votes;
+    heard = λ r i a b. refl;
+    unheard = λ r i a. refl;
+    empty = λ y. (refl, refl);
+  }
+  moved-rep t false x s R = rw (R .status) (go (isFaulty (s .status)) refl (eqb (kk P) 2))
+    where
+      olds : (k : Bool) → Votes P g m (cond k (x .fresh) []) (cond k (s .fresh) noVotes)
+      olds true = R .fresh
+      olds false = no-votes
+
+      go : (b : Bool) → isFaulty (s .status) ≡ b → (k : Bool) → Rep P g m (suc t)
+          (cond b (blank (cured t)) (record { status = s .status; kept = x .kept; pending = x .pending; fresh = []; old = cond k (x .fresh) [] }))
+          (cond b (blankAs (cured t)) (turned k s))
+      go true h k = record {
+        status = refl;
+        kept = refl;
+        short = omega arith;
+        fresh = no-votes;
+        old = no-votes;
+        heard = λ r i a b. refl;
+        unheard = λ r i a. refl;
+        empty = λ y. absurd y;
+      }
+      go false h k = record {
+        status = refl;
+        kept = R .kept;
+        short = R .short;
+        fresh = no-votes;
+        old = olds k;
+        heard = R .heard;
+        unheard = R .unheard;
+        empty = λ y. absurd (rw h at y);
+      }
+
+  -- a server that is correct after the movement has the pairs that it had
+  correct-kept : (t : ℕ) (h : Bool) (x : Server) → T (isCorrect (moved P t h x .status)) → T (not (isFaulty (x .status))) × (moved P t h x .kept ≡ x .kept)
+  unfolding moved
+  correct-kept t true x y = absurd y
+  correct-kept t false x y = go (isFaulty (x .status)) refl y
+    where
+      br : Bool → Server
+      br b = cond b (blank (cured t)) (record { status = x .status; kept = x .kept; pending = x .pending; fresh = []; old = cond (eqb (kk P) 2) (x .fresh) [] })
+
+      go : (b : Bool) → isFaulty (x .status) ≡ b → T (isCorrect (br b .status)) → T (not (isFaulty (x .status))) × (br b .kept ≡ x .kept)
+      go true h y = absurd y
+      go false h y = (rw h tt, refl)
+
+  pub four-rep : (t b : ℕ) (o : Out) (q : Both) → T (isMove P t) → Mid P g m t o q
+      → End P g m t (stage4 P t (stage3 P t b o)) (stageFour (eqb (kk P) 2) (P .placed (t / P .period) b) t q)
+  unfolding stage4 stage3 stageFour
+  four-rep t b o q mv M = rw (T-eq (isMove P t) mv) (go (isCorrect (mb .status)) refl)
+    where
+      h : Bool
+      h = P .placed (t / P .period) b
+
+      mb : Server
+      mb = moved P t h (o .server)
+
+      ms : Plain
+      ms = movedOn (eqb (kk P) 2) h t (q .server)
+
+      R : Rep P g m (suc t) mb ms
+      R = moved-rep t h (o .server) (q .server) (M .server)
+
+      quiet-votes : (j : ℕ) → j < m → member (g j) (o .sent .votes) ≡ eqb j (q .said .wrote)
+      quiet-votes j l = M .sent .votes j l ∙ rw (M .quiet) (sym (or-none (eqb j (q .said .wrote))))
+
+      go : (e : Bool) → isCorrect (mb .status) ≡ e
+          → End P g m t
+          (cond e (record { server = mb; sent = record { votes = o .sent .votes ++ mb .kept; replyTo = o .sent .replyTo; replyWith = o .sent .replyWith } }) (record { server = mb; sent = o .sent }))
+          (record { server = ms; said = record { wrote = q .said .wrote; echoed = isCorrect (ms .status); readers = q .said .readers; pairs = q .said .pairs } })
+      go true y =
+          let w = correct-kept t h (o .server) (rw y tt) in
+          let k : mb .kept ≡ q .said .pairs = w .1 ∙ sym (M .whole (w .0)) ∙ M .sent .pairs in
+          let z : isCorrect (ms .status) ≡ true = rw (R .status) at y in
+          record {
+            server = R;
+            sent = record {
+              votes = λ j l. any-append (λ p. eqb p (g j)) (o .sent .votes) (mb .kept) ∙ rw (z, k, quiet-votes j l);
+              readers = M .sent .readers;
+              pairs = M .sent .pairs;
+              short = M .sent .short;
+              early = M .sent .early;
+            };
+          }
+      go false y =
+          let z : isCorrect (ms .status) ≡ false = rw (R .status) at y in
+          record {
+            server = R;
+            sent = record { votes = λ j l. quiet-votes j l ∙ rw z (or-none (eqb j (q .said .wrote))); readers = M .sent .readers; pairs = M .sent .pairs; short = M .sent .short; early = M .sent .early };
+          }
+
+  pub still-rep : (t b : ℕ) (o : Out) (q : Both) → T (not (isMove P t)) → Mid P g m t o q → End P g m t (stage4 P t (stage3 P t b o)) q
+  unfolding stage4 stage3
+  still-rep t b o q mv M = rw (F-eq (isMove P t) mv) (record { server = M .server; sent = M .sent })

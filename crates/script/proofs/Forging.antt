@@ -1,0 +1,92 @@
+-- The forged part of an accepted plan can be read into the entries, and what is then written there are the plan's forged messages.
+-- It stands on Placing and Messages.
+use mathlib.Core.Path.{_≡_, ap, _∙_}
+use mathlib.Core.List.{List}
+use Prim.Native.Nat.{ℕ, _+_, _*_, _-_, _/_, _%_, _≤_, _<_}
+use native.Mathlib.Omega.{arith}
+use lib.ListN.{length, take, drop, length-drop}
+use lib.Seq.{take-all}
+use Rattle.bits.specs.Field.{fieldOf}
+use Rattle.bits.proofs.Laws.{field-lt}
+use Rattle.register.specs.Plan.{Forgery, stamped, numberOf}
+use Rattle.plan.specs.declared.header.Shape.{Shape}
+use Rattle.plan.specs.Header.{headerOf, operationAt}
+use Rattle.plan.specs.Shape.{Ranged, shape}
+use Rattle.plan.proofs.Stamped.{value-stamped, number-stamped}
+use Rattle.plan.proofs.Accept.{Accepted, accepted, in-range}
+use Rattle.cluster.specs.declared.Links.{Links}
+use Rattle.cluster.specs.Layout.{delayAt}
+use Rattle.script.specs.Forged.{forgedBits, delayOf, Fillable, Entry, Filled, Starts}
+use Rattle.script.specs.Forged as F
+use Rattle.script.specs.Script.{Accepts, LinksOf, messageOf, messageDelay, messageNumber, Forged}
+use Rattle.script.proofs.Entries.{reach-same}
+use Rattle.script.proofs.Placing.{bits-inside, link-delay}
+use Rattle.script.proofs.Messages.{sent-below, sender-below, on-link, message-reach, part-message}
+
+pub tests-passed : (s : List ℕ) → Accepts s → Accepted 16 s
+tests-passed s c = accepted 16 s (c .reads) (c .accepted)
+
+pub shape-ranged : (s : List ℕ) → Accepts s → (x : Shape) → shape x ≡ headerOf 16 s → Ranged (shape x)
+shape-ranged s c x e = rw e (in-range 16 s (tests-passed s c))
+
+pub links-same : (s : List ℕ) (x : Shape) (links : Links) → shape x ≡ headerOf 16 s → LinksOf (shape x) links → LinksOf (headerOf 16 s) links
+links-same s x links e L = rw e at L
+
+entry-same : (work : List ℕ) (e : ℕ) (g g′ : Forgery) (d d′ k k′ : ℕ) → g ≡ g′ → d ≡ d′ → k ≡ k′ → Entry work e g d k → Entry work e g′ d′ k′
+entry-same work e g g′ d d′ k k′ p q r E = rw (← p, ← q, ← r) E
+
+module _ (s : List ℕ) (A : Accepted 16 s) (at count : ℕ) (starts-at : at ≡ operationAt 16 (headerOf 16 s) (headerOf 16 s .operations))
+    (counted : count ≡ headerOf 16 s .forgeries) where
+  abbrev part : List ℕ
+  part = take (length s - at / 8) (drop (at / 8) s)
+
+  pub part-starts : at / 8 ≤ length s
+  part-starts = omega (arith, bits-inside s A)
+
+  part-whole : part ≡ drop (at / 8) s
+  part-whole = take-all (length s - at / 8) (drop (at / 8) s) (rw length-drop (omega arith))
+
+  part-size : length part ≡ length s - at / 8
+  part-size = rw (part-whole, length-drop)
+
+  message : (e : ℕ) → forgedBits part (at % 8 + 40 * e) ≡ messageOf s e
+  message e = part-message s part at e part-whole starts-at
+
+  module _ (links : Links) (L : LinksOf (headerOf 16 s) links) where
+    pub fillable : (work : List ℕ) (m : ℕ) → 24576 ≤ length work → m ≤ 65 → Fillable work part (at % 8) count s links m
+    fillable work m room pairs = record {
+      room = room;
+      start = omega arith;
+      few = omega (arith, in-range 16 s A .forgeries-hi);
+      inside = omega (arith, part-size, bits-inside s A, part-starts);
+      pairs = pairs;
+      reach = λ e l. reach-same s links _ _ _ _ _ _ (message-reach s A e (omega arith) links L)
+          (ap (λ (g : Forgery). g .at) (message e)) (ap (λ (g : Forgery). g .from) (message e)) (ap (λ (g : Forgery). g .to) (message e));
+    }
+
+    delay-same : (e : ℕ) → e < count → delayOf s links part (at % 8 + 40 * e) ≡ messageDelay s e
+    delay-same e l =
+        let h : e < headerOf 16 s .forgeries = omega arith in
+        ap (λ (g : Forgery). delayAt s links (g .at) (g .from) (g .to)) (message e)
+        ∙ link-delay s A links L (messageOf s e .at) (messageOf s e .from) (messageOf s e .to) (sent-below s A e h) (omega (arith, sender-below s A e h)) (on-link s A e h .0) (on-link s A e h .1)
+
+    number-same : (values : List ℕ) (m e : ℕ) → F.numberOf values m part (at % 8 + 40 * e) ≡ messageNumber s values m e
+    number-same values m e =
+        let v = fieldOf part (at % 8 + 40 * e + 16) 16 in
+        let n = fieldOf part (at % 8 + 40 * e + 32) 8 in
+        let p : stamped 16 v n ≡ messageOf s e .pair = ap (λ (g : Forgery). g .pair) (message e) in
+        rw (← p, value-stamped 16 v n (field-lt part (at % 8 + 40 * e + 16) 16), number-stamped 16 v n (field-lt part (at % 8 + 40 * e + 16) 16))
+
+    pub forged : (before after values : List ℕ) (m : ℕ) (starts : List ℕ)
+        → Filled before after count (λ e. forgedBits part (at % 8 + 40 * e)) (λ e. delayOf s links part (at % 8 + 40 * e)) (λ e. F.numberOf values m part (at % 8 + 40 * e))
+        → Starts after count starts → Forged s before after values m starts
+    forged before after values m starts W S =
+        let X = rw counted at W in
+        record {
+          filled = record {
+            size = X .size;
+            entry = λ e l. entry-same after e _ _ _ _ _ _ (message e) (delay-same e (omega arith)) (number-same values m e) (X .entry e l);
+            other = X .other;
+          };
+          started = rw counted at S;
+        }

@@ -1,0 +1,67 @@
+use Rattle.script.proofs.Forging.{tests-passed, shape-ranged, links-same, part-starts, fillable, forged}
+use Rattle.plan.specs.Header.{Header, operationAt}
+use native.Mathlib.Omega.{arith}
+use mathlib.Core.Path.{ap, _∙_}
+use borrow.Author.Needs.{needs}
+use Rattle.script.proofs.forge.Statement.{statement}
+use Rattle.script.proofs.forge.Tie as tie
+
+forgeries-at-requires : tie.Need-forgeries-at-requires
+forgeries-at-requires c κs = let s = c .before .before in shape-ranged (s .args .plan .now) (s .pre .0) (s .args .header) (s .pre .1)
+
+cast-count : tie.Need-cast-count
+cast-count c = search needs
+
+sub-fill : tie.Need-sub-fill
+sub-fill c =
+    let s = c .before .before .before .before .before .before .before in
+    part-starts (s .args .plan .now) (tests-passed (s .args .plan .now) (s .pre .0)) (c .before .before .before .before .forgeries-at .result) (s .args .header .forgeries)
+    (c .before .before .before .before .forgeries-at .ensures .0 ∙ ap (λ (h : Header). operationAt 16 h (h .operations)) (s .pre .1)) (ap (λ (h : Header). h .forgeries) (s .pre .1))
+
+part-fill-start : tie.Need-part-fill-start
+part-fill-start c =
+    let s = c .before .before .before .before .before .before .before in
+    let h = part-starts (s .args .plan .now) (tests-passed (s .args .plan .now) (s .pre .0)) (c .before .before .before .before .forgeries-at .result) (s .args .header .forgeries)
+    (c .before .before .before .before .forgeries-at .ensures .0 ∙ ap (λ (h : Header). operationAt 16 h (h .operations)) (s .pre .1)) (ap (λ (h : Header). h .forgeries) (s .pre .1)) in
+    search needs
+
+part-fill-end : tie.Need-part-fill-end
+part-fill-end c = search needs
+
+fill-requires : tie.Need-fill-requires
+fill-requires c κs =
+    let s = c .before .before .before .before .before .before .before .before .before in
+    fillable (s .args .plan .now) (tests-passed (s .args .plan .now) (s .pre .0)) (c .before .before .before .before .before .before .forgeries-at .result) (s .args .header .forgeries)
+    (c .before .before .before .before .before .before .forgeries-at .ensures .0 ∙ ap (λ (h : Header). operationAt 16 h (h .operations)) (s .pre .1)) (ap (λ (h : Header). h .forgeries) (s .pre .1))
+    (s .args .links) (links-same (s .args .plan .now) (s .args .header) (s .args .links) (s .pre .1) (s .pre .2)) _ _ (s .pre .3) (s .pre .4)
+
+starts-requires : tie.Need-starts-requires
+starts-requires c κs =
+    let s = c .before .before .before .before .before .before .before .before .before .before .before .before .before in
+    (shape-ranged (s .args .plan .now) (s .pre .0) (s .args .header) (s .pre .1) .forgeries-hi, omega (arith, s .pre .3, c .before .before .before .fill .ensures .size))
+
+same-length : tie.Need-same-length
+same-length c = search needs
+
+returns : tie.Need-returns
+returns c =
+    let s = c .before .before .before .before .before .before .before .before .before .before .before .before .before .before in
+    let f = c .before .before .before .before .before .before .before .before .before .before .before .forgeries-at in
+    forged (s .args .plan .now) (tests-passed (s .args .plan .now) (s .pre .0)) (f .result) (s .args .header .forgeries)
+    (f .ensures .0 ∙ ap (λ (h : Header). operationAt 16 h (h .operations)) (s .pre .1)) (ap (λ (h : Header). h .forgeries) (s .pre .1))
+    (s .args .links) (links-same (s .args .plan .now) (s .args .header) (s .args .links) (s .pre .1) (s .pre .2)) _ _ _ _ _
+    (c .before .before .before .before .fill .ensures) (c .starts .ensures)
+
+pub forge-spec : {M : Type 1} → statement M
+forge-spec =
+    tie.close
+    (tie.spec
+    forgeries-at-requires
+    cast-count
+    sub-fill
+    part-fill-start
+    part-fill-end
+    fill-requires
+    starts-requires
+    same-length
+    returns)

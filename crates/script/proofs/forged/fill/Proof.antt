@@ -1,0 +1,131 @@
+use Rattle.script.proofs.Entries.{reach-same, delay-same, number-same}
+use Rattle.script.proofs.Entries.{filled-none, filled-more}
+use Rattle.script.specs.Forged.{Filled, forgedBits, delayOf, numberOf}
+use Rattle.bits.proofs.Laws.{field-lt}
+use borrow.Author.Needs.{needs}
+use native.Mathlib.Omega.{arith}
+use Prim.Native.Nat.{_+_, _-_, _*_, _≤_, _<_}
+use mathlib.Core.Path.{_≡_, _∙_}
+use Rattle.script.proofs.forged.fill.Statement.{statement}
+use Rattle.script.proofs.forged.fill.Tie as tie
+
+abbrev Inv-loop : tie.InvT-loop
+Inv-loop work₀ part offset count plan links values m e₀ work e =
+    (e ≤ count) × Filled work₀ work e (λ i. forgedBits part (offset + 40 * i)) (λ i. delayOf plan links part (offset + 40 * i)) (λ i. numberOf values m part (offset + 40 * i))
+
+abbrev μ-loop : tie.MeasureT-loop
+μ-loop work₀ part offset count plan links values m e₀ work e = count - e
+
+loop-holds : tie.Need-loop-holds Inv-loop μ-loop
+loop-holds c = (search needs, filled-none _ _ _ _)
+
+mul-message-at : tie.Need-mul-message-at Inv-loop μ-loop
+mul-message-at c = search needs
+
+add-message-at : tie.Need-add-message-at Inv-loop μ-loop
+add-message-at c = search needs
+
+message-at-requires : tie.Need-message-at-requires Inv-loop μ-loop
+message-at-requires c κs = search needs
+
+known-number-requires : tie.Need-known-number-requires Inv-loop μ-loop
+known-number-requires c κs = search needs
+
+cast-delay : tie.Need-cast-delay Inv-loop μ-loop
+cast-delay c = search needs
+
+cast-delay-2 : tie.Need-cast-delay-2 Inv-loop μ-loop
+cast-delay-2 c = search needs
+
+cast-delay-3 : tie.Need-cast-delay-3 Inv-loop μ-loop
+cast-delay-3 c = search needs
+
+delay-requires : tie.Need-delay-requires Inv-loop μ-loop
+delay-requires c κs =
+    let s = c .before .before .before .before .before .before .before .before .before .before in
+    let E = c .before .before .before .before .message-at .ensures in
+    let R = reach-same (s .args .plan .now) (s .args .links) _ _ _ _ _ _ (s .pre .reach (c .before .before .before .before .before .before .loop .e) (c .before .before .before .before .before .loop-test .taken))
+    (E .sent) (E .sender) (E .receiver) in
+    (R .inside, R .start, R .few, R .tick, R .sender, R .receiver)
+
+mul-put-entry : tie.Need-mul-put-entry Inv-loop μ-loop
+mul-put-entry c = search needs
+
+add-put-entry : tie.Need-add-put-entry Inv-loop μ-loop
+add-put-entry c = search needs
+
+cast-put-entry : tie.Need-cast-put-entry Inv-loop μ-loop
+cast-put-entry c = search needs
+
+add-put-entry-2 : tie.Need-add-put-entry-2 Inv-loop μ-loop
+add-put-entry-2 c =
+    let E = c .before .before .before .before .before .before .before .message-at .ensures in
+    let a = c .before .before .before .before .before .before .before .before .before .before .before .before .before .args in
+    let e = c .before .before .before .before .before .before .before .before .before .loop .e in
+    omega (arith, E .sent, field-lt (a .part .now) (a .offset + 40 * e) 7, c .before .before .delay .ensures .1)
+
+put-entry-requires : tie.Need-put-entry-requires Inv-loop μ-loop
+put-entry-requires c κs =
+    let s = c .before .before .before .before .before .before .before .before .before .before .before .before .before in
+    let h = c .before .before .before .before .before .before .before .before .before .loop in
+    let l : h .e < s .args .count = c .before .before .before .before .before .before .before .before .loop-test .taken in
+    (omega (arith, s .pre .room, s .pre .few, h .inv .1 .size), omega (arith, s .pre .few))
+
+add-e : tie.Need-add-e Inv-loop μ-loop
+add-e c = omega (arith, c .before .before .before .before .before .before .before .before .before .before .before .loop-test .taken, c .before .before .before .before .before .before .before .before .before .before .before .before .before .before .before .before .pre .few)
+
+loop-less : tie.Need-loop-less Inv-loop μ-loop
+loop-less c = search needs
+
+loop-again : tie.Need-loop-again Inv-loop μ-loop
+loop-again c =
+    let s = c .before .before .before .before .before .before .before .before .before .before .before .before .before .before .before .before in
+    let h = c .before .before .before .before .before .before .before .before .before .before .before .before .loop in
+    let l : h .e < s .args .count = c .before .before .before .before .before .before .before .before .before .before .before .loop-test .taken in
+    let E = c .before .before .before .before .before .before .before .before .before .before .message-at .ensures in
+    let at = s .args .offset + 40 * h .e in
+    let d = c .before .before .before .before .before .delay in (
+      omega arith,
+      filled-more (s .args .work .now) (h .work) (h .e) (λ i. forgedBits (s .args .part .now) (s .args .offset + 40 * i))
+          (λ i. delayOf (s .args .plan .now) (s .args .links) (s .args .part .now) (s .args .offset + 40 * i))
+          (λ i. numberOf (s .args .values .now) (s .args .m) (s .args .part .now) (s .args .offset + 40 * i)) (h .inv .1) _ _ _ _ _ _
+          (omega (arith, s .pre .room, s .pre .few, h .inv .1 .size)) (E .sent)
+          (omega (arith, E .sent, d .ensures .0, delay-same (s .args .plan .now) (s .args .links) _ _ _ _ _ _ (E .sent) (E .sender) (E .receiver)))
+          (E .receiver) (E .sender)
+          (c .before .before .before .before .before .before .before .before .before .known-number .ensures ∙ number-same (s .args .values .now) (s .args .m) _ _ _ _ (E .value) (E .number))
+          (c .before .before .put-entry .ensures),
+    )
+
+same-length : tie.Need-same-length Inv-loop μ-loop
+same-length c = c .before .loop .inv .1 .size
+
+returns : tie.Need-returns Inv-loop μ-loop
+returns c =
+    let e : c .before .loop .e ≡ c .before .before .before .before .before .args .count = omega arith in
+    rw e at (c .before .loop .inv .1)
+
+pub fill-spec : {M : Type 1} → statement M
+fill-spec =
+    tie.close
+    (tie.spec
+    Inv-loop
+    μ-loop
+    loop-holds
+    mul-message-at
+    add-message-at
+    message-at-requires
+    known-number-requires
+    cast-delay
+    cast-delay-2
+    cast-delay-3
+    delay-requires
+    mul-put-entry
+    add-put-entry
+    cast-put-entry
+    add-put-entry-2
+    put-entry-requires
+    add-e
+    loop-less
+    loop-again
+    same-length
+    returns)

@@ -1,0 +1,65 @@
+use Rattle.script.proofs.Entries.{start-found, start-passed, start-last}
+use Rattle.cluster.specs.Layout.{entryAt}
+use borrow.Author.Needs.{needs}
+use native.Mathlib.Omega.{arith}
+use Prim.Native.Nat.{ℕ, _-_, _≤_, _<_}
+use Rattle.script.proofs.forged.next_start.Statement.{statement}
+use Rattle.script.proofs.forged.next_start.Tie as tie
+
+abbrev Inv-loop : tie.InvT-loop
+Inv-loop work e count u i₀ i = (e ≤ i) × (i ≤ count) × ((k : ℕ) → e ≤ k → k < i → entryAt work k 0 < u)
+
+abbrev μ-loop : tie.MeasureT-loop
+μ-loop work e count u i₀ i = count - i
+
+loop-holds : tie.Need-loop-holds Inv-loop μ-loop
+loop-holds c = (search needs, search needs, λ k a b. absurd (omega arith))
+
+mul-if1 : tie.Need-mul-if1 Inv-loop μ-loop
+mul-if1 c = search needs
+
+add-if1 : tie.Need-add-if1 Inv-loop μ-loop
+add-if1 c = search needs
+
+shared-slice-read-if1 : tie.Need-shared-slice-read-if1 Inv-loop μ-loop
+shared-slice-read-if1 c = search needs
+
+returns : tie.Need-returns Inv-loop μ-loop
+returns c =
+    let h = c .before .before .before .loop in
+    let a = c .before .before .before .before .args in
+    (h .inv .0, start-found (a .work .now) (a .e) (a .count) (a .u) (h .i) (h .inv .0) (h .inv .2) (c .before .before .loop-test .taken) (c .if1 .taken))
+
+add-i : tie.Need-add-i Inv-loop μ-loop
+add-i c = search needs
+
+loop-less : tie.Need-loop-less Inv-loop μ-loop
+loop-less c = search needs
+
+loop-again : tie.Need-loop-again Inv-loop μ-loop
+loop-again c =
+    let h = c .before .before .before .loop in
+    let a = c .before .before .before .before .args in
+    (omega arith, omega arith, start-passed (a .work .now) (a .e) (a .count) (a .u) (h .i) (h .inv .0) (h .inv .2) (c .if1 .left))
+
+returns-2 : tie.Need-returns-2 Inv-loop μ-loop
+returns-2 c =
+    let h = c .before .loop in
+    let a = c .before .before .args in
+    (omega arith, start-last (a .work .now) (a .e) (a .count) (a .u) (h .i) (h .inv .0) (h .inv .2) (c .loop-test .left) (h .inv .1))
+
+pub next-start-spec : {M : Type 1} → statement M
+next-start-spec =
+    tie.close
+    (tie.spec
+    Inv-loop
+    μ-loop
+    loop-holds
+    mul-if1
+    add-if1
+    shared-slice-read-if1
+    returns
+    add-i
+    loop-less
+    loop-again
+    returns-2)

@@ -1,0 +1,99 @@
+use Rattle.script.proofs.Storing.{read-stored, read-left, read-in-none}
+use Rattle.script.specs.Operations.{opAt, ReadIn}
+use Rattle.plan.specs.Parts.{readsFrom}
+use Rattle.register.specs.Lists.{tab}
+use borrow.Author.Tests.{ne-eqb}
+use borrow.Author.Needs.{needs}
+use lib.ListN.{length, replicate}
+use native.Mathlib.Omega.{arith}
+use Prim.Native.Nat.{_-_, _≤_}
+use mathlib.Core.Logic.{inl, inr}
+use mathlib.Core.Path.{_≡_, sym, _∙_}
+use Rattle.script.proofs.operations.reads_of.Statement.{statement}
+use Rattle.script.proofs.operations.reads_of.Tie as tie
+
+abbrev Inv-loop : tie.InvT-loop
+Inv-loop plan at count begun₀ reader₀ m₀ i₀ begun reader m i = (i ≤ count) × (length begun ≡ 255) × (length reader ≡ 255) × (m ≤ i) × ReadIn (readsFrom (tab i (opAt plan at))) begun reader m
+
+abbrev μ-loop : tie.MeasureT-loop
+μ-loop plan at count begun₀ reader₀ m₀ i₀ begun reader m i = count - i
+
+loop-holds : tie.Need-loop-holds Inv-loop μ-loop
+loop-holds c =
+    (search needs, search needs, search needs, search needs, read-in-none (opAt (c .before .args .plan .now) (c .before .args .at)) (replicate 255 0) (replicate 255 0))
+
+mul-o : tie.Need-mul-o Inv-loop μ-loop
+mul-o c = search needs
+
+add-o : tie.Need-add-o Inv-loop μ-loop
+add-o c = search needs
+
+add-field : tie.Need-add-field Inv-loop μ-loop
+add-field c = search needs
+
+field-requires : tie.Need-field-requires Inv-loop μ-loop
+field-requires c κs = search needs
+
+field-requires-2 : tie.Need-field-requires-2 Inv-loop μ-loop
+field-requires-2 c κs = search needs
+
+cast-begun : tie.Need-cast-begun Inv-loop μ-loop
+cast-begun c = search needs
+
+array-write-begun : tie.Need-array-write-begun Inv-loop μ-loop
+array-write-begun c = search needs
+
+cast-reader : tie.Need-cast-reader Inv-loop μ-loop
+cast-reader c = search needs
+
+array-write-reader : tie.Need-array-write-reader Inv-loop μ-loop
+array-write-reader c = search needs
+
+add-m : tie.Need-add-m Inv-loop μ-loop
+add-m c = search needs
+
+add-i : tie.Need-add-i Inv-loop μ-loop
+add-i c = search needs
+
+loop-less : tie.Need-loop-less Inv-loop μ-loop
+loop-less c = search needs
+
+loop-again : tie.Need-loop-again Inv-loop μ-loop
+loop-again c =
+    let h = c .before .before .before .loop in
+    let s = c .before .before .before .before .before .args .plan .now in
+    let at = c .before .before .before .before .before .args .at in
+    let R = c .before .before .before .before .before .pre in
+    elim (c .if1 .came) [
+      | inl w ↦ read-stored s at _ R (h .i) (c .before .before .loop-test .taken) (h .begun) (h .reader) (h .m) (h .inv .4) _ _ _ _ _ (h .inv .1) (h .inv .2) (h .inv .3)
+          (rw (← c .before .field .ensures .0) (ne-eqb _ 0 (w .0 .taken))) (w .1 .ensures .0) (c .before .field .ensures .0) (w .2) (w .3) (w .4)
+      | inr w ↦ read-left s at _ R (h .i) (c .before .before .loop-test .taken) (h .begun) (h .reader) (h .m) (h .inv .4) _ _ _ (h .inv .1) (h .inv .2) (h .inv .3)
+          (sym (c .before .field .ensures .0) ∙ w .0 .left) (w .1) (w .2) (w .3)
+    ]
+
+returns : tie.Need-returns Inv-loop μ-loop
+returns c =
+    let e : c .before .loop .i ≡ c .before .before .before .args .count = omega arith in
+    rw e at (c .before .loop .inv .4)
+
+pub reads-of-spec : {M : Type 1} → statement M
+reads-of-spec =
+    tie.close
+    (tie.spec
+    Inv-loop
+    μ-loop
+    loop-holds
+    mul-o
+    add-o
+    add-field
+    field-requires
+    field-requires-2
+    cast-begun
+    array-write-begun
+    cast-reader
+    array-write-reader
+    add-m
+    add-i
+    loop-less
+    loop-again
+    returns)

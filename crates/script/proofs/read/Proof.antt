@@ -1,0 +1,67 @@
+use Rattle.script.proofs.Scripting.{header-there, operations-room, scripted}
+use Rattle.script.proofs.Forging.{shape-ranged}
+use mathlib.Core.Path.{refl}
+use borrow.Author.Needs.{needs}
+use Rattle.script.proofs.read.Statement.{statement}
+use Rattle.script.proofs.read.Tie as tie
+
+read-requires : tie.Need-read-requires
+read-requires c κs = header-there (c .before .before .args .plan .now) (c .before .before .pre .0)
+
+rules-of-requires : tie.Need-rules-of-requires
+rules-of-requires c κs = search needs
+
+links-of-requires : tie.Need-links-of-requires
+links-of-requires c κs = shape-ranged (c .before .before .before .before .args .plan .now) (c .before .before .before .before .pre .0) (c .before .read .result) (c .before .read .ensures)
+
+operations-at-requires : tie.Need-operations-at-requires
+operations-at-requires c κs =
+    shape-ranged (c .before .before .before .before .before .args .plan .now) (c .before .before .before .before .before .pre .0) (c .before .before .read .result) (c .before .before .read .ensures)
+
+cast-count : tie.Need-cast-count
+cast-count c = search needs
+
+writes-of-requires : tie.Need-writes-of-requires
+writes-of-requires c κs =
+    let s = c .before .before .before .before .before .before .before in
+    let x = c .before .before .before .before .read in
+    operations-room (s .args .plan .now) (s .pre .0) (x .result) (x .ensures) (c .before .operations-at .result) (c .before .operations-at .ensures .0)
+
+reads-of-requires : tie.Need-reads-of-requires
+reads-of-requires c κs =
+    let s = c .before .before .before .before .before .before .before .before in
+    let x = c .before .before .before .before .before .read in
+    operations-room (s .args .plan .now) (s .pre .0) (x .result) (x .ensures) (c .before .before .operations-at .result) (c .before .before .operations-at .ensures .0)
+
+forge-requires : tie.Need-forge-requires
+forge-requires c κs = search needs
+
+same-length : tie.Need-same-length
+same-length c = search needs
+
+returns : tie.Need-returns
+returns c =
+    let s = c .before .before .before .before .before .before .before .before .before .before .before .before .before in
+    let x = c .before .before .before .before .before .before .before .before .before .before .read in
+    let o = c .before .before .before .before .before .before .before .operations-at in
+    scripted (s .args .plan .now) (s .pre .0) (x .result) (x .ensures) (o .result) (o .ensures .0) _ _ _ refl
+    (c .before .before .before .before .before .before .before .before .before .rules-of .ensures)
+    (c .before .before .before .before .before .before .before .before .links-of .ensures)
+    (c .before .before .before .before .before .writes-of .ensures)
+    (c .before .before .before .before .reads-of .ensures)
+    (c .before .before .forge .ensures)
+
+pub read-spec : {M : Type 1} → statement M
+read-spec =
+    tie.close
+    (tie.spec
+    read-requires
+    rules-of-requires
+    links-of-requires
+    operations-at-requires
+    cast-count
+    writes-of-requires
+    reads-of-requires
+    forge-requires
+    same-length
+    returns)

@@ -1,0 +1,79 @@
+-- The forged entries of the workspace: what the code writes there for the forged messages of a plan, and where the entries of a tick start.
+use mathlib.Core.Path.{_≡_}
+use mathlib.Core.Bool.{_&&_, cond}
+use mathlib.Core.Logic.{_⊎_}
+use mathlib.Core.List.{List}
+use Prim.Native.Nat.{ℕ, _+_, _*_, _≤_, _<_}
+use lib.Dec.{eqb, ltb}
+use lib.ListN.{length, getD, set}
+use Rattle.bits.specs.Field.{fieldOf}
+use Rattle.register.specs.Plan.{Forgery, stamped}
+use Rattle.cluster.specs.declared.Links.{Links}
+use Rattle.cluster.specs.Layout.{entryAt, delayAt}
+use Rattle.script.specs.declared.forged.Message.{Message}
+use Rattle.script.specs.Inputs.{Reach}
+
+-- the forged message from bit `at` on
+abbrev pub forgedBits : List ℕ → ℕ → Forgery
+forgedBits s at = record {
+  at = fieldOf s at 7;
+  from = fieldOf s (at + 7) 4;
+  to = fieldOf s (at + 11) 5;
+  pair = stamped 16 (fieldOf s (at + 16) 16) (fieldOf s (at + 32) 8);
+}
+
+-- the same, field by field
+pub record Packed (s : List ℕ) (at : ℕ) (r : Message) : Type 0 where
+  pub sent : r .sent ≡ fieldOf s at 7
+  pub sender : r .sender ≡ fieldOf s (at + 7) 4
+  pub receiver : r .receiver ≡ fieldOf s (at + 11) 5
+  pub value : r .value ≡ fieldOf s (at + 16) 16
+  pub number : r .number ≡ fieldOf s (at + 32) 8
+
+-- the number, if it is that of a known pair with this value; else 255
+unfoldable pub numberIn : List ℕ → ℕ → ℕ → ℕ → ℕ
+numberIn values m value number = cond (ltb number m && eqb (getD values number 0) value) number 255
+
+-- of the forged message from bit `at` on: its delay, and the number of its pair
+abbrev pub delayOf : List ℕ → Links → List ℕ → ℕ → ℕ
+delayOf plan links s at = delayAt plan links (fieldOf s at 7) (fieldOf s (at + 7) 4) (fieldOf s (at + 11) 5)
+
+abbrev pub numberOf : List ℕ → ℕ → List ℕ → ℕ → ℕ
+numberOf values m s at = numberIn values m (fieldOf s (at + 16) 16) (fieldOf s (at + 32) 8)
+
+-- five bytes from byte `at` on
+unfoldable pub entryBytes : List ℕ → ℕ → ℕ → ℕ → ℕ → ℕ → ℕ → List ℕ
+entryBytes work at a b c d e = set (set (set (set (set work at a) (at + 1) b) (at + 2) c) (at + 3) d) (at + 4) e
+
+-- so many forged messages stand there, their delays lie in the plan, and there is room for the entries
+pub record Fillable (work part : List ℕ) (offset count : ℕ) (plan : List ℕ) (links : Links) (m : ℕ) : Type 0 where
+  pub room : 24576 ≤ length work
+  pub start : offset < 8
+  pub few : count ≤ 1024
+  pub inside : offset + 40 * count ≤ 8 * length part
+  pub pairs : m ≤ 65
+  pub reach : (e : ℕ) → e < count
+      → Reach plan links (forgedBits part (offset + 40 * e) .at) (forgedBits part (offset + 40 * e) .from) (forgedBits part (offset + 40 * e) .to)
+
+-- entry e is the forged message g, with this delay and number
+pub record Entry (work : List ℕ) (e : ℕ) (g : Forgery) (delay number : ℕ) : Type 0 where
+  pub sent : entryAt work e 0 ≡ g .at
+  pub arrival : entryAt work e 1 ≡ g .at + delay
+  pub receiver : entryAt work e 2 ≡ g .to
+  pub sender : entryAt work e 3 ≡ g .from
+  pub known : entryAt work e 4 ≡ number
+
+-- the first entries are the forged messages; no byte outside them has changed
+pub record Filled (before after : List ℕ) (count : ℕ) (g : ℕ → Forgery) (delay number : ℕ → ℕ) : Type 0 where
+  pub size : length after ≡ length before
+  pub entry : (e : ℕ) → e < count → Entry after e (g e) (delay e) (number e)
+  pub other : (p : ℕ) → (p < 16384) ⊎ (16384 + 8 * count ≤ p) → getD after p 0 ≡ getD before p 0
+
+-- s entries, counted from entry e on, were sent before tick u, and the next one was not
+pub record Start (work : List ℕ) (e count u s : ℕ) : Type 0 where
+  pub few : s ≤ count
+  pub below : (i : ℕ) → e ≤ i → i < s → entryAt work i 0 < u
+  pub next : s < count → u ≤ entryAt work s 0
+
+pub record Starts (work : List ℕ) (count : ℕ) (r : List ℕ) : Type 0 where
+  pub each : (u : ℕ) → u < 129 → Start work 0 count u (getD r u 0)

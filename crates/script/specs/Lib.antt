@@ -1,0 +1,4 @@
+pub mod Operations
+pub mod Inputs
+pub mod Forged
+pub mod Script

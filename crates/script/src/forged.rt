@@ -1,0 +1,162 @@
+// The forged messages of a plan, decoded once into the lent workspace, and which of them a tick has to look at.
+ghost use mathlib.Core.Path.{_≡_};
+ghost use mathlib.Core.Bool.{_&&_, cond};
+ghost use Prim.Native.Nat.{_+_, _*_, _-_, _^_, _≤_, _<_};
+ghost use lib.Dec.{eqb, ltb};
+ghost use lib.ListN.{length, getD};
+ghost use Rattle.script.specs.Forged.{Packed, numberIn, entryBytes, Fillable, Filled, forgedBits, delayOf, numberOf, Start, Starts};
+use cluster::Links;
+use cluster::Window;
+use cluster::log;
+
+// A forged message as the plan has it.
+struct Message {
+    sent: u8,
+    sender: u8,
+    receiver: u8,
+    value: u16,
+    number: u8,
+}
+
+// The forged message that stands from bit `at` on.
+fn message_at(part: &[u8], at: usize) -> Message
+    requires { ⌜ (at + 40 ≤ 8 * length (now part)) × (at < 2 ^ 50) ⌝ }
+    ensures { λ r. ⌜ Packed (now (part .entry)) at r ⌝ }
+{
+    Message {
+        sent: bits::field(part, at, 7) as u8,
+        sender: bits::field(part, at + 7, 4) as u8,
+        receiver: bits::field(part, at + 11, 5) as u8,
+        value: bits::field(part, at + 16, 16) as u16,
+        number: bits::field(part, at + 32, 8) as u8,
+    }
+}
+
+// The number, if it is that of a known pair with this value; else 255.
+fn known_number(values: &[u16; 65], m: usize, value: u16, number: u8) -> u8
+    requires { ⌜ m ≤ 65 ⌝ }
+    ensures { λ r. ⌜ r ≡ numberIn (now (values .entry)) m value number ⌝ }
+{
+    let i = number as usize;
+    if i < m {
+        if values[i] == value {
+            return number;
+        }
+    }
+    255
+}
+
+// A forged entry, from byte `at` of the workspace on.
+fn put_entry(
+    work: &mut [u8],
+    at: usize,
+    sent: u8,
+    arrival: u8,
+    receiver: u8,
+    sender: u8,
+    number: u8,
+)
+    requires { ⌜ (at + 5 ≤ length (now work)) × (at < 65536) ⌝ }
+    ensures { λ _. ⌜ now (work .exit) ≡ entryBytes (now (work .entry)) at sent arrival receiver sender number ⌝ }
+{
+    work[at] = sent;
+    work[at + 1] = arrival;
+    work[at + 2] = receiver;
+    work[at + 3] = sender;
+    work[at + 4] = number;
+}
+
+// All forged entries. The forged part of the plan starts at bit `offset` of `part`.
+pub fn fill(
+    work: &mut [u8],
+    part: &[u8],
+    offset: usize,
+    count: usize,
+    plan: &[u8],
+    links: Links,
+    values: &[u16; 65],
+    m: usize,
+)
+    requires { ⌜ Fillable (now work) (now part) offset count (now plan) links m ⌝ }
+    ensures { λ _. ⌜ Filled (now (work .entry)) (now (work .exit)) count (λ e. forgedBits (now (part .entry)) (offset + 40 * e))
+        (λ e. delayOf (now (plan .entry)) links (now (part .entry)) (offset + 40 * e)) (λ e. numberOf (now (values .entry)) m (now (part .entry)) (offset + 40 * e)) ⌝ }
+{
+    let mut e: usize = 0;
+    while e < count {
+        let g = message_at(part, offset + 40 * e);
+        let number = known_number(values, m, g.value, g.number);
+        let delay = log::delay(
+            plan,
+            links,
+            g.sent as usize,
+            g.sender as usize,
+            g.receiver as usize,
+        );
+        put_entry(
+            work,
+            16384 + 8 * e,
+            g.sent,
+            g.sent + delay as u8,
+            g.receiver,
+            g.sender,
+            number,
+        );
+        e += 1;
+    }
+}
+
+// The first entry from e on that was sent in tick u or later.
+fn next_start(work: &[u8], e: usize, count: usize, u: u8) -> usize
+    requires { ⌜ (e ≤ count) × (count ≤ 1024) × (24576 ≤ length (now work)) ⌝ }
+    ensures { λ r. ⌜ (e ≤ r) × Start (now (work .entry)) e count u r ⌝ }
+{
+    let mut i = e;
+    while i < count {
+        if u <= work[16384 + 8 * i] {
+            return i;
+        }
+        i += 1;
+    }
+    count
+}
+
+// For each tick, how many entries were sent before it.
+pub fn starts(work: &[u8], count: usize) -> [u16; 129]
+    requires { ⌜ (count ≤ 1024) × (24576 ≤ length (now work)) ⌝ }
+    ensures { λ r. ⌜ Starts (now (work .entry)) count r ⌝ }
+{
+    let mut r = [0u16; 129];
+    let mut e: usize = 0;
+    let mut u: usize = 0;
+    while u < 129 {
+        e = next_start(work, e, count, u as u8);
+        r[u] = e as u16;
+        u += 1;
+    }
+    r
+}
+
+fn wide(x: u16) -> usize
+    ensures { λ r. ⌜ r ≡ x ⌝ }
+{
+    x as usize
+}
+
+// The entries that can arrive in tick t: those sent in the last delta ticks.
+pub fn window(starts: &[u16; 129], delta: u8, t: u8) -> Window
+    requires { ⌜ t < 129 ⌝ }
+    ensures { λ r. ⌜ (r .from ≡ getD (now (starts .entry)) (t - delta) 0) × (r .to ≡ getD (now (starts .entry)) t 0) ⌝ }
+{
+    let last = t as usize;
+    if t < delta {
+        return Window {
+            from: wide(starts[0]),
+            to: wide(starts[last]),
+        };
+    }
+    let first = (t - delta) as usize;
+    Window {
+        from: wide(starts[first]),
+        to: wide(starts[last]),
+    }
+}

@@ -1,0 +1,74 @@
+// The operations of a plan: its writes by number, and its reads in order.
+ghost use Prim.Native.Nat.{_+_, _*_, _≤_, _<_};
+ghost use Rattle.register.specs.Lists.{tab};
+ghost use Rattle.plan.specs.Parts.{writesFrom, readsFrom};
+ghost use Rattle.script.specs.Operations.{opAt, Room, Written, ReadIn};
+use cluster::Known;
+
+// The known pairs, and the tick in which write j begins, from 1 on.
+pub struct Writes {
+    pub known: Known,
+    pub begun: [u8; 65],
+}
+
+// The tick in which each read begins, and its reader.
+pub struct Reads {
+    pub begun: [u8; 255],
+    pub reader: [u8; 255],
+    pub m: usize,
+}
+
+// The writes among the operations that stand from bit `at` on.
+pub fn writes_of(plan: &[u8], at: usize, count: usize, initial: u16) -> Writes
+    requires { ⌜ Room (now plan) at count ⌝ }
+    ensures { λ r. ⌜ Written (writesFrom 16 1 (tab count (opAt (now (plan .entry)) at))) initial (r .known .values) (r .begun) (r .known .m) ⌝ }
+{
+    let mut values = [0u16; 65];
+    let mut begun = [0u8; 65];
+    values[0] = initial;
+    let mut m: usize = 1;
+    let mut i: usize = 0;
+    while i < count {
+        let o = at + 26 * i;
+        if bits::field(plan, o + 7, 3) == 0 {
+            values[m] = bits::field(plan, o + 10, 16) as u16;
+            begun[m] = bits::field(plan, o, 7) as u8;
+            m += 1;
+        }
+        i += 1;
+    }
+    let known = Known {
+        values: values,
+        m: m,
+    };
+    Writes {
+        known: known,
+        begun: begun,
+    }
+}
+
+// The reads among the operations that stand from bit `at` on.
+pub fn reads_of(plan: &[u8], at: usize, count: usize) -> Reads
+    requires { ⌜ Room (now plan) at count ⌝ }
+    ensures { λ r. ⌜ ReadIn (readsFrom (tab count (opAt (now (plan .entry)) at))) (r .begun) (r .reader) (r .m) ⌝ }
+{
+    let mut begun = [0u8; 255];
+    let mut reader = [0u8; 255];
+    let mut m: usize = 0;
+    let mut i: usize = 0;
+    while i < count {
+        let o = at + 26 * i;
+        let party = bits::field(plan, o + 7, 3);
+        if party != 0 {
+            begun[m] = bits::field(plan, o, 7) as u8;
+            reader[m] = party as u8;
+            m += 1;
+        }
+        i += 1;
+    }
+    Reads {
+        begun: begun,
+        reader: reader,
+        m: m,
+    }
+}
