@@ -2,13 +2,12 @@
 -- laws of claims, and on Good for the bound on a delay.
 use mathlib.Core.Path.{_≡_, refl, sym, ap, _∙_}
 use mathlib.Core.Bool.{Bool, true, false, not, _&&_, _||_, cond}
-use mathlib.Core.Logic.{_⊎_, inl, inr}
-use mathlib.Core.List.{List, [], _∷_, map}
-use Prim.Native.Nat.{ℕ, _+_, _*_, _-_, _≤_, _<_}
+use mathlib.Core.List.{List, [], map}
+use Prim.Native.Nat.{ℕ, _+_, _-_, _≤_, _<_}
 use native.Mathlib.Omega.{arith}
-use native.Mathlib.Decide.{decLe}
-use lib.Dec.{T, leb, ltb, eqb, eqb→eq, eqb-refl, leb→le, le→leb}
-use borrow.Author.Tests.{lt-ltb, ne-eqb}
+use native.Mathlib.Decide.{decLe, ℕ-discrete}
+use lib.Dec.{T, leb, ltb, eqb, eqb→eq, eqb-refl, le→leb}
+use borrow.Author.Tests.{lt-ltb, eq-eqb}
 use Rattle.register.specs.Lists.{anyUpTo, flat, In, member}
 use Rattle.register.specs.Plan.{Plan}
 use Rattle.register.specs.Server.{Claim, claimOf, has}
@@ -19,7 +18,7 @@ use Rattle.register.proofs.Counting.{anyUpTo-e, anyUpTo-i}
 use Rattle.register.proofs.Good.{Good}
 use Rattle.register.proofs.Claims.{has-in, in-has, has-append, has-flat}
 use Rattle.cluster.specs.declared.Links.{Links}
-use Rattle.cluster.specs.Layout.{votedIn, entryAt, forgedAt, delayAt}
+use Rattle.cluster.specs.Layout.{entryAt, forgedAt, delayAt}
 use Rattle.cluster.specs.Pull.{hit, arriving}
 use Rattle.cluster.specs.Tick.{forgedBy}
 use Rattle.cluster.specs.State.{LogRep}
@@ -37,17 +36,24 @@ in-from false p i ps y h = absurd y
 in-from true p i ps y h = map-in (claimOf i) p ps h
 
 module _ (P : Plan) (G : Good P) (g : ℕ → ℕ) (m t b : ℕ) (log : Log) (plan work : List ℕ) (links : Links) (L : LogRep P g m t log work)
-    (D : (u i : ℕ) → u < t → i < P .n → delayAt plan links u i b ≡ P .delay u i b) where
+    (D : (u i : ℕ) → u < t → i < P .n → (i ≡ b → ⊥) → delayAt plan links u i b ≡ P .delay u i b) where
   abbrev due : ℕ → ℕ → Bool
   due u i = not (eqb i b) && eqb (u + P .delay u i b) t
 
   abbrev sent : List Claim
   sent = flat t (λ u. flat (P .n) (λ i. votesFrom P t log b u i))
 
-  -- the test of the code is that of the step rules
-  hit-is : (u k j : ℕ) → u < t → k < P .n → j < m → hit plan work links u t b k j ≡ due u k && member (g j) (sentIn log u k .votes)
+  -- the test of the code is that of the step rules; no server votes to itself
+  hit-other : (u k j : ℕ) → u < t → k < P .n → j < m → (k ≡ b → ⊥) → hit plan work links u t b k j ≡ due u k && member (g j) (sentIn log u k .votes)
   unfolding hit
-  hit-is u k j l kn jm = rw (D u k l kn, L .votes u k j l kn jm)
+  hit-other u k j l kn jm d = rw (D u k l kn d, L .votes u k j l kn jm)
+
+  hit-self : (u k j : ℕ) → k ≡ b → hit plan work links u t b k j ≡ due u k && member (g j) (sentIn log u k .votes)
+  unfolding hit
+  hit-self u k j z = rw (eq-eqb k b z)
+
+  hit-is : (u k j : ℕ) → u < t → k < P .n → j < m → hit plan work links u t b k j ≡ due u k && member (g j) (sentIn log u k .votes)
+  hit-is u k j l kn jm = elim (ℕ-discrete k b) [ yes z ↦ hit-self u k j z | no d ↦ hit-other u k j l kn jm d ]
 
   to : (k j : ℕ) → k < P .n → j < m → T (has sent (g j) k) → T (arriving plan work links (t - P .delta) t b k j)
   unfolding arriving votesFrom

@@ -13,7 +13,7 @@ use lib.Bits.{bitOr, bitAnd, or-shr, or-mod, or-lt, and-shr, and-mod}
 use lib.Count.{ones, ones-step}
 use borrow.Author.Tests.{eqb-true, eqb-false}
 use Rattle.register.specs.Lists.{count, one-if}
-use Rattle.cluster.specs.Bits.{bit, sets}
+use Rattle.cluster.specs.Bits.{bit}
 
 or-turn : (a b : Bool) → a || b ≡ b || a
 or-turn true true = refl

@@ -7,6 +7,9 @@ pub mod RowLaws
 pub mod ForgeLaws
 pub mod TickLaws
 pub mod Order
+pub mod Told
 pub mod RepLaws
+pub mod MoveLaws
+pub mod RowNumbers
 pub mod Arrive
 pub mod StateLaws

@@ -12,7 +12,7 @@ use lib.ListN.{length, take, length-take}
 use lib.Seq.{take-take, take-all}
 use Rattle.register.specs.Lists.{In}
 use Rattle.register.specs.Server.{insert, insertAll, takeIn}
-use Rattle.register.proofs.Logic.{or-e, or-l, or-r, T-eq}
+use Rattle.register.proofs.Logic.{or-e, or-l, or-r}
 use Rattle.register.proofs.Lists.{in-append, in-left, in-right}
 use Rattle.register.proofs.Stores.{Falling, in-insertAll, falling-insertAll, insertAll-in}
 use Rattle.cluster.specs.Stages.{taken}

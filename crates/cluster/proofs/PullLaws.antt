@@ -13,7 +13,7 @@ use lib.Bits.{bitOr}
 use borrow.Author.Tests.{lt-ltb, le-ltb, le-leb, lt-leb, eq-eqb, ne-eqb, eqb-true, eqb-false, ltb-true, ltb-false}
 use Rattle.register.specs.Lists.{anyUpTo}
 use Rattle.cluster.specs.declared.Links.{Links}
-use Rattle.cluster.specs.Bits.{bit, sets}
+use Rattle.cluster.specs.Bits.{sets}
 use Rattle.cluster.specs.Layout.{byteAt, wroteAt, keptIn, votedIn, delayAt}
 use Rattle.cluster.specs.Pull.{Adds, hit, arriving}
 use Rattle.cluster.proofs.BitLaws.{marked}

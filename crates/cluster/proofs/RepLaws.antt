@@ -1,31 +1,32 @@
--- The engine's stages keep the relation with the step rules: what they make of a server that stands for the definitions' server stands for
--- what the definitions make of it. Every quorate pair is genuine, and so a known one. It stands on Order and on register's safety.
+-- Stages 1 and 2 of the engine keep the relation with the step rules: what they make of a server that stands for the definitions' server
+-- stands for what the definitions make of it. Every quorate pair is genuine, and so a known one. It stands on Order and on register's safety.
 use mathlib.Core.Path.{_≡_, refl, sym, ap, _∙_, fun-ext}
 use mathlib.Core.Bool.{Bool, true, false, not, _&&_, _||_, cond}
-use mathlib.Core.Logic.{_⊎_, inl, inr}
-use mathlib.Core.List.{List, [], _∷_, _++_}
-use Prim.Native.Nat.{ℕ, zero, suc, _+_, _*_, _/_, _≤_, _<_}
+use mathlib.Core.Logic.{inl, inr}
+use mathlib.Core.List.{List, [], _++_}
+use Prim.Native.Nat.{ℕ, zero, suc, _+_, _≤_, _<_}
 use native.Mathlib.Omega.{arith}
 use native.Mathlib.Decide.{decLe, ℕ-discrete}
-use lib.Dec.{T, leb, ltb, eqb, eqb→eq, eqb-refl, T-not}
+use lib.Dec.{T, ltb, eqb, eqb→eq, eqb-refl, T-not}
 use lib.ListN.{length, take, length-take}
 use borrow.Author.Tests.{lt-ltb, le-ltb, ne-eqb}
 use Rattle.register.specs.Lists.{count, one-if, any, filter, In, member, sameList}
-use Rattle.register.specs.Plan.{Plan, Write, Read, kk, echoQuorum, replyQuorum, isMove, readEnd}
-use Rattle.register.specs.Server.{Status, faulty, cured, correct, isFaulty, isCorrect, curedAt, Claim, has, pairsOf, Server, Sent, nothing, Out, insert, insertAll, takeIn, quorum, votedIn, deliver, stage1, stage2, stage3, stage4, blank, moved}
+use Rattle.register.specs.Plan.{Plan, Read, echoQuorum, replyQuorum, readEnd}
+use Rattle.register.specs.Server.{Status, faulty, cured, correct, isFaulty, isCorrect, curedAt, Claim, has, pairsOf, Server, nothing, Out, insert, insertAll, takeIn, quorum, votedIn, deliver, stage1, stage2}
 use Rattle.register.specs.Reading.{sameRead}
-use Rattle.register.proofs.Logic.{or-e, or-l, or-r, T-eq, F-eq}
+use Rattle.register.proofs.Logic.{or-e, or-l, or-r}
 use Rattle.register.proofs.Lists.{in-append, in-left, in-right, in-filter, filter-in, any-in, in-any, any-append}
 use Rattle.register.proofs.Good.{Good}
 use Rattle.register.proofs.Genuine.{Genuine, genuine-cases}
 use Rattle.register.proofs.Stores.{Falling}
 use Rattle.register.proofs.Claims.{quorum-named}
 use Rattle.register.proofs.Safety.{FreshSafe, OldSafe, ServerSafe, voted-genuine}
-use Rattle.cluster.specs.Stored.{Plain, Said, Both}
-use Rattle.cluster.specs.Stages.{nobody, noVotes, blankAs, restated, silent, turned, quorate, taken, voting, withWrite, repliesTo, delivered, stageOne, stageTwo, movedOn, stageFour}
+use Rattle.cluster.specs.Stored.{Plain, Both}
+use Rattle.cluster.specs.Stages.{restated, silent, quorate, taken, voting, withWrite, repliesTo, delivered, stageOne, stageTwo}
 use Rattle.cluster.specs.Inputs.{Knows}
 use Rattle.cluster.specs.State.{Votes, Rep}
 use Rattle.cluster.proofs.StageLaws.{write-kept}
+use Rattle.cluster.proofs.Told.{Mid, Came}
 use Rattle.cluster.proofs.PullLaws.{and-none, or-none}
 use Rattle.cluster.proofs.Order.{by-number}
 
@@ -49,38 +50,6 @@ count-cut p n (suc k) h = go (decLe n k) (λ l. count-cut p n k l)
 both-in : (a b c : Bool) → (a && b) || (a && c) ≡ a && (b || c)
 both-in true b c = refl
 both-in false b c = refl
-
--- ---- what a server sent and what its row says, in tick t
-
-module _ (P : Plan) (g : ℕ → ℕ) (m : ℕ) where
-  pub record Told (t : ℕ) (o : Sent) (q : Said) : Type 0 where
-    pub votes : (j : ℕ) → j < m → member (g j) (o .votes) ≡ eqb j (q .wrote) || (q .echoed && member (g j) (q .pairs))
-    pub readers : (r : Read) → In r (P .reads) → r .begun < t → t ≤ readEnd P r → any (sameRead r) (o .replyTo) ≡ q .readers (r .reader)
-    pub pairs : o .replyWith ≡ q .pairs
-    pub short : length (q .pairs) ≤ 3
-    pub early : (r : Read) → In r (P .reads) → t ≤ r .begun → any (sameRead r) (o .replyTo) ≡ false
-
-  -- after stages 1 and 2
-  pub record Mid (t : ℕ) (o : Out) (q : Both) : Type 0 where
-    pub server : Rep P g m (suc t) (o .server) (q .server)
-    pub sent : Told t (o .sent) (q .said)
-    pub whole : T (not (isFaulty (o .server .status))) → o .sent .replyWith ≡ o .server .kept
-    pub quiet : q .said .echoed ≡ false
-
-  -- after the tick
-  pub record End (t : ℕ) (o : Out) (q : Both) : Type 0 where
-    pub server : Rep P g m (suc t) (o .server) (q .server)
-    pub sent : Told t (o .sent) (q .said)
-
-  -- what arrives in tick t: the number w of the WRITE, the votes with those that were there, the readers asking, and those whose read did
-  -- not begin in tick t - 1
-  pub record Came (t : ℕ) (x : Server) (ws : List ℕ) (vs : List Claim) (rs : List Read) (w : ℕ) (votes : ℕ → ℕ → Bool) (asks live : ℕ → Bool) : Type 0 where
-    pub wrote : (j : ℕ) → j < m → member (g j) ws ≡ eqb j w
-    pub tally : isFaulty (x .status) ≡ false → Votes P g m (x .fresh ++ vs) votes
-    pub asking : (r : Read) → In r (P .reads) → r .begun < t → t ≤ readEnd P r → any (sameRead r) rs ≡ asks (r .reader)
-    pub later : (r : Read) → In r (P .reads) → t ≤ r .begun → any (sameRead r) rs ≡ false
-    pub lasting : (r : Read) → In r (P .reads) → suc (r .begun) < t → t ≤ readEnd P r → live (r .reader) ≡ true
-    pub began : (r : Read) → In r (P .reads) → suc (r .begun) ≡ t → live (r .reader) ≡ false
 
 module _ (P : Plan) (G : Good P) (g : ℕ → ℕ) (m : ℕ) (K : Knows P g m) where
   -- a genuine pair has a number
@@ -296,113 +265,3 @@ module _ (P : Plan) (G : Good P) (g : ℕ → ℕ) (m : ℕ) (K : Knows P g m) w
             whole = λ n. refl;
             quiet = M .quiet;
           }
-
-  -- ---- stages 3 and 4 at a movement
-
-  no-votes : Votes P g m [] noVotes
-  unfolding has any
-  no-votes j i h = sym (and-none (ltb i (P .n)))
-
-  moved-rep : (t : ℕ) (h : Bool) (x : Server) (s : Plain) → Rep P g m (suc t) x s → Rep P g m (suc t) (moved P t h x) (movedOn (eqb (kk P) 2) h t s)
-  unfolding moved movedOn any
-  moved-rep t true x s R = record {
-    status = refl;
-    kept = refl;
-    short = omega arith;
-    fresh = no-votes;
-    old = no-votes;
-    heard = λ r i a b. refl;
-    unheard = λ r i a. refl;
-    empty = λ y. (refl, refl);
-  }
-  moved-rep t false x s R = rw (R .status) (go (isFaulty (s .status)) refl (eqb (kk P) 2))
-    where
-      olds : (k : Bool) → Votes P g m (cond k (x .fresh) []) (cond k (s .fresh) noVotes)
-      olds true = R .fresh
-      olds false = no-votes
-
-      go : (b : Bool) → isFaulty (s .status) ≡ b → (k : Bool) → Rep P g m (suc t)
-          (cond b (blank (cured t)) (record { status = s .status; kept = x .kept; pending = x .pending; fresh = []; old = cond k (x .fresh) [] }))
-          (cond b (blankAs (cured t)) (turned k s))
-      go true h k = record {
-        status = refl;
-        kept = refl;
-        short = omega arith;
-        fresh = no-votes;
-        old = no-votes;
-        heard = λ r i a b. refl;
-        unheard = λ r i a. refl;
-        empty = λ y. absurd y;
-      }
-      go false h k = record {
-        status = refl;
-        kept = R .kept;
-        short = R .short;
-        fresh = no-votes;
-        old = olds k;
-        heard = R .heard;
-        unheard = R .unheard;
-        empty = λ y. absurd (rw h at y);
-      }
-
-  -- a server that is correct after the movement has the pairs that it had
-  correct-kept : (t : ℕ) (h : Bool) (x : Server) → T (isCorrect (moved P t h x .status)) → T (not (isFaulty (x .status))) × (moved P t h x .kept ≡ x .kept)
-  unfolding moved
-  correct-kept t true x y = absurd y
-  correct-kept t false x y = go (isFaulty (x .status)) refl y
-    where
-      br : Bool → Server
-      br b = cond b (blank (cured t)) (record { status = x .status; kept = x .kept; pending = x .pending; fresh = []; old = cond (eqb (kk P) 2) (x .fresh) [] })
-
-      go : (b : Bool) → isFaulty (x .status) ≡ b → T (isCorrect (br b .status)) → T (not (isFaulty (x .status))) × (br b .kept ≡ x .kept)
-      go true h y = absurd y
-      go false h y = (rw h tt, refl)
-
-  pub four-rep : (t b : ℕ) (o : Out) (q : Both) → T (isMove P t) → Mid P g m t o q
-      → End P g m t (stage4 P t (stage3 P t b o)) (stageFour (eqb (kk P) 2) (P .placed (t / P .period) b) t q)
-  unfolding stage4 stage3 stageFour
-  four-rep t b o q mv M = rw (T-eq (isMove P t) mv) (go (isCorrect (mb .status)) refl)
-    where
-      h : Bool
-      h = P .placed (t / P .period) b
-
-      mb : Server
-      mb = moved P t h (o .server)
-
-      ms : Plain
-      ms = movedOn (eqb (kk P) 2) h t (q .server)
-
-      R : Rep P g m (suc t) mb ms
-      R = moved-rep t h (o .server) (q .server) (M .server)
-
-      quiet-votes : (j : ℕ) → j < m → member (g j) (o .sent .votes) ≡ eqb j (q .said .wrote)
-      quiet-votes j l = M .sent .votes j l ∙ rw (M .quiet) (sym (or-none (eqb j (q .said .wrote))))
-
-      go : (e : Bool) → isCorrect (mb .status) ≡ e
-          → End P g m t
-          (cond e (record { server = mb; sent = record { votes = o .sent .votes ++ mb .kept; replyTo = o .sent .replyTo; replyWith = o .sent .replyWith } }) (record { server = mb; sent = o .sent }))
-          (record { server = ms; said = record { wrote = q .said .wrote; echoed = isCorrect (ms .status); readers = q .said .readers; pairs = q .said .pairs } })
-      go true y =
-          let w = correct-kept t h (o .server) (rw y tt) in
-          let k : mb .kept ≡ q .said .pairs = w .1 ∙ sym (M .whole (w .0)) ∙ M .sent .pairs in
-          let z : isCorrect (ms .status) ≡ true = rw (R .status) at y in
-          record {
-            server = R;
-            sent = record {
-              votes = λ j l. any-append (λ p. eqb p (g j)) (o .sent .votes) (mb .kept) ∙ rw (z, k, quiet-votes j l);
-              readers = M .sent .readers;
-              pairs = M .sent .pairs;
-              short = M .sent .short;
-              early = M .sent .early;
-            };
-          }
-      go false y =
-          let z : isCorrect (ms .status) ≡ false = rw (R .status) at y in
-          record {
-            server = R;
-            sent = record { votes = λ j l. quiet-votes j l ∙ rw z (or-none (eqb j (q .said .wrote))); readers = M .sent .readers; pairs = M .sent .pairs; short = M .sent .short; early = M .sent .early };
-          }
-
-  pub still-rep : (t b : ℕ) (o : Out) (q : Both) → T (not (isMove P t)) → Mid P g m t o q → End P g m t (stage4 P t (stage3 P t b o)) q
-  unfolding stage4 stage3
-  still-rep t b o q mv M = rw (F-eq (isMove P t) mv) (record { server = M .server; sent = M .sent })

@@ -1,9 +1,9 @@
 -- Steps of the stages' proofs: the quorum's test by masks, a turn of taking in, and the stages put together from what their calls give.
 -- It stands on BitLaws.
-use mathlib.Core.Path.{_≡_, refl, sym, ap, _∙_, fun-ext}
+use mathlib.Core.Path.{_≡_, refl, ap, _∙_, fun-ext}
 use mathlib.Core.Bool.{Bool, true, false, _&&_, _||_, cond}
-use mathlib.Core.List.{List, []}
-use Prim.Native.Nat.{ℕ, suc, _+_, _^_, _≤_, _<_}
+use mathlib.Core.List.{List}
+use Prim.Native.Nat.{ℕ, _+_, _^_, _≤_, _<_}
 use native.Mathlib.Omega.{arith}
 use native.Mathlib.Numerals.{add-one}
 use lib.Dec.{leb, ltb}
@@ -12,12 +12,12 @@ use lib.Bits.{bitOr, bitAnd}
 use lib.Count.{ones}
 use borrow.Author.Tests.{le-leb, lt-leb}
 use Rattle.register.specs.Lists.{count, sameList}
-use Rattle.register.specs.Server.{Status, faulty, isFaulty, isCorrect, curedAt, insert}
+use Rattle.register.specs.Server.{faulty, isFaulty, isCorrect, curedAt, insert}
 use Rattle.register.proofs.Logic.{cond-ap}
 use Rattle.register.proofs.Counting.{count-none}
 use Rattle.cluster.specs.Bits.{bit, sets}
-use Rattle.cluster.specs.Stored.{Plain, Said, Both}
-use Rattle.cluster.specs.Stages.{nobody, noVotes, blankAs, restated, written, wiped, cureEnded, quorate, taken, voting, withWrite, repliesTo, delivered, stageOne, stageTwo, movedOn, stageFour}
+use Rattle.cluster.specs.Stored.{Plain, Both}
+use Rattle.cluster.specs.Stages.{nobody, noVotes, blankAs, restated, written, resetAt, cureEnded, turned, quorate, taken, voting, withWrite, repliesTo, delivered, stageOne, stageTwo, movedOn, stageFour}
 use Rattle.cluster.proofs.BitLaws.{bit-zero, bit-or, bit-and, unmarked, ones-count, ones-either}
 
 pub zero-table : sets (replicate 65 0) ≡ noVotes
@@ -104,8 +104,13 @@ pub cure-law : (delta t : ℕ) (o : Both) (s : Plain) → curedAt delta t (o .se
 unfolding stageTwo
 cure-law delta t o s h e = rw (e, h)
 
--- a server that becomes faulty is wiped first
-pub seized : (t : ℕ) (s q : Plain) → q ≡ wiped t → s ≡ restated faulty q → s ≡ blankAs faulty
+-- a new period: no fresh votes, and of the old ones those that still count
+pub turned-law : (two : Bool) (s : Plain) (fresh old : ℕ → ℕ → Bool) → fresh ≡ noVotes → old ≡ cond two (s .fresh) noVotes
+    → record { status = s .status; kept = s .kept; pending = s .pending; fresh = fresh; old = old } ≡ turned two s
+turned-law two s fresh old e f = rw (e, f)
+
+-- a server that becomes faulty is reset first
+pub seized : (t : ℕ) (s q : Plain) → q ≡ resetAt t → s ≡ restated faulty q → s ≡ blankAs faulty
 seized t s q e f = rw (f, e)
 
 pub echo-law : (two h : Bool) (t : ℕ) (o : Both) (s : Plain) (e : Bool) → s ≡ movedOn two h t (o .server) → e ≡ isCorrect (s .status)

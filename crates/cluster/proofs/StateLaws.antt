@@ -1,21 +1,21 @@
 -- A tick of the engine is a tick of the cluster: from State before tick t and what the tick is fed follows State before tick t + 1. At the
 -- start State holds. It stands on RepLaws, Arrive and register's safety; the bound on n is not used.
-use mathlib.Core.Path.{_≡_, refl, sym, ap, _∙_}
+use mathlib.Core.Path.{_≡_, refl, sym, ap, _∙_, subst}
 use mathlib.Core.Bool.{Bool, true, false, _&&_, _||_, cond}
-use mathlib.Core.Logic.{_⊎_, inl, inr}
+use mathlib.Core.Logic.{inl, inr}
 use mathlib.Core.List.{List, [], _∷_, _++_}
-use Prim.Native.Nat.{ℕ, zero, suc, _+_, _*_, _-_, _/_, _≤_, _<_}
+use Prim.Native.Nat.{ℕ, suc, _+_, _*_, _-_, _/_, _≤_, _<_}
 use native.Mathlib.Omega.{arith}
 use native.Mathlib.Decide.{decLe, ℕ-discrete}
-use lib.Dec.{T, eqb, eqb→eq, eqb-refl, ltb}
-use lib.ListN.{length, getD}
-use borrow.Author.Tests.{lt-ltb, le-ltb, ne-eqb}
+use lib.Dec.{eqb, eqb→eq, ltb}
+use lib.ListN.{getD}
+use borrow.Author.Tests.{lt-ltb, le-ltb}
 use Rattle.register.specs.Lists.{any, In, member}
-use Rattle.register.specs.Plan.{Plan, Read, kk, echoQuorum, replyQuorum, isMove, readEnd}
-use Rattle.register.specs.Server.{Status, isFaulty, Claim, has, Server, stage3, stage4}
-use Rattle.register.specs.Cluster.{sentIn, writesIn, readsIn, votesIn, serverOf, cluster}
+use Rattle.register.specs.Plan.{Plan, Read, kk, echoQuorum, replyQuorum, isMove, readEnd, stamped}
+use Rattle.register.specs.Server.{isFaulty, Claim, has, Server, stage3, stage4}
+use Rattle.register.specs.Cluster.{sentIn, writesIn, readsIn, forgedIn, votesIn, serverOf, cluster}
 use Rattle.register.specs.Reading.{sameRead}
-use Rattle.register.proofs.Logic.{and-l, T-iff}
+use Rattle.register.proofs.Logic.{and-l}
 use Rattle.register.proofs.Lists.{in-append, any-in, in-filter}
 use Rattle.register.proofs.Good.{Good}
 use Rattle.register.proofs.Claims.{has-append}
@@ -23,64 +23,21 @@ use Rattle.register.proofs.Safety.{FreshSafe, ServerSafe}
 use Rattle.register.proofs.SafetyTick.{cluster-safe, writesIn-genuine, votesIn-safe, reply-genuine}
 use Rattle.register.proofs.Trace.{before, delivered, mid, end, before-zero, before-suc, sent-row}
 use Rattle.cluster.specs.declared.Server.{Server as Stored}
-use Rattle.cluster.specs.declared.Row.{Row}
 use Rattle.cluster.specs.declared.Rules.{Rules}
 use Rattle.cluster.specs.Bits.{bit}
 use Rattle.cluster.specs.Layout.{byteAt, keptIn, votedIn}
 use Rattle.cluster.specs.Stored.{Plain, Both, keys, server, both, absent}
-use Rattle.cluster.specs.Stages.{noVotes, stageOne, stageTwo, stageFour, stagesOf}
+use Rattle.cluster.specs.Stages.{stageOne, stageTwo, stageFour, stagesOf}
 use Rattle.cluster.specs.Pull.{arriving}
-use Rattle.cluster.specs.Rows.{numAt, flagOf, RowIs}
 use Rattle.cluster.specs.Inputs.{pairAt, Knows, Fits}
-use Rattle.cluster.specs.Tick.{Feed, forgedBy, coming, Turned, Done, Ticked, firstOf, Started}
-use Rattle.cluster.specs.State.{Votes, Rep, LogRep, State}
+use Rattle.cluster.specs.Tick.{Feed, forgedBy, coming, Done, Ticked, Started}
+use Rattle.cluster.specs.State.{Votes, Rep, State}
 use Rattle.cluster.proofs.PullLaws.{and-none}
-use Rattle.cluster.proofs.RepLaws.{Told, Mid, End, Came, genuine-known, one-rep, two-rep, four-rep, still-rep}
+use Rattle.cluster.proofs.Told.{Mid, End, Came}
+use Rattle.cluster.proofs.RepLaws.{genuine-known, one-rep, two-rep}
+use Rattle.cluster.proofs.MoveLaws.{four-rep, still-rep}
+use Rattle.cluster.proofs.RowNumbers.{AllKnown, row-pairs, row-votes}
 use Rattle.cluster.proofs.Arrive.{pulled, in-window, no-stranger}
-
--- ---- a row says which known pairs were kept and voted for
-
-module _ (P : Plan) (g : ℕ → ℕ) (m : ℕ) (K : Knows P g m) where
-  abbrev pub AllKnown : List ℕ → Type 0
-  AllKnown l = (p : ℕ) → In p l → (j : ℕ) × (j < m) × (p ≡ g j)
-
-  same-number : (p j : ℕ) → j < m → (i : ℕ) × (i < m) × (p ≡ g i) → eqb p (g j) ≡ eqb j (p / 65536)
-  same-number p j h (i, l, e) =
-      let n : p / 65536 ≡ i = rw e (K .number i l) in
-      rw n (T-iff (eqb p (g j)) (eqb j i)
-      (λ y. let q : p ≡ g j = eqb→eq p (g j) y in let w : j ≡ i = sym (K .number j h) ∙ rw (← q) n in rw w (eqb-refl i))
-      (λ y. let q : j ≡ i = eqb→eq j i y in rw (q, e) (eqb-refl (g i))))
-
-  none : (j : ℕ) → j < m → eqb j 255 ≡ false
-  none j h = ne-eqb j 255 (λ e. omega (arith, K .few))
-
-  numbers : (l : List ℕ) (j : ℕ) → length l ≤ 3 → AllKnown l → j < m → member (g j) l ≡ eqb j (numAt 0 l) || (eqb j (numAt 1 l) || eqb j (numAt 2 l))
-  unfolding numAt any
-  numbers [] j s k h = rw (none j h)
-  numbers (x ∷ []) j s k h = rw (none j h, same-number x j h (k x (inl refl)))
-  numbers (x ∷ y ∷ []) j s k h = rw (none j h, same-number x j h (k x (inl refl)), same-number y j h (k y (inr (inl refl))))
-  numbers (x ∷ y ∷ z ∷ []) j s k h =
-      rw (same-number x j h (k x (inl refl)), same-number y j h (k y (inr (inl refl))), same-number z j h (k z (inr (inr (inl refl))))) (go (eqb j (x / 65536)) (eqb j (y / 65536)) (eqb j (z / 65536)))
-    where
-      go : (a b c : Bool) → a || (b || (c || false)) ≡ a || (b || c)
-      go true b c = refl
-      go false true c = refl
-      go false false true = refl
-      go false false false = refl
-  numbers (x ∷ y ∷ z ∷ w ∷ l) j s k h = absurd (omega arith)
-
-  module _ (work : List ℕ) (row : ℕ) (r : Row) (R : RowIs work row r) (s : length (keys (r .kept)) ≤ 3) (k : AllKnown (keys (r .kept))) where
-    row-pairs : (j : ℕ) → j < m → member (g j) (keys (r .kept)) ≡ keptIn work row j
-    unfolding keptIn
-    row-pairs j h = numbers (keys (r .kept)) j s k h ∙ rw (R .x, R .y, R .z)
-
-    row-votes : (j : ℕ) → j < m → eqb j (r .wrote) || (r .echoed && member (g j) (keys (r .kept))) ≡ votedIn work row j
-    unfolding votedIn
-    row-votes j h = rw (R .wrote, R .echoed, row-pairs j h, flag (r .echoed))
-      where
-        flag : (b : Bool) → eqb (flagOf b) 1 ≡ b
-        flag true = refl
-        flag false = refl
 
 -- ---- what arrives
 
@@ -169,11 +126,11 @@ module _ (P : Plan) (G : Good P) (F : Feed) (nf : ℕ)
     abbrev live : ℕ → Bool
     live y = bit y (F .arrivals .live)
 
-    forged-is : (j i : ℕ) → j < m → i < P .n → forgedBy (F .work) t (F .window .from) (F .window .to) b i j ≡ has (Rattle.register.specs.Cluster.forgedIn P t b) (g j) i
+    forged-is : (j i : ℕ) → j < m → i < P .n → forgedBy (F .work) t (F .window .from) (F .window .to) b i j ≡ has (forgedIn P t b) (g j) i
     forged-is j i h li =
         in-window (F .work) t (F .window .from) (F .window .to) nf (fit .last) (fit .earlier) (fit .later) b i j (omega (arith, K .servers)) ∙ sym (fit .forged b i j lb li h)
 
-    pulled-is : (j i : ℕ) → j < m → i < P .n → has vs (g j) i ≡ arriving (F .plan) (F .work) (F .links) (t - P .delta) t b i j || has (Rattle.register.specs.Cluster.forgedIn P t b) (g j) i
+    pulled-is : (j i : ℕ) → j < m → i < P .n → has vs (g j) i ≡ arriving (F .plan) (F .work) (F .links) (t - P .delta) t b i j || has (forgedIn P t b) (g j) i
     pulled-is j i h li = pulled P G g m t b (cluster P t .log) (F .plan) (F .work) (F .links) (S .rows) (λ u k a q. fit .delays u k b a q lb) i j li h
 
     coming-is : (j i : ℕ) → coming F b i j
@@ -200,7 +157,7 @@ module _ (P : Plan) (G : Good P) (F : Feed) (nf : ℕ)
         go (no l) =
             let li : i < P .n = omega arith in
             rw (lt-ltb i (P .n) li, has-append (x .fresh) vs (g j) i, pulled-is j i h li, forged-is j i h li)
-            (ap (λ (v : Bool). has (x .fresh) (g j) i || v) (or-turn (has (Rattle.register.specs.Cluster.forgedIn P t b) (g j) i) (arriving (F .plan) (F .work) (F .links) (t - P .delta) t b i j)))
+            (ap (λ (v : Bool). has (x .fresh) (g j) i || v) (or-turn (has (forgedIn P t b) (g j) i) (arriving (F .plan) (F .work) (F .links) (t - P .delta) t b i j)))
 
     came : Came P g m t x (writesIn P t b) vs (readsIn P t b) wrote (d .turned .votes) asks live
     came = record {
@@ -229,8 +186,8 @@ module _ (P : Plan) (G : Good P) (F : Feed) (nf : ℕ)
         (fit .two) (fit .delta) (fit .echo) (fit .reply) (fit .moving) (λ y. fit .faulty y b lb) (d .turned .stages)) (go (isMove P t) refl)
       where
         go : (c : Bool) → isMove P t ≡ c → End P g m t (stage4 P t (stage3 P t b (mid P t b))) (cond c (stageFour (eqb (kk P) 2) (P .placed (t / P .period) b) t second) second)
-        go true e = four-rep P G g m K t b (mid P t b) second (rw e tt) middle
-        go false e = still-rep P G g m K t b (mid P t b) second (rw e tt) middle
+        go true e = four-rep P g m t b (mid P t b) second (rw e tt) middle
+        go false e = still-rep P g m t b (mid P t b) second (rw e tt) middle
 
     now-row : sentIn (cluster P (suc t) .log) t b ≡ end P t b .sent
     now-row = sent-row P (suc t) t b lb (omega arith)
@@ -297,11 +254,11 @@ pub next-state : (P : Plan) → Good P → (F : Feed) (nf : ℕ)
     → Fits P (F .t) (F .plan) (F .work) (F .rules) (F .known) (F .links) (F .arrivals) (F .movement) (F .window) nf → Knows P (pairAt (F .known)) (F .known .m)
     → (c₀ c₁ : List Stored) (work : List ℕ) → Ticked F c₀ c₁ work (F .rules .n) → State P (pairAt (F .known)) (F .known .m) (F .t) c₀ (F .work)
     → State P (pairAt (F .known)) (F .known .m) (suc (F .t)) c₁ work
-next-state P G F nf fit K c₀ c₁ work D S = tick-state P G F nf fit K c₀ c₁ work (mathlib.Core.Path.subst (λ (n : ℕ). Ticked F c₀ c₁ work n) (fit .n) D) S
+next-state P G F nf fit K c₀ c₁ work D S = tick-state P G F nf fit K c₀ c₁ work (subst (λ (n : ℕ). Ticked F c₀ c₁ work n) (fit .n) D) S
 
 -- ---- the start
 
-pub first-state : (P : Plan) (g : ℕ → ℕ) (m v : ℕ) → Knows P g m → g 0 ≡ Rattle.register.specs.Plan.stamped 16 v 0 → (c : List Stored) (work : List ℕ) → Started v c → State P g m 0 c work
+pub first-state : (P : Plan) (g : ℕ → ℕ) (m v : ℕ) → Knows P g m → g 0 ≡ stamped 16 v 0 → (c : List Stored) (work : List ℕ) → Started v c → State P g m 0 c work
 unfolding has any before
 first-state P g m v K e c work S = record {
   servers = λ b lb. rw (before-zero P b lb, S .each b (omega (arith, K .servers))) (record {

@@ -1,7 +1,7 @@
 -- The loop over the servers in a tick: its start, a turn, and what it has done at its end, with the votes that were forged and those pulled
 -- from the log. It stands on RowLaws and ForgeLaws.
-use mathlib.Core.Path.{_≡_, refl, sym, ap, _∙_}
-use mathlib.Core.Bool.{Bool, true, false, _&&_, _||_, cond}
+use mathlib.Core.Path.{_≡_, refl, ap, _∙_}
+use mathlib.Core.Bool.{Bool, true, false, _&&_, _||_}
 use mathlib.Core.Logic.{_⊎_, inl, inr}
 use mathlib.Core.List.{List, [], _∷_}
 use Prim.Native.Nat.{ℕ, _+_, _*_, _-_, _≤_, _<_}
@@ -11,17 +11,17 @@ use lib.Dec.{ltb}
 use lib.ListN.{length, getD, set, length-set, replicate, getD-replicate}
 use lib.Seq.{getD-set-same, getD-set-other}
 use borrow.Author.Tests.{lt-ltb}
-use Rattle.register.specs.Server.{isFaulty}
+use Rattle.register.specs.Server.{Status, isFaulty}
 use Rattle.cluster.specs.declared.Server.{Server}
 use Rattle.cluster.specs.declared.Status.the-variants.{Correct}
 use Rattle.cluster.specs.declared.Step.{Step}
 use Rattle.cluster.specs.declared.Rules.{Rules}
 use Rattle.cluster.specs.Bits.{bit, sets}
-use Rattle.cluster.specs.Stored.{Plain, Both, keys, server, both, pairOf, absent}
+use Rattle.cluster.specs.Stored.{Plain, Both, keys, server, both, absent}
 use Rattle.cluster.specs.Stages.{noVotes, delivered, stageOne, stagesOf}
 use Rattle.cluster.specs.Pull.{Adds, arriving}
 use Rattle.cluster.specs.Rows.{RowIs, rowBytes}
-use Rattle.cluster.specs.Tick.{forgedBy, Gets, Forged, Stepped, Feed, coming, Turned, Done, Ticked, firstOf, Started}
+use Rattle.cluster.specs.Tick.{forgedBy, Gets, Forged, Stepped, Feed, coming, Turned, Ticked, firstOf, Started}
 use Rattle.cluster.proofs.BitLaws.{unmarked}
 use Rattle.cluster.proofs.StageLaws.{zero-set, write-kept}
 use Rattle.cluster.proofs.RowLaws.{row-other, row-size, row-is, row-keep}
@@ -40,7 +40,7 @@ module _ (g : ℕ → ℕ) (m e r w : ℕ) (votes : ℕ → ℕ → Bool) (asks 
       like : q ≡ record { status = s .status; kept = s .kept; pending = s .pending; fresh = q .fresh; old = s .old }
       like = with-fields (q .status) (s .status) (q .kept) (s .kept) (q .pending) (s .pending) (q .old) (s .old) (G .status) (G .kept) (G .pending) (G .old)
         where
-          with-fields : (a a' : Rattle.register.specs.Server.Status) (b b' : List ℕ) (c c' : ℕ → Bool) (d d' : ℕ → ℕ → Bool) → a ≡ a' → b ≡ b' → c ≡ c' → d ≡ d'
+          with-fields : (a a' : Status) (b b' : List ℕ) (c c' : ℕ → Bool) (d d' : ℕ → ℕ → Bool) → a ≡ a' → b ≡ b' → c ≡ c' → d ≡ d'
               → _≡_ {A = Plain} (record { status = a; kept = b; pending = c; fresh = q .fresh; old = d }) (record { status = a'; kept = b'; pending = c'; fresh = q .fresh; old = d' })
           with-fields a a' b b' c c' d d' x y z w = rw (x, y, z, w)
 

@@ -1,6 +1,6 @@
 -- What a tick of the engine is fed says what the abstract plan says.
 use mathlib.Core.Path.{_≡_}
-use mathlib.Core.Bool.{Bool, true, false}
+use mathlib.Core.Bool.{true, false}
 use mathlib.Core.List.{List}
 use Prim.Native.Nat.{ℕ, suc, _+_, _*_, _-_, _/_, _^_, _≤_, _<_}
 use lib.Dec.{eqb}
@@ -56,7 +56,8 @@ pub record Fits (P : Plan) (t : ℕ) (plan work : List ℕ) (rules : Rules) (kno
   pub two : rules .two ≡ eqb (kk P) 2
   pub echo : rules .echo ≡ echoQuorum P
   pub reply : rules .reply ≡ replyQuorum P
-  pub delays : (u i b : ℕ) → u < t → i < P .n → b < P .n → delayAt plan links u i b ≡ P .delay u i b
+  -- a server sends nothing to itself: its packed delay is 0 there
+  pub delays : (u i b : ℕ) → u < t → i < P .n → b < P .n → (i ≡ b → ⊥) → delayAt plan links u i b ≡ P .delay u i b
   pub moving : movement .moving ≡ isMove P t
   pub faulty : isMove P t ≡ true → (b : ℕ) → b < P .n → bit (15 - b) (movement .faulty) ≡ P .placed (t / P .period) b
   pub wrote : (b j : ℕ) → b < P .n → j < known .m → member (pairAt known j) (writesIn P t b) ≡ eqb j (getD (arrivals .wrote) b 0)

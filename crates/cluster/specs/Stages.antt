@@ -36,8 +36,8 @@ voted j i s =
     s
     (record { status = s .status; kept = s .kept; pending = s .pending; fresh = λ x y. (eqb x j && eqb y i) || s .fresh x y; old = s .old })
 
-abbrev pub wiped : ℕ → Plain
-wiped t = blankAs (cured t)
+abbrev pub resetAt : ℕ → Plain
+resetAt t = blankAs (cured t)
 
 abbrev pub cureEnded : ℕ → ℕ → Plain → Plain
 cureEnded delta t s = cond (curedAt delta t (s .status)) (restated correct s) s
@@ -94,7 +94,7 @@ stageTwo delta t o =
 
 unfoldable pub movedOn : Bool → Bool → ℕ → Plain → Plain
 movedOn two now-faulty t s =
-    cond now-faulty (blankAs faulty) (cond (isFaulty (s .status)) (wiped t) (turned two s))
+    cond now-faulty (blankAs faulty) (cond (isFaulty (s .status)) (resetAt t) (turned two s))
 
 -- stages 3 and 4 at a movement
 unfoldable pub stageFour : Bool → Bool → ℕ → Both → Both

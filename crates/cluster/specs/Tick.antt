@@ -17,6 +17,7 @@ use Rattle.cluster.specs.declared.Links.{Links}
 use Rattle.cluster.specs.declared.Arrivals.{Arrivals}
 use Rattle.cluster.specs.declared.Movement.{Movement}
 use Rattle.cluster.specs.declared.Window.{Window}
+use Rattle.cluster.specs.declared.Feed.{Feed as Fed}
 use Rattle.cluster.specs.Bits.{bit, sets}
 use Rattle.cluster.specs.Layout.{forgedAt}
 use Rattle.cluster.specs.Stored.{Plain, Both, server, both, pairOf, absent}
@@ -70,6 +71,20 @@ pub record Feed : Type 0 where
   pub arrivals : Arrivals
   pub movement : Movement
   pub window : Window
+
+-- the code's struct with the plan and the workspace
+abbrev pub feedOf : List ℕ → List ℕ → Fed → Feed
+feedOf plan work f = record {
+  plan = plan;
+  work = work;
+  t = f .t;
+  rules = f .rules;
+  known = f .known;
+  links = f .links;
+  arrivals = f .arrivals;
+  movement = f .movement;
+  window = f .window;
+}
 
 module _ (F : Feed) where
   -- the votes of server i for pair j that arrive at server b

@@ -4,7 +4,7 @@ ghost use mathlib.Core.Bool.{true};
 ghost use Prim.Native.Nat.{_<_};
 ghost use Rattle.register.specs.Server.{isFaulty, isCorrect, curedAt};
 ghost use Rattle.cluster.specs.Stored.{keyOf, statusOf, server};
-ghost use Rattle.cluster.specs.Stages.{restated, written, voted, wiped, cureEnded, turned};
+ghost use Rattle.cluster.specs.Stages.{restated, written, voted, resetAt, cureEnded, turned};
 use super::Server;
 use super::Stamped;
 use super::Status;
@@ -89,7 +89,7 @@ impl Server {
 
     // Is wiped, and cures from tick t on.
     pub fn wipe(mut self, t: u8) -> Self
-        ensures { λ r. ⌜ server r ≡ wiped t ⌝ }
+        ensures { λ r. ⌜ server r ≡ resetAt t ⌝ }
     {
         let none = store::none();
         let zero = [0u16; 65];
@@ -115,10 +115,10 @@ impl Server {
     pub fn turn(mut self, two: bool) -> Self
         ensures { λ r. ⌜ server r ≡ turned two (server self) ⌝ }
     {
-        let zero = [0u16; 65];
+        let none = [0u16; 65];
         let fresh = self.fresh;
-        self.fresh = zero;
-        self.old = zero;
+        self.fresh = none;
+        self.old = none;
         if two {
             self.old = fresh;
         }

@@ -8,7 +8,7 @@ ghost use Rattle.cluster.specs.Bits.{bit};
 ghost use Rattle.cluster.specs.Layout.{entryAt};
 ghost use Rattle.cluster.specs.Stored.{server, both};
 ghost use Rattle.cluster.specs.Inputs.{Sized};
-ghost use Rattle.cluster.specs.Tick.{Merged, Forged, Stepped, Ticked, Started};
+ghost use Rattle.cluster.specs.Tick.{Merged, Forged, Stepped, Ticked, Started, feedOf};
 use super::Arrivals;
 use super::Cluster;
 use super::Feed;
@@ -182,7 +182,7 @@ pub fn ticked(
 // The same with what it is fed in one struct.
 pub fn fed(c: Cluster, work: &mut [u8], plan: &[u8], feed: Feed) -> Cluster
     requires { ⌜ Sized (now plan) (now work) (feed .t) (feed .rules) (feed .known) (feed .links) (feed .window) ⌝ }
-    ensures { λ r. ⌜ Ticked (record { plan = now (plan .entry); work = now (work .entry); t = feed .t; rules = feed .rules; known = feed .known; links = feed .links; arrivals = feed .arrivals; movement = feed .movement; window = feed .window }) (c .servers) (r .servers) (now (work .exit)) (feed .rules .n) ⌝ }
+    ensures { λ r. ⌜ Ticked (feedOf (now (plan .entry)) (now (work .entry)) feed) (c .servers) (r .servers) (now (work .exit)) (feed .rules .n) ⌝ }
 {
     let rules = feed.rules;
     let known = feed.known;
@@ -207,7 +207,7 @@ pub fn fed(c: Cluster, work: &mut [u8], plan: &[u8], feed: Feed) -> Cluster
 // One tick of a cluster that is lent.
 pub fn tick(c: &mut Cluster, work: &mut [u8], plan: &[u8], feed: Feed)
     requires { ⌜ Sized (now plan) (now work) (feed .t) (feed .rules) (feed .known) (feed .links) (feed .window) ⌝ }
-    ensures { λ _. ⌜ Ticked (record { plan = now (plan .entry); work = now (work .entry); t = feed .t; rules = feed .rules; known = feed .known; links = feed .links; arrivals = feed .arrivals; movement = feed .movement; window = feed .window }) (now (c .entry) .servers) (now (c .exit) .servers) (now (work .exit)) (feed .rules .n) ⌝ }
+    ensures { λ _. ⌜ Ticked (feedOf (now (plan .entry)) (now (work .entry)) feed) (now (c .entry) .servers) (now (c .exit) .servers) (now (work .exit)) (feed .rules .n) ⌝ }
 {
     *c = fed(*c, work, plan, feed);
 }
@@ -215,7 +215,7 @@ pub fn tick(c: &mut Cluster, work: &mut [u8], plan: &[u8], feed: Feed)
 // A tick of a cluster by value, by lending it: who calls this needs no proof by hand.
 pub fn next(c: Cluster, work: &mut [u8], plan: &[u8], feed: Feed) -> Cluster
     requires { ⌜ Sized (now plan) (now work) (feed .t) (feed .rules) (feed .known) (feed .links) (feed .window) ⌝ }
-    ensures { λ r. ⌜ Ticked (record { plan = now (plan .entry); work = now (work .entry); t = feed .t; rules = feed .rules; known = feed .known; links = feed .links; arrivals = feed .arrivals; movement = feed .movement; window = feed .window }) (c .servers) (r .servers) (now (work .exit)) (feed .rules .n) ⌝ }
+    ensures { λ r. ⌜ Ticked (feedOf (now (plan .entry)) (now (work .entry)) feed) (c .servers) (r .servers) (now (work .exit)) (feed .rules .n) ⌝ }
 {
     let mut local = c;
     tick(&mut local, work, plan, feed);

@@ -1,6 +1,5 @@
 -- `log::delay` meets its contract: the field lies in the plan, and its place is small.
 use native.Mathlib.Omega.{arith}
-use Prim.Native.Nat.{_+_, _*_, _<_, _^_}
 use Rattle.cluster.specs.Layout.{linkBit}
 use Rattle.cluster.proofs.log.delay.Tie as tie
 use Rattle.cluster.proofs.PullLaws.{row-small, link-small}

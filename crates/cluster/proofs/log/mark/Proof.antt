@@ -1,9 +1,5 @@
 -- `log::mark` meets its contract.
 use borrow.Author.Needs.{needs}
-use mathlib.Core.Path.{_≡_}
-use native.Mathlib.Omega.{arith}
-use lib.ListN.{length}
-use Prim.Native.Nat.{_<_}
 use Rattle.cluster.proofs.log.mark.Tie as tie
 use Rattle.cluster.proofs.BitLaws.{shifted}
 use Rattle.cluster.proofs.PullLaws.{mark-yes, mark-no}

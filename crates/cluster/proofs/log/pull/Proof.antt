@@ -3,7 +3,7 @@ use borrow.Author.Needs.{needs}
 use lib.Dec.{ltb, leb}
 use mathlib.Core.Path.{_≡_}
 use native.Mathlib.Omega.{arith}
-use Prim.Native.Nat.{_≤_, _<_, _-_}
+use Prim.Native.Nat.{_≤_, _-_}
 use mathlib.Core.Bool.{_&&_}
 use mathlib.Core.Path.{_≡_, _∙_}
 use Rattle.cluster.proofs.log.pull.Tie as tie

@@ -3,7 +3,7 @@ use borrow.Author.Needs.{needs}
 use lib.Dec.{eqb, ltb}
 use native.Mathlib.Omega.{arith}
 use mathlib.Core.Path.{_≡_, sym, _∙_}
-use Prim.Native.Nat.{_≤_, _<_, _-_}
+use Prim.Native.Nat.{_≤_, _-_}
 use mathlib.Core.Bool.{_&&_}
 use mathlib.Core.Logic.{inl, inr}
 use Rattle.cluster.proofs.log.spread.Statement.{statement}

@@ -1,5 +1,5 @@
 -- `store::is_same` meets its contract.
-use mathlib.Core.Path.{sym, _∙_}
+use mathlib.Core.Path.{_∙_}
 use borrow.Author.Needs.{needs}
 use Rattle.cluster.proofs.store.is_same.Statement.{statement}
 use Rattle.cluster.proofs.StoreLaws.{three, same-three}

@@ -1,7 +1,6 @@
 -- `tick::forge` meets its contract. The loop's invariant: the forged votes before entry e are applied.
 use mathlib.Core.Path.{_≡_, _∙_, sym}
 use mathlib.Core.Logic.{inl, inr}
-use lib.ListN.{length}
 use native.Mathlib.Omega.{arith}
 use Prim.Native.Nat.{_≤_, _-_}
 use borrow.Author.Needs.{needs}

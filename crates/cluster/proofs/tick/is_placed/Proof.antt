@@ -1,10 +1,9 @@
 -- `tick::is_placed` meets its contract.
 use native.Mathlib.Nat.{add-zero}
-use native.Mathlib.Omega.{arith}
 use Prim.Native.Nat.{ℕ}
 use Prim.Native.Nat.{_-_}
 use borrow.Author.Needs.{needs}
-use mathlib.Core.Path.{sym, _∙_}
+use mathlib.Core.Path.{_∙_}
 use mathlib.Core.Path.{ap, _∙_}
 use Rattle.cluster.proofs.tick.is_placed.Tie as tie
 use Rattle.cluster.proofs.tick.is_placed.Statement.{statement}

@@ -1,10 +1,9 @@
 -- `tick::merge` meets its contract. The loop's invariant: the sets before j are merged.
-use lib.ListN.{length}
 use borrow.Author.Needs.{needs}
 use mathlib.Core.Path.{refl}
 use native.Mathlib.Omega.{arith}
 use Prim.Native.Nat.{_≤_, _-_, _*_}
-use mathlib.Core.Path.{_≡_, _∙_}
+use mathlib.Core.Path.{_≡_}
 use Rattle.cluster.proofs.tick.merge.Tie as tie
 use Rattle.cluster.proofs.tick.merge.Statement.{statement}
 use Rattle.cluster.proofs.ForgeLaws.{merged-first, merged-more}

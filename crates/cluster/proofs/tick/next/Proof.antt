@@ -47,7 +47,7 @@ use borrow.Table.OneValue.{part-in, part-out}
 use Rattle.cluster.specs.declared.Cluster.{Cluster}
 use Rattle.cluster.specs.declared.Feed.{Feed}
 use Rattle.cluster.specs.Inputs.{Sized}
-use Rattle.cluster.specs.Tick.{Ticked}
+use Rattle.cluster.specs.Tick.{Ticked, feedOf}
 use Rattle.cluster.proofs.Cluster as T
 use Rattle.cluster.proofs.Cluster.Laws as T′
 use Rattle.cluster.proofs.Feed as F
@@ -75,17 +75,7 @@ abbrev Asked : RefT (List ℕ) → RefT (List ℕ) → Feed → Type 0
 Asked w p f = Sized (now p) (now w) (f .t) (f .rules) (f .known) (f .links) (f .window)
 
 abbrev Said : Cluster → RefT (List ℕ) → RefT (List ℕ) → Feed → Cluster → List ℕ → Type 0
-Said h w p f r zs = Ticked (record {
-  plan = now p;
-  work = now w;
-  t = f .t;
-  rules = f .rules;
-  known = f .known;
-  links = f .links;
-  arrivals = f .arrivals;
-  movement = f .movement;
-  window = f .window;
-}) (h .servers) (r .servers) zs (f .rules .n)
+Said h w p f r zs = Ticked (feedOf (now p) (now w) f) (h .servers) (r .servers) zs (f .rules .n)
 
 abbrev Tick : {M : Type 1} (𝓤 : URA M) (H : Heap 𝓤) (A : Atoms 𝓤) (at-mem : Memory → SProp 𝓤) (run : Routine → Fun 𝓤) → Contract 𝓤
 Tick 𝓤 H A at-mem run = tripleOf 𝓤 H A tick.signature (tick.spec 𝓤 H A at-mem run)

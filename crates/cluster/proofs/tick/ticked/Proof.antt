@@ -1,11 +1,10 @@
 -- `tick::ticked` meets its contract. The loop's invariant: the servers before b have done the tick.
-use mathlib.Core.Path.{_≡_, refl, sym, _∙_}
+use mathlib.Core.Path.{_≡_, refl, _∙_}
 use native.Mathlib.Omega.{arith}
 use lib.ListN.{getD, length}
 use borrow.Author.Needs.{needs}
-use Prim.Native.Nat.{_≤_, _<_, _-_, _+_, _*_}
+use Prim.Native.Nat.{_≤_, _<_, _-_}
 use Rattle.cluster.proofs.TickLaws.{Going, going-first, going-turn, ticked-all}
-use Rattle.cluster.specs.Pull.{Linked}
 use Rattle.cluster.proofs.tick.ticked.Tie as tie
 use Rattle.cluster.specs.Tick.{Stepped}
 use Rattle.cluster.proofs.Sizes.{servers-length}
