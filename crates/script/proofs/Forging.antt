@@ -8,7 +8,7 @@ use lib.ListN.{length, take, drop, length-drop}
 use lib.Seq.{take-all}
 use Rattle.bits.specs.Field.{fieldOf}
 use Rattle.bits.proofs.Laws.{field-lt}
-use Rattle.register.specs.Plan.{Forgery, stamped, numberOf}
+use Rattle.register.specs.Plan.{Forgery, stamped}
 use Rattle.plan.specs.declared.header.Shape.{Shape}
 use Rattle.plan.specs.Header.{headerOf, operationAt}
 use Rattle.plan.specs.Shape.{Ranged, shape}
@@ -17,8 +17,8 @@ use Rattle.plan.proofs.Accept.{Accepted, accepted, in-range}
 use Rattle.cluster.specs.declared.Links.{Links}
 use Rattle.cluster.specs.Layout.{delayAt}
 use Rattle.script.specs.Forged.{forgedBits, delayOf, Fillable, Entry, Filled, Starts}
-use Rattle.script.specs.Forged as F
 use Rattle.script.specs.Script.{Accepts, LinksOf, messageOf, messageDelay, messageNumber, Forged}
+use Rattle.script.specs.Forged as F
 use Rattle.script.proofs.Entries.{reach-same}
 use Rattle.script.proofs.Placing.{bits-inside, link-delay}
 use Rattle.script.proofs.Messages.{sent-below, sender-below, on-link, message-reach, part-message}

@@ -6,3 +6,9 @@ pub mod Placing
 pub mod Messages
 pub mod Forging
 pub mod Scripting
+pub mod Knowing
+pub mod Asking
+pub mod Naming
+pub mod Windows
+pub mod Fitting
+pub mod Replying

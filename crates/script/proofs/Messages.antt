@@ -28,14 +28,14 @@ use Rattle.script.specs.Script.{LinksOf, messageOf}
 use Rattle.script.proofs.Arriving.{reach}
 use Rattle.script.proofs.Placing.{table}
 
-tabFrom-in : {A : Type 0} (a n : ℕ) (g : ℕ → A) (i : ℕ) → i < n → In (g (a + i)) (tabFrom a n g)
+pub tabFrom-in : {A : Type 0} (a n : ℕ) (g : ℕ → A) (i : ℕ) → i < n → In (g (a + i)) (tabFrom a n g)
 unfolding tabFrom
 tabFrom-in a zero g i l = absurd (omega arith)
 tabFrom-in a (suc n) g zero l = inl (ap g (omega arith))
 tabFrom-in a (suc n) g (suc i) l = let e : a + suc i ≡ suc a + i = omega arith in inr (rw e (tabFrom-in (suc a) n g i (omega arith)))
 
 -- links from a server
-other-link : (n i b : ℕ) → i < n → (b ≡ i → ⊥) → (b ≡ n → ⊥) → T (isLink n i b)
+pub other-link : (n i b : ℕ) → i < n → (b ≡ i → ⊥) → (b ≡ n → ⊥) → T (isLink n i b)
 unfolding isLink
 other-link n i b l d e = rw (lt-ltb i n l, ne-eqb i b (λ z. d (sym z)), ne-eqb b n e) tt
 

@@ -10,7 +10,7 @@ use lib.ListN.{length}
 use borrow.Author.Tests.{lt-ltb}
 use Rattle.register.specs.Lists.{tab}
 use Rattle.register.proofs.Logic.{T-eq}
-use Rattle.plan.specs.Header.{Header, headerOf, moves, parties, bitLength}
+use Rattle.plan.specs.Header.{headerOf, moves, parties, bitLength}
 use Rattle.plan.specs.Parts.{operationOf, operationsOf, delayOf, isLink, writesFrom, readsFrom}
 use Rattle.plan.specs.Packed.{planOf}
 use Rattle.plan.proofs.Laws.{moves-few}
@@ -23,9 +23,6 @@ use Rattle.script.specs.Inputs.{Table}
 use Rattle.script.specs.Script.{LinksOf}
 
 module _ (s : List ℕ) (A : Accepted 16 s) where
-  h : Header
-  h = headerOf 16 s
-
   -- all the plan's bits are there
   pub bits-inside : bitLength 16 (headerOf 16 s) ≤ 8 * length s
   bits-inside = omega (arith, exact 16 s A)

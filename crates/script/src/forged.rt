@@ -1,8 +1,6 @@
 // The forged messages of a plan, decoded once into the lent workspace, and which of them a tick has to look at.
 ghost use mathlib.Core.Path.{_≡_};
-ghost use mathlib.Core.Bool.{_&&_, cond};
 ghost use Prim.Native.Nat.{_+_, _*_, _-_, _^_, _≤_, _<_};
-ghost use lib.Dec.{eqb, ltb};
 ghost use lib.ListN.{length, getD};
 ghost use Rattle.script.specs.Forged.{Packed, numberIn, entryBytes, Fillable, Filled, forgedBits, delayOf, numberOf, Start, Starts};
 use cluster::Links;
@@ -142,21 +140,24 @@ fn wide(x: u16) -> usize
     x as usize
 }
 
+// The entries sent from tick `first` on and before tick `last`.
+pub fn sent_within(starts: &[u16; 129], first: usize, last: usize) -> Window
+    requires { ⌜ (first < 129) × (last < 129) ⌝ }
+    ensures { λ r. ⌜ (r .from ≡ getD (now (starts .entry)) first 0) × (r .to ≡ getD (now (starts .entry)) last 0) ⌝ }
+{
+    Window {
+        from: wide(starts[first]),
+        to: wide(starts[last]),
+    }
+}
+
 // The entries that can arrive in tick t: those sent in the last delta ticks.
 pub fn window(starts: &[u16; 129], delta: u8, t: u8) -> Window
     requires { ⌜ t < 129 ⌝ }
     ensures { λ r. ⌜ (r .from ≡ getD (now (starts .entry)) (t - delta) 0) × (r .to ≡ getD (now (starts .entry)) t 0) ⌝ }
 {
-    let last = t as usize;
     if t < delta {
-        return Window {
-            from: wide(starts[0]),
-            to: wide(starts[last]),
-        };
+        return sent_within(starts, 0, t as usize);
     }
-    let first = (t - delta) as usize;
-    Window {
-        from: wide(starts[first]),
-        to: wide(starts[last]),
-    }
+    sent_within(starts, (t - delta) as usize, t as usize)
 }

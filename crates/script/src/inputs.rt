@@ -1,9 +1,8 @@
 // What a tick is fed: the WRITE and the READs that arrive, and the movement.
 ghost use mathlib.Core.Path.{_≡_};
-ghost use Prim.Native.Nat.{_+_, _*_, _/_, _%_, _≤_, _<_};
+ghost use Prim.Native.Nat.{_+_, _*_, _/_, _≤_, _<_};
 ghost use lib.Dec.{eqb};
 ghost use lib.ListN.{length};
-ghost use Rattle.bits.specs.Field.{fieldOf};
 ghost use Rattle.cluster.specs.Layout.{delayAt};
 ghost use Rattle.script.specs.Inputs.{Reach, Table, LatestWrite, Wrote, LatestReads, Before, AsksAt, Asks, Live, Arrive, Moves};
 use super::operations::Reads;
@@ -13,12 +12,17 @@ use cluster::Links;
 use cluster::Movement;
 use cluster::log;
 
-// Does what is sent in tick u from party i to party b arrive in tick t?
+// Does what is sent in tick u from party i to party b arrive in tick t? No delay is over 15, so most are not read.
 fn is_due(plan: &[u8], links: Links, u: u8, i: usize, b: usize, t: u8) -> bool
     requires { ⌜ Reach (now plan) links u i b ⌝ }
     ensures { λ r. ⌜ r ≡ eqb (u + delayAt (now (plan .entry)) links u i b) t ⌝ }
 {
-    u as u64 + log::delay(plan, links, u as usize, i, b) == t as u64
+    let sent = u as u64;
+    let now = t as u64;
+    if sent + 15 < now {
+        return false;
+    }
+    sent + log::delay(plan, links, u as usize, i, b) == now
 }
 
 // The number of the last write that began before tick t; 0 if none did.

@@ -1,5 +1,5 @@
 // The operations of a plan: its writes by number, and its reads in order.
-ghost use Prim.Native.Nat.{_+_, _*_, _≤_, _<_};
+ghost use Prim.Native.Nat.{_+_, _*_, _<_};
 ghost use Rattle.register.specs.Lists.{tab};
 ghost use Rattle.plan.specs.Parts.{writesFrom, readsFrom};
 ghost use Rattle.script.specs.Operations.{opAt, Room, Written, ReadIn};

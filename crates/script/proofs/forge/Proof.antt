@@ -1,8 +1,9 @@
-use Rattle.script.proofs.Forging.{tests-passed, shape-ranged, links-same, part-starts, fillable, forged}
-use Rattle.plan.specs.Header.{Header, operationAt}
-use native.Mathlib.Omega.{arith}
+-- `script::forge` meets its contract. The forged part of an accepted plan: the part's start and the entries' room follow from its length; the rest is Forging.
 use mathlib.Core.Path.{ap, _∙_}
+use native.Mathlib.Omega.{arith}
 use borrow.Author.Needs.{needs}
+use Rattle.plan.specs.Header.{Header, operationAt}
+use Rattle.script.proofs.Forging.{tests-passed, shape-ranged, links-same, part-starts, fillable, forged}
 use Rattle.script.proofs.forge.Statement.{statement}
 use Rattle.script.proofs.forge.Tie as tie
 

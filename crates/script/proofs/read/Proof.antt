@@ -1,7 +1,8 @@
-use Rattle.script.proofs.Scripting.{header-there, operations-room, scripted}
-use Rattle.script.proofs.Forging.{shape-ranged}
+-- `script::read` meets its contract. An accepted plan is decoded: each part is read from where it stands, and Scripting puts them together.
 use mathlib.Core.Path.{refl}
 use borrow.Author.Needs.{needs}
+use Rattle.script.proofs.Scripting.{header-there, operations-room, scripted}
+use Rattle.script.proofs.Forging.{shape-ranged}
 use Rattle.script.proofs.read.Statement.{statement}
 use Rattle.script.proofs.read.Tie as tie
 

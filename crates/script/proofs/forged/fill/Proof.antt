@@ -1,11 +1,11 @@
-use Rattle.script.proofs.Entries.{reach-same, delay-same, number-same}
-use Rattle.script.proofs.Entries.{filled-none, filled-more}
-use Rattle.script.specs.Forged.{Filled, forgedBits, delayOf, numberOf}
-use Rattle.bits.proofs.Laws.{field-lt}
-use borrow.Author.Needs.{needs}
-use native.Mathlib.Omega.{arith}
-use Prim.Native.Nat.{_+_, _-_, _*_, _≤_, _<_}
+-- `script::forged::fill` meets its contract. The loop's invariant: the entries passed are the forged messages, and no byte outside them has changed.
 use mathlib.Core.Path.{_≡_, _∙_}
+use Prim.Native.Nat.{_+_, _-_, _*_, _≤_, _<_}
+use native.Mathlib.Omega.{arith}
+use borrow.Author.Needs.{needs}
+use Rattle.bits.proofs.Laws.{field-lt}
+use Rattle.script.specs.Forged.{Filled, forgedBits, delayOf, numberOf}
+use Rattle.script.proofs.Entries.{reach-same, delay-same, number-same, filled-none, filled-more}
 use Rattle.script.proofs.forged.fill.Statement.{statement}
 use Rattle.script.proofs.forged.fill.Tie as tie
 

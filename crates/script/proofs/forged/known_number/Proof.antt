@@ -1,6 +1,7 @@
-use Rattle.script.specs.Forged.{numberIn}
+-- `script::forged::known_number` meets its contract. The two tests decide.
 use borrow.Author.Tests.{lt-ltb, le-ltb, eq-eqb, ne-eqb}
 use borrow.Author.Needs.{needs}
+use Rattle.script.specs.Forged.{numberIn}
 use Rattle.script.proofs.forged.known_number.Statement.{statement}
 use Rattle.script.proofs.forged.known_number.Tie as tie
 

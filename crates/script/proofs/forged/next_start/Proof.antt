@@ -1,8 +1,9 @@
-use Rattle.script.proofs.Entries.{start-found, start-passed, start-last}
-use Rattle.cluster.specs.Layout.{entryAt}
-use borrow.Author.Needs.{needs}
-use native.Mathlib.Omega.{arith}
+-- `script::forged::next_start` meets its contract. The loop's invariant: the entries passed were sent before the tick.
 use Prim.Native.Nat.{ℕ, _-_, _≤_, _<_}
+use native.Mathlib.Omega.{arith}
+use borrow.Author.Needs.{needs}
+use Rattle.cluster.specs.Layout.{entryAt}
+use Rattle.script.proofs.Entries.{start-found, start-passed, start-last}
 use Rattle.script.proofs.forged.next_start.Statement.{statement}
 use Rattle.script.proofs.forged.next_start.Tie as tie
 

@@ -1,8 +1,9 @@
-use Rattle.script.specs.Forged.{entryBytes}
-use lib.ListN.{length-set}
-use native.Mathlib.Omega.{arith}
+-- `script::forged::put_entry` meets its contract. Five stores.
 use mathlib.Core.Path.{refl}
+use native.Mathlib.Omega.{arith}
+use lib.ListN.{length-set}
 use borrow.Author.Needs.{needs}
+use Rattle.script.specs.Forged.{entryBytes}
 use Rattle.script.proofs.forged.put_entry.Statement.{statement}
 use Rattle.script.proofs.forged.put_entry.Tie as tie
 

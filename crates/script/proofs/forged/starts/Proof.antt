@@ -1,12 +1,13 @@
+-- `script::forged::starts` meets its contract. The loop's invariant: the ticks passed have their starts, and the entries before the last start were sent before the tick.
+use mathlib.Core.Path.{_≡_}
+use Prim.Native.Nat.{ℕ, _-_, _≤_, _<_}
+use native.Mathlib.Omega.{arith}
+use lib.ListN.{length, length-set, getD}
+use borrow.Author.Needs.{needs}
+use Rattle.cluster.specs.Layout.{entryAt}
+use Rattle.script.specs.Forged.{Start}
 use Rattle.script.proofs.Entries.{start-whole}
 use Rattle.script.proofs.Tables.{each-more}
-use Rattle.script.specs.Forged.{Start}
-use Rattle.cluster.specs.Layout.{entryAt}
-use borrow.Author.Needs.{needs}
-use lib.ListN.{length, length-set, getD}
-use native.Mathlib.Omega.{arith}
-use Prim.Native.Nat.{ℕ, _-_, _≤_, _<_}
-use mathlib.Core.Path.{_≡_}
 use Rattle.script.proofs.forged.starts.Statement.{statement}
 use Rattle.script.proofs.forged.starts.Tie as tie
 

@@ -1,6 +1,7 @@
-use Rattle.script.proofs.Arriving.{all-before, arrive, none-wrote, some-wrote}
+-- `script::inputs::arrivals` meets its contract. What arrives, put together from the latest write and reads.
 use native.Mathlib.Omega.{arith}
 use borrow.Author.Needs.{needs}
+use Rattle.script.proofs.Arriving.{all-before, arrive, none-wrote, some-wrote}
 use Rattle.script.proofs.inputs.arrivals.Statement.{statement}
 use Rattle.script.proofs.inputs.arrivals.Tie as tie
 

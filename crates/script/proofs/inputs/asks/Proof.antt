@@ -1,10 +1,11 @@
-use Rattle.script.proofs.Tables.{each-more}
-use Rattle.script.specs.Inputs.{AsksAt}
-use borrow.Author.Needs.{needs}
-use lib.ListN.{length, length-set, getD}
-use native.Mathlib.Omega.{arith}
-use Prim.Native.Nat.{ℕ, _-_, _≤_, _<_}
+-- `script::inputs::asks` meets its contract. The loop's invariant: the servers passed have their sets of readers.
 use mathlib.Core.Path.{_≡_}
+use Prim.Native.Nat.{ℕ, _-_, _≤_, _<_}
+use native.Mathlib.Omega.{arith}
+use lib.ListN.{length, length-set, getD}
+use borrow.Author.Needs.{needs}
+use Rattle.script.specs.Inputs.{AsksAt}
+use Rattle.script.proofs.Tables.{each-more}
 use Rattle.script.proofs.inputs.asks.Statement.{statement}
 use Rattle.script.proofs.inputs.asks.Tie as tie
 

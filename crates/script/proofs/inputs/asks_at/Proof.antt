@@ -1,15 +1,16 @@
-use Rattle.script.proofs.Arriving.{reach, set-none, set-more, set-same, asked-due, asked-none}
-use Rattle.script.specs.Inputs.{askedBy}
-use Rattle.cluster.specs.Bits.{bit}
-use borrow.Author.Tests.{lt-ltb}
-use borrow.Author.Needs.{needs}
-use lib.ListN.{getD}
-use lib.Dec.{ltb}
-use native.Mathlib.Omega.{arith}
-use Prim.Native.Nat.{ℕ, _+_, _-_, _≤_, _<_}
+-- `script::inputs::asks_at` meets its contract. The loop's invariant: the set has the readers passed whose READ arrives.
 use mathlib.Core.Logic.{inl, inr}
 use mathlib.Core.Bool.{Bool, true, false, _&&_}
 use mathlib.Core.Path.{_≡_, _∙_}
+use Prim.Native.Nat.{ℕ, _+_, _-_, _≤_, _<_}
+use native.Mathlib.Omega.{arith}
+use lib.ListN.{getD}
+use lib.Dec.{ltb}
+use borrow.Author.Tests.{lt-ltb}
+use borrow.Author.Needs.{needs}
+use Rattle.cluster.specs.Bits.{bit}
+use Rattle.script.specs.Inputs.{askedBy}
+use Rattle.script.proofs.Arriving.{reach, set-none, set-more, set-same, asked-due, asked-none}
 use Rattle.script.proofs.inputs.asks_at.Statement.{statement}
 use Rattle.script.proofs.inputs.asks_at.Tie as tie
 

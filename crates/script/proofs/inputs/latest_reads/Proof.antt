@@ -1,12 +1,13 @@
-use Rattle.script.proofs.Tables.{zeros-at}
-use Rattle.script.proofs.Arriving.{read-taken, read-passed}
-use Rattle.script.specs.Inputs.{latestOf, LatestReads}
-use borrow.Author.Needs.{needs}
-use lib.ListN.{length, length-set}
-use native.Mathlib.Omega.{arith}
-use Prim.Native.Nat.{_-_, _≤_}
+-- `script::inputs::latest_reads` meets its contract. The loop's invariant: for each reader, its last read among those passed that began before the tick.
 use mathlib.Core.Logic.{inl, inr}
 use mathlib.Core.Path.{_≡_}
+use Prim.Native.Nat.{_-_, _≤_}
+use native.Mathlib.Omega.{arith}
+use lib.ListN.{length, length-set}
+use borrow.Author.Needs.{needs}
+use Rattle.script.specs.Inputs.{latestOf, LatestReads}
+use Rattle.script.proofs.Tables.{zeros-at}
+use Rattle.script.proofs.Arriving.{read-taken, read-passed}
 use Rattle.script.proofs.inputs.latest_reads.Statement.{statement}
 use Rattle.script.proofs.inputs.latest_reads.Tie as tie
 

@@ -1,10 +1,11 @@
+-- `script::inputs::latest_write` meets its contract. The loop's invariant: the last number passed whose write began before the tick.
 use mathlib.Core.Path.{_≡_}
-use Rattle.script.proofs.Arriving.{latest-taken, latest-left}
-use Rattle.script.specs.Inputs.{LatestWrite}
-use borrow.Author.Needs.{needs}
-use native.Mathlib.Omega.{arith}
-use Prim.Native.Nat.{_-_, _≤_}
 use mathlib.Core.Logic.{inl, inr}
+use Prim.Native.Nat.{_-_, _≤_}
+use native.Mathlib.Omega.{arith}
+use borrow.Author.Needs.{needs}
+use Rattle.script.specs.Inputs.{LatestWrite}
+use Rattle.script.proofs.Arriving.{latest-taken, latest-left}
 use Rattle.script.proofs.inputs.latest_write.Statement.{statement}
 use Rattle.script.proofs.inputs.latest_write.Tie as tie
 

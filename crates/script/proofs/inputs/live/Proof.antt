@@ -1,15 +1,16 @@
-use Rattle.cluster.proofs.BitLaws.{bit-zero}
-use borrow.Author.Tests.{le-ltb, lt-ltb, eq-eqb, ne-eqb}
-use Rattle.script.proofs.Arriving.{set-more, set-same}
-use Rattle.cluster.specs.Bits.{bit}
-use borrow.Author.Needs.{needs}
-use lib.ListN.{getD}
-use lib.Dec.{eqb, ltb}
-use native.Mathlib.Omega.{arith}
-use Prim.Native.Nat.{ℕ, _-_, _≤_}
+-- `script::inputs::live` meets its contract. The loop's invariant: the set has the readers passed whose last read did not begin in the tick before.
 use mathlib.Core.Logic.{inl, inr}
 use mathlib.Core.Bool.{Bool, not, _&&_}
 use mathlib.Core.Path.{_≡_, _∙_}
+use Prim.Native.Nat.{ℕ, _-_, _≤_}
+use native.Mathlib.Omega.{arith}
+use lib.ListN.{getD}
+use lib.Dec.{eqb, ltb}
+use borrow.Author.Tests.{le-ltb, lt-ltb, eq-eqb, ne-eqb}
+use borrow.Author.Needs.{needs}
+use Rattle.cluster.specs.Bits.{bit}
+use Rattle.cluster.proofs.BitLaws.{bit-zero}
+use Rattle.script.proofs.Arriving.{set-more, set-same}
 use Rattle.script.proofs.inputs.live.Statement.{statement}
 use Rattle.script.proofs.inputs.live.Tie as tie
 

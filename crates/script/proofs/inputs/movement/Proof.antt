@@ -1,8 +1,9 @@
+-- `script::inputs::movement` meets its contract. A remainder tells a movement; the placement is a field of the plan.
+use mathlib.Core.Path.{_≡_, sym}
 use Prim.Native.Nat.{ℕ}
-use borrow.Author.Tests.{eq-eqb, ne-eqb}
 use native.Mathlib.Omega.{arith}
 use native.Mathlib.Nat.{div-le-self}
-use mathlib.Core.Path.{_≡_, sym}
+use borrow.Author.Tests.{eq-eqb, ne-eqb}
 use borrow.Author.Needs.{needs}
 use Rattle.script.proofs.inputs.movement.Statement.{statement}
 use Rattle.script.proofs.inputs.movement.Tie as tie

@@ -1,12 +1,13 @@
-use lib.Seq.{getD-set-other}
-use Rattle.script.proofs.Arriving.{reach, wrote-taken, wrote-left}
-use Rattle.script.specs.Inputs.{Wrote}
-use borrow.Author.Needs.{needs}
-use lib.ListN.{length, length-set, getD, getD-replicate}
-use native.Mathlib.Omega.{arith}
-use Prim.Native.Nat.{ℕ, _-_, _≤_, _<_}
+-- `script::inputs::wrote` meets its contract. The loop's invariant: the servers passed have the number where the WRITE arrives; the others still have 255.
 use mathlib.Core.Logic.{inl, inr}
 use mathlib.Core.Path.{_≡_, _∙_}
+use Prim.Native.Nat.{ℕ, _-_, _≤_, _<_}
+use native.Mathlib.Omega.{arith}
+use lib.Seq.{getD-set-other}
+use lib.ListN.{length, length-set, getD, getD-replicate}
+use borrow.Author.Needs.{needs}
+use Rattle.script.specs.Inputs.{Wrote}
+use Rattle.script.proofs.Arriving.{reach, wrote-taken, wrote-left}
 use Rattle.script.proofs.inputs.wrote.Statement.{statement}
 use Rattle.script.proofs.inputs.wrote.Tie as tie
 

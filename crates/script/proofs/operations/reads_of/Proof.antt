@@ -1,14 +1,15 @@
-use Rattle.script.proofs.Storing.{read-stored, read-left, read-in-none}
-use Rattle.script.specs.Operations.{opAt, ReadIn}
-use Rattle.plan.specs.Parts.{readsFrom}
-use Rattle.register.specs.Lists.{tab}
-use borrow.Author.Tests.{ne-eqb}
-use borrow.Author.Needs.{needs}
-use lib.ListN.{length, replicate}
-use native.Mathlib.Omega.{arith}
-use Prim.Native.Nat.{_-_, _≤_}
+-- `script::operations::reads_of` meets its contract. The loop's invariant: the tables have the reads among the operations passed.
 use mathlib.Core.Logic.{inl, inr}
 use mathlib.Core.Path.{_≡_, sym, _∙_}
+use Prim.Native.Nat.{_-_, _≤_}
+use native.Mathlib.Omega.{arith}
+use lib.ListN.{length, replicate}
+use borrow.Author.Tests.{ne-eqb}
+use borrow.Author.Needs.{needs}
+use Rattle.register.specs.Lists.{tab}
+use Rattle.plan.specs.Parts.{readsFrom}
+use Rattle.script.specs.Operations.{opAt, ReadIn}
+use Rattle.script.proofs.Storing.{read-stored, read-left, read-in-none}
 use Rattle.script.proofs.operations.reads_of.Statement.{statement}
 use Rattle.script.proofs.operations.reads_of.Tie as tie
 

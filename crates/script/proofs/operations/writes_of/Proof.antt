@@ -1,16 +1,16 @@
-use Rattle.script.proofs.Tables.{zeros-at, set-below}
-use lib.ListN.{set, replicate}
-use Rattle.script.proofs.Storing.{number-left, write-stored, write-left, written-none}
-use Rattle.script.specs.Operations.{opAt, Written}
-use Rattle.plan.specs.Parts.{writesFrom}
-use Rattle.register.specs.Lists.{tab}
-use borrow.Author.Tests.{ne-eqb}
-use borrow.Author.Needs.{needs}
-use lib.ListN.{length}
-use native.Mathlib.Omega.{arith}
-use Prim.Native.Nat.{_-_, _≤_}
+-- `script::operations::writes_of` meets its contract. The loop's invariant: the tables have the writes among the operations passed. A write more finds a number left.
 use mathlib.Core.Path.{_≡_, refl, sym, _∙_}
 use mathlib.Core.Logic.{inl, inr}
+use Prim.Native.Nat.{_-_, _≤_}
+use native.Mathlib.Omega.{arith}
+use lib.ListN.{set, replicate, length}
+use borrow.Author.Tests.{ne-eqb}
+use borrow.Author.Needs.{needs}
+use Rattle.register.specs.Lists.{tab}
+use Rattle.plan.specs.Parts.{writesFrom}
+use Rattle.script.specs.Operations.{opAt, Written}
+use Rattle.script.proofs.Tables.{zeros-at, set-below}
+use Rattle.script.proofs.Storing.{number-left, write-stored, write-left, written-none}
 use Rattle.script.proofs.operations.writes_of.Statement.{statement}
 use Rattle.script.proofs.operations.writes_of.Tie as tie
 

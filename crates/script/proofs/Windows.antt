@@ -1,0 +1,47 @@
+-- Which forged entries a tick or a read has to look at: the entries rise by the tick in which they were sent.
+-- It stands on Messages.
+use mathlib.Core.List.{List}
+use Prim.Native.Nat.{ℕ, _+_, _≤_, _<_}
+use native.Mathlib.Omega.{arith}
+use native.Mathlib.Decide.{decLe}
+use lib.ListN.{getD}
+use Rattle.plan.specs.Header.{headerOf}
+use Rattle.plan.proofs.Accept.{Accepted}
+use Rattle.plan.proofs.AcceptGood.{delay-range}
+use Rattle.cluster.specs.Layout.{entryAt}
+use Rattle.script.specs.Forged.{Entry, Starts}
+use Rattle.script.specs.Script.{messageOf, messageDelay, messageNumber}
+use Rattle.script.proofs.Messages.{messages-rise}
+
+module _ (s : List ℕ) (A : Accepted 16 s) (work values : List ℕ) (m : ℕ)
+    (E : (e : ℕ) → e < headerOf 16 s .forgeries → Entry work e (messageOf s e) (messageDelay s e) (messageNumber s values m e))
+    (starts : List ℕ) (S : Starts work (headerOf 16 s .forgeries) starts) where
+  -- an entry arrives one to δ ticks after it was sent
+  pub arrives-after : (e : ℕ) → e < headerOf 16 s .forgeries
+      → (entryAt work e 0 < entryAt work e 1) × (entryAt work e 1 ≤ entryAt work e 0 + headerOf 16 s .delta)
+  arrives-after e l =
+      let r = delay-range 16 s A (messageOf s e .at) (messageOf s e .from) (messageOf s e .to) in
+      (omega (arith, E e l .sent, E e l .arrival, r .0), omega (arith, E e l .sent, E e l .arrival, r .1))
+
+  module _ (u : ℕ) (below : u < 129) where
+    pub start-few : getD starts u 0 ≤ headerOf 16 s .forgeries
+    start-few = S .each u below .few
+
+    pub sent-earlier : (e : ℕ) → e < getD starts u 0 → entryAt work e 0 < u
+    sent-earlier e l = S .each u below .below e (omega arith) l
+
+    pub sent-later : (e : ℕ) → getD starts u 0 ≤ e → e < headerOf 16 s .forgeries → u ≤ entryAt work e 0
+    sent-later e l h =
+        let first = getD starts u 0 in
+        let lf : first < headerOf 16 s .forgeries = omega arith in
+        omega (arith, S .each u below .next lf, E first lf .sent, E e h .sent, messages-rise s A first e l h)
+
+  pub starts-rise : (u v : ℕ) → u ≤ v → v < 129 → getD starts u 0 ≤ getD starts v 0
+  starts-rise u v h l = go (decLe (getD starts u 0) (getD starts v 0))
+    where
+      go : Dec (getD starts u 0 ≤ getD starts v 0) → getD starts u 0 ≤ getD starts v 0
+      go (yes d) = d
+      go (no d) =
+          let first = getD starts v 0 in
+          let lf : first < headerOf 16 s .forgeries = omega (arith, start-few u (omega arith)) in
+          absurd (omega (arith, sent-later v l first (omega arith) lf, sent-earlier u (omega arith) first (omega arith)))
