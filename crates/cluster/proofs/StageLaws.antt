@@ -16,8 +16,8 @@ use Rattle.register.specs.Server.{faulty, isFaulty, isCorrect, curedAt, insert}
 use Rattle.register.proofs.Logic.{cond-ap}
 use Rattle.register.proofs.Counting.{count-none}
 use Rattle.cluster.specs.Bits.{bit, sets}
-use Rattle.cluster.specs.Stored.{Plain, Both}
-use Rattle.cluster.specs.Stages.{nobody, noVotes, blankAs, restated, written, resetAt, cureEnded, turned, quorate, taken, voting, withWrite, repliesTo, delivered, stageOne, stageTwo, movedOn, stageFour}
+use Rattle.cluster.specs.Stored.{Plain, Said, Both}
+use Rattle.cluster.specs.Stages.{nobody, noVotes, blankAs, silent, restated, written, resetAt, cureEnded, turned, quorate, taken, voting, withWrite, repliesTo, delivered, stageOne, stageTwo, movedOn, stageFour}
 use Rattle.cluster.proofs.BitLaws.{bit-zero, bit-or, bit-and, unmarked, ones-count, ones-either}
 
 pub zero-table : sets (replicate 65 0) ≡ noVotes
@@ -96,6 +96,12 @@ unfolding stageOne delivered
 delivered-law g m e r w votes asks live s q kept pend readers h u k p a =
     let z = write-rest g m w s q u in
     rw (h, a, k, p, z .0, z .1, z .2, z .3)
+
+-- a faulty server loses what arrives
+pub lost-law : (g : ℕ → ℕ) (m e r w : ℕ) (votes : ℕ → ℕ → Bool) (asks live : ℕ → Bool) (s : Plain) (q : Said) → isFaulty (s .status) ≡ true → q ≡ silent
+    → record { server = s; said = q } ≡ stageOne g m e r w votes asks live s
+unfolding stageOne
+lost-law g m e r w votes asks live s q h k = rw (h, k)
 
 -- ---- stages 2 to 4
 

@@ -16,7 +16,7 @@ use Rattle.cluster.specs.declared.Server.{Server}
 use Rattle.cluster.specs.declared.Status.the-variants.{Correct}
 use Rattle.cluster.specs.declared.Step.{Step}
 use Rattle.cluster.specs.declared.Rules.{Rules}
-use Rattle.cluster.specs.Bits.{bit, sets}
+use Rattle.cluster.specs.Bits.{sets}
 use Rattle.cluster.specs.Stored.{Plain, Both, keys, server, both, absent}
 use Rattle.cluster.specs.Stages.{noVotes, delivered, stageOne, stagesOf}
 use Rattle.cluster.specs.Pull.{Adds, arriving}
@@ -112,8 +112,7 @@ or-step false b c d = refl
 
 -- what the loop's body does to server i, by the table of votes
 abbrev pub Body : Feed → List ℕ → ℕ → Plain → Both → Type 0
-Body F table i s r = Stepped table i (getD (F .arrivals .wrote) i 0) (getD (F .arrivals .asks) i 0) (F .arrivals .live) (F .movement .moving)
-    (bit (15 - i) (F .movement .faulty)) (F .t) (F .rules) (F .known .values) (F .known .m) s r
+Body F table i s r = Stepped table i (F .arrivals) (F .movement) (F .t) (F .rules) (F .known .values) (F .known .m) s r
 
 module _ (F : Feed) (c d₀ d : List Server) (table work : List ℕ) (few : F .rules .n ≤ 16)
     (A : Forged (F .work) (F .t) (F .window .from) (F .window .to) c d₀)

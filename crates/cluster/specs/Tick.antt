@@ -52,11 +52,12 @@ pub record Merged (a votes : List ℕ) (b : ℕ) (r : List ℕ) (m : ℕ) : Type
   pub at : (j i : ℕ) → j < m → sets r j i ≡ (sets a j i || sets votes (65 * b + j) i)
   pub rest : (j : ℕ) → m ≤ j → getD r j 0 ≡ getD a j 0
 
--- the stages of a server whose fresh votes got those of the table
-pub record Stepped (table : List ℕ) (b wrote asks live : ℕ) (moving now-faulty : Bool) (t : ℕ) (rules : Rules) (values : List ℕ) (m : ℕ) (s : Plain) (r : Both) : Type 0 where
+-- the stages of server b whose fresh votes got those of the table
+pub record Stepped (table : List ℕ) (b : ℕ) (arrivals : Arrivals) (movement : Movement) (t : ℕ) (rules : Rules) (values : List ℕ) (m : ℕ) (s : Plain) (r : Both) : Type 0 where
   pub votes : ℕ → ℕ → Bool
   pub came : (j i : ℕ) → j < 65 → votes j i ≡ (s .fresh j i || sets table (65 * b + j) i)
-  pub stages : r ≡ stagesOf (pairOf values) m rules wrote votes (λ x. bit x asks) (λ x. bit x live) moving now-faulty t s
+  pub stages : r ≡ stagesOf (pairOf values) m rules (getD (arrivals .wrote) b 0) votes (λ x. bit x (getD (arrivals .asks) b 0)) (λ x. bit x (arrivals .live))
+      (movement .moving) (bit (15 - b) (movement .faulty)) t s
 
 -- ---- all servers
 

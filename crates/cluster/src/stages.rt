@@ -3,8 +3,8 @@ ghost use mathlib.Core.Path.{_≡_};
 ghost use mathlib.Core.Bool.{cond};
 ghost use Prim.Native.Nat.{_≤_, _<_};
 ghost use Rattle.cluster.specs.Bits.{bit, sets};
-ghost use Rattle.cluster.specs.Stored.{keys, pairOf, server, both};
-ghost use Rattle.cluster.specs.Stages.{quorate, taken, voting, withWrite, stageOne, stageTwo, movedOn, stageFour};
+ghost use Rattle.cluster.specs.Stored.{keys, pairOf, server, saidBy, both};
+ghost use Rattle.cluster.specs.Stages.{silent, quorate, taken, voting, withWrite, stageOne, stageTwo, movedOn, stageFour};
 use super::Row;
 use super::Rules;
 use super::Server;
@@ -84,6 +84,19 @@ fn replied(correct: bool, same: bool, asks: u8, pending: u8) -> u8
     0
 }
 
+// The row of a server that sends nothing.
+fn quiet() -> Row
+    ensures { λ r. ⌜ saidBy r ≡ silent ⌝ }
+{
+    let none = store::none();
+    Row {
+        wrote: 255,
+        echoed: false,
+        readers: 0,
+        kept: none,
+    }
+}
+
 impl Server {
     // The WRITE's pair, if it is a known one.
     fn take_write(self, wrote: u8, values: &[u16; 65], m: usize) -> Self
@@ -119,13 +132,7 @@ impl Server {
     {
         let status = self.status;
         if servers::is_faulty(status) {
-            let none = store::none();
-            let row = Row {
-                wrote: 255,
-                echoed: false,
-                readers: 0,
-                kept: none,
-            };
+            let row = quiet();
             return Step { server: self, row };
         }
         let before = self.kept;

@@ -79,24 +79,24 @@ fn step(
     s: Server,
     votes: &[u16; 1040],
     b: usize,
-    wrote: u8,
-    asks: u8,
-    live: u8,
-    moving: bool,
-    faulty: bool,
+    arrivals: Arrivals,
+    movement: Movement,
     t: u8,
     rules: Rules,
     values: &[u16; 65],
     m: usize,
 ) -> Step
     requires { ⌜ (b < 16) × (m ≤ 65) × (1 ≤ rules .echo) × (1 ≤ rules .reply) ⌝ }
-    ensures { λ r. ⌜ Stepped (now (votes .entry)) b wrote asks live moving faulty t rules (now (values .entry)) m (server s) (both r) ⌝ }
+    ensures { λ r. ⌜ Stepped (now (votes .entry)) b arrivals movement t rules (now (values .entry)) m (server s) (both r) ⌝ }
 {
     let mut fresh = s.fresh;
     merge(&mut fresh, votes, b);
-    let first = s.deliver(fresh, wrote, asks, live, values, m, rules);
+    let wrote = arrivals.wrote[b];
+    let asks = arrivals.asks[b];
+    let first = s.deliver(fresh, wrote, asks, arrivals.live, values, m, rules);
     let second = first.cure_end(t, rules.delta);
-    if moving {
+    if movement.moving {
+        let faulty = is_placed(movement.faulty, b);
         return second.move_on(rules.two, faulty, t);
     }
     second
@@ -138,38 +138,15 @@ pub fn ticked(
 {
     let mut d = forge(c, work, t, window);
     let n = rules.n;
+    let first = since(t, rules.delta);
     let mut votes = [0u16; 1040];
-    log::pull(
-        &mut votes,
-        work,
-        plan,
-        links,
-        since(t, rules.delta),
-        t as usize,
-        n,
-    );
+    log::pull(&mut votes, work, plan, links, first, t as usize, n);
     let m = known.m;
     let values = known.values;
     let mut b: usize = 0;
     while b < n {
         let s = d.servers[b];
-        let wrote = arrivals.wrote[b];
-        let asks = arrivals.asks[b];
-        let faulty = is_placed(movement.faulty, b);
-        let o = step(
-            s,
-            &votes,
-            b,
-            wrote,
-            asks,
-            arrivals.live,
-            movement.moving,
-            faulty,
-            t,
-            rules,
-            &values,
-            m,
-        );
+        let o = step(s, &votes, b, arrivals, movement, t, rules, &values, m);
         let server = o.server;
         d.servers[b] = server;
         let row = o.row;

@@ -1,22 +1,22 @@
 -- `Server::deliver` meets its contract.
 use borrow.Author.Needs.{needs}
 use mathlib.Core.Path.{sym, _∙_}
-use Rattle.cluster.proofs.Server.deliver.Tie as tie
-use Rattle.cluster.specs.Stored.{server, pairOf}
+use Rattle.cluster.proofs.StageLaws.{lost-law, delivered-law, replied-law, pending-law}
 use Rattle.cluster.specs.Bits.{bit, sets}
-use Rattle.cluster.specs.Stages.{stageOne}
-use Rattle.cluster.proofs.StageLaws.{zero-set, delivered-law, replied-law, pending-law}
+use Rattle.cluster.proofs.Server.deliver.Tie as tie
 use Rattle.cluster.proofs.Server.deliver.Statement.{statement}
+use Rattle.cluster.specs.Stored.{server, saidBy, pairOf}
 
 is-faulty-requires : tie.Need-is-faulty-requires
 is-faulty-requires c κs = search needs
 
-none-requires : tie.Need-none-requires
-none-requires c κs = search needs
+quiet-requires : tie.Need-quiet-requires
+quiet-requires c κs = search needs
 
 returns : tie.Need-returns
-unfolding stageOne
-returns c = rw (sym (c .before .before .is-faulty .ensures) ∙ c .before .if1 .taken, c .none .ensures, zero-set)
+returns c = let a = c .before .before .before .args in
+    lost-law (pairOf (a .values .now)) (a .m) (a .rules .echo) (a .rules .reply) (a .wrote) (sets (a .t2)) (λ x. bit x (a .asks)) (λ x. bit x (a .live)) (server (a .self)) (saidBy (c .quiet .result))
+    (sym (c .before .before .is-faulty .ensures) ∙ c .before .if1 .taken) (c .quiet .ensures)
 
 take-write-requires : tie.Need-take-write-requires
 take-write-requires c κs = search needs
@@ -46,7 +46,7 @@ deliver-spec =
     tie.close
     (tie.spec
     is-faulty-requires
-    none-requires
+    quiet-requires
     returns
     take-write-requires
     take-in-requires
