@@ -46,7 +46,7 @@ pub fn delay(plan: &[u8], links: Links, u: usize, i: usize, b: usize) -> u64
 {
     let parties = links.parties;
     let at = links.at + 4 * ((u * parties + i) * parties + b);
-    bits::field(plan, at, 4)
+    bits::nibble(plan, at) as u64
 }
 
 // Does what server i sends in tick u reach server b, another one, in tick t.
