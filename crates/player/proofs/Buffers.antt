@@ -1,0 +1,79 @@
+-- The lent buffers: the loop's turn over the answer buffer, and the zeroed workspace.
+-- It stands on the definitions alone.
+use mathlib.Core.Path.{_≡_, refl, sym, ap, _∙_}
+use mathlib.Core.List.{List, [], _∷_, _++_, append-assoc, append-nil}
+use Prim.Native.Nat.{ℕ, _+_, _*_, _-_, _≤_, _<_}
+use native.Mathlib.Numerals.{add-one}
+use native.Mathlib.Omega.{arith}
+use lib.ListN.{length, getD, take, drop, length-append, length-drop, drop-of-length-le, replicate}
+use lib.Seq.{take-all, take-suc, take-at, drop-drop, drop-append-add, length-take-le, ext-getD, getD-drop}
+use borrow.Rule.Slice.PartMut.{putMid, midOf}
+use Rattle.register.specs.Plan.{Plan, Read}
+use Rattle.register.specs.Reading.{Answer, answerOf}
+use Rattle.plan.specs.Packed.{planOf}
+use Rattle.answers.specs.Answers.{bytesOf, answerBytes, answersFor, answersOf}
+use Rattle.answers.specs.Workspace.{workspaceSize, zeroed}
+
+-- a part from place a on, as the callee has it, and the whole when it comes back
+pub part-from : (a : ℕ) (s : List ℕ) → midOf a (length s - a) s ≡ drop a s
+part-from a s = take-all (length s - a) (drop a s) (rw length-drop (omega arith))
+
+pub part-back : (a : ℕ) (s t : List ℕ) → putMid a (length s - a) s t ≡ take a s ++ t
+part-back a s t =
+    let e : drop (length s - a) (drop a s) ≡ [] = drop-of-length-le (drop a s) {i = length s - a} (rw length-drop (omega arith)) in
+    rw e (ap (λ (r : List ℕ). take a s ++ r) (append-nil t))
+
+drop-past : (p q : List ℕ) (n k : ℕ) → length p ≡ n → drop (n + k) (p ++ q) ≡ drop k q
+drop-past p q n k e = rw (← e) (drop-append-add p q k)
+
+module _ (P : Plan) where
+  length-one : (r : Read) (a : Answer) → length (answerBytes 16 r a) ≡ 5
+  unfolding answerBytes bytesOf
+  length-one r a = refl
+
+  length-all : (rs : List Read) → length (answersFor 16 P rs) ≡ 5 * length rs
+  unfolding answersFor
+  length-all [] = refl
+  length-all (r ∷ rs) = rw (length-append, length-one, length-all rs) (omega arith)
+
+  all-append : (rs qs : List Read) → answersFor 16 P (rs ++ qs) ≡ answersFor 16 P rs ++ answersFor 16 P qs
+  unfolding answersFor
+  all-append [] qs = refl
+  all-append (r ∷ rs) qs = rw (append-assoc, all-append rs qs)
+
+  all-one : (r : Read) → answersFor 16 P (r ∷ []) ≡ answerBytes 16 r (answerOf P r)
+  unfolding answersFor
+  all-one r = append-nil (answerBytes 16 r (answerOf P r))
+
+  pub answers-none : (b : List ℕ) → b ≡ answersFor 16 P [] ++ drop 0 b
+  unfolding answersFor
+  answers-none b = refl
+
+  -- with i answers written, one more is placed at its own five bytes
+  pub answers-more : (rs : List Read) (b buffer : List ℕ) (i : ℕ) (d : Read) → i < length rs → buffer ≡ answersFor 16 P (take i rs) ++ drop (5 * i) b
+      → take (5 * i) buffer ++ (answerBytes 16 (getD rs i d) (answerOf P (getD rs i d)) ++ drop 5 (drop (5 * i) buffer))
+      ≡ answersFor 16 P (take (i + 1) rs) ++ drop (5 * (i + 1)) b
+  answers-more rs b buffer i d h is =
+      let p = answersFor 16 P (take i rs) in
+      let q = drop (5 * i) b in
+      let n : length p ≡ 5 * i = rw (length-all, length-take-le i rs (omega arith)) in
+      let k : 5 * (i + 1) ≡ 5 * i + 5 = omega arith in
+      let e : drop (5 * i + 5) (p ++ q) ≡ drop (5 * i + 5) b = drop-past p q (5 * i) 5 n ∙ drop-drop 5 (5 * i) b in
+      rw (is, take-at p q (5 * i) n, drop-drop, e, k, add-one, take-suc rs i d h, all-append, all-one) (sym (append-assoc p _ _))
+
+-- all answers are written
+pub answers-done : (s b buffer : List ℕ) (i : ℕ) → i ≡ length (planOf 16 s .reads) → buffer ≡ answersFor 16 (planOf 16 s) (take i (planOf 16 s .reads)) ++ drop (5 * i) b
+    → buffer ≡ answersOf 16 s ++ drop (5 * i) b
+unfolding answersOf
+answers-done s b buffer i e is = rw (take-all i (planOf 16 s .reads) (omega arith)) at is
+
+-- zeroing forgets what was written below byte 60,000
+module _ (a b : List ℕ) (size : length b ≡ length a) where
+  past : (n : ℕ) → ((p : ℕ) → n ≤ p → getD b p 0 ≡ getD a p 0) → drop n b ≡ drop n a
+  past n same =
+      ext-getD 0 (drop n b) (drop n a) (length-drop n b ∙ ap (λ (k : ℕ). k - n) size ∙ sym (length-drop n a))
+      (λ i l. getD-drop n b i 0 ∙ same (n + i) (omega arith) ∙ sym (getD-drop n a i 0))
+
+  pub zeroed-same : ((p : ℕ) → workspaceSize ≤ p → getD b p 0 ≡ getD a p 0) → zeroed b ≡ zeroed a
+  unfolding zeroed
+  zeroed-same same = ap (λ (l : List ℕ). replicate workspaceSize 0 ++ l) (past workspaceSize same)

@@ -1,0 +1,4 @@
+pub mod Feeding
+pub mod Hearing
+pub mod Buffers
+pub mod Playing

@@ -1,0 +1,62 @@
+-- `look` meets its contract: the ticks up to the one looked at, and the server after it.
+use mathlib.Core.Path.{refl}
+use Prim.Native.Nat.{_<_}
+use native.Mathlib.Omega.{arith}
+use borrow.Author.Needs.{needs}
+use Rattle.player.proofs.Playing.{ready, ticks-few, servers-few, ticks-are, seen}
+use Rattle.player.proofs.look.Statement.{statement}
+use Rattle.player.proofs.look.Tie as tie
+
+read-requires : tie.Need-read-requires
+read-requires c κs = search needs
+
+add-run : tie.Need-add-run
+add-run c =
+    let s = c .before .before .before .before .before .before .before in
+    let h = ticks-few _ _ _ _ (s .pre .0) (s .pre .1) (c .before .before .before .read .ensures) in
+    let l : s .args .tick < 128 = omega (arith, h, s .pre .3) in
+    search needs
+
+run-requires : tie.Need-run-requires
+run-requires c κs =
+    let s = c .before .before .before .before .before .before .before in
+    let x = c .before .before .before .read in
+    (ready _ _ _ _ (s .pre .0) (s .pre .1) (x .ensures), omega (arith, s .pre .3, ticks-are _ _ _ _ (s .pre .0) (s .pre .1) (x .ensures)))
+
+zero-requires : tie.Need-zero-requires
+zero-requires c κs = search needs
+
+mul-result : tie.Need-mul-result
+mul-result c =
+    let s = c .before .before .before .before .before .before .before .before .before .before .before .before .before .before in
+    let h = servers-few _ _ _ _ (s .pre .0) (s .pre .1) (c .before .before .before .before .before .before .before .before .before .before .read .ensures) in
+    let l : s .args .server < 16 = omega (arith, h, s .pre .2) in
+    search needs
+
+element-copy-out-result : tie.Need-element-copy-out-result
+element-copy-out-result c =
+    let s = c .before .before .before .before .before .before .before .before .before .before .before .before .before .before in
+    let h = servers-few _ _ _ _ (s .pre .0) (s .pre .1) (c .before .before .before .before .before .before .before .before .before .before .read .ensures) in
+    let l : s .args .server < 16 = omega (arith, h, s .pre .2) in
+    search needs
+
+same-length : tie.Need-same-length
+same-length c = search needs
+
+returns : tie.Need-returns
+returns c =
+    let s = c .before .before .before .before .before .before .before .before .before .before .before .before .before .before .before in
+    seen _ _ _ _ (s .pre .0) (s .pre .1) (c .before .before .before .before .before .before .before .before .before .before .before .read .ensures) _ _ _ (c .before .before .before .before .before .before .before .run .ensures) (s .args .server) (s .args .tick) _ (s .pre .2) refl (c .before .before .before .zero .ensures)
+
+pub look-spec : {M : Type 1} → statement M
+look-spec =
+    tie.close
+    (tie.spec
+    read-requires
+    add-run
+    run-requires
+    zero-requires
+    mul-result
+    element-copy-out-result
+    same-length
+    returns)

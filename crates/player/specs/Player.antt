@@ -1,0 +1,21 @@
+-- What playing and looking leave, for a plan that Check accepts.
+use mathlib.Core.Path.{_≡_}
+use mathlib.Core.List.{List, _++_}
+use Prim.Native.Nat.{ℕ, suc, _*_}
+use lib.ListN.{length, drop}
+use Rattle.register.specs.Cluster.{cluster, serverOf}
+use Rattle.plan.specs.Packed.{planOf}
+use Rattle.cluster.specs.declared.Server.{Server}
+use Rattle.cluster.specs.Stored.{statusOf, keys}
+use Rattle.answers.specs.Answers.{answersOf}
+use Rattle.answers.specs.Workspace.{zeroed}
+
+pub record Answered (s answers₀ answers₁ work₀ work₁ : List ℕ) : Type 0 where
+  pub answers : answers₁ ≡ answersOf 16 s ++ drop (5 * length (planOf 16 s .reads)) answers₀
+  pub workspace : work₁ ≡ zeroed work₀
+
+-- server b after tick t
+pub record Seen (s : List ℕ) (b t : ℕ) (x : Server) (work₀ work₁ : List ℕ) : Type 0 where
+  pub status : serverOf (cluster (planOf 16 s) (suc t)) b .status ≡ statusOf (x .status)
+  pub kept : serverOf (cluster (planOf 16 s) (suc t)) b .kept ≡ keys (x .kept)
+  pub workspace : work₁ ≡ zeroed work₀

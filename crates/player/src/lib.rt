@@ -1,0 +1,35 @@
+// Playing a plan that Check accepts, in a workspace that is large enough.
+ghost use Prim.Native.Nat.{_*_, _≤_, _<_};
+ghost use lib.ListN.{length};
+ghost use Rattle.plan.specs.Header.{headerOf};
+ghost use Rattle.plan.specs.Packed.{planOf};
+ghost use Rattle.answers.specs.Workspace.{workspaceSize};
+ghost use Rattle.script.specs.Script.{Accepts};
+ghost use Rattle.player.specs.Player.{Answered, Seen};
+use cluster::Server;
+
+pub mod answering;
+pub mod run;
+
+// Plays all ticks, writes the answers and zeroes the workspace.
+pub fn play(plan: &[u8], answers: &mut [u8], work: &mut [u8])
+    requires { ⌜ Accepts (now plan) × (5 * length (planOf 16 (now plan) .reads) ≤ length (now answers)) × (workspaceSize ≤ length (now work)) ⌝ }
+    ensures { λ _. ⌜ Answered (now (plan .entry)) (now (answers .entry)) (now (answers .exit)) (now (work .entry)) (now (work .exit)) ⌝ }
+{
+    let script = script::read(plan, work);
+    let shape = script.shape;
+    let _end = run::run(plan, work, script, shape.ticks);
+    answering::answer_all(answers, plan, work, script);
+    answers::zero(work);
+}
+
+// A server after a tick; the workspace is zeroed.
+pub fn look(plan: &[u8], work: &mut [u8], server: usize, tick: u8) -> Server
+    requires { ⌜ Accepts (now plan) × (workspaceSize ≤ length (now work)) × (server < headerOf 16 (now plan) .n) × (tick < headerOf 16 (now plan) .ticks) ⌝ }
+    ensures { λ r. ⌜ Seen (now (plan .entry)) server tick r (now (work .entry)) (now (work .exit)) ⌝ }
+{
+    let script = script::read(plan, work);
+    let c = run::run(plan, work, script, tick + 1);
+    answers::zero(work);
+    c.servers[server]
+}
