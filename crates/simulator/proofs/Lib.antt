@@ -8,3 +8,7 @@ pub mod NotEmpty
 pub mod JudgeLaws
 pub mod JudgeLawsSteps
 pub mod JudgeLawsPlan
+pub mod Promised
+pub mod PlayCases
+pub mod LookCases
+pub mod Places

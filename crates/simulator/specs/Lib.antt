@@ -4,4 +4,5 @@ pub mod Judge
 pub mod PointThree
 pub mod Starred
 pub mod JudgeTables
+pub mod Promised
 pub mod Numbered

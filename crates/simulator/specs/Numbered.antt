@@ -1,9 +1,49 @@
--- Document 01's number or verdict for every case of what the operations return.
-use mathlib.Core.Bool.{Bool, true, false}
+-- Document 01's number or value for every case of what the operations return.
+use mathlib.Core.Bool.{Bool, true, false, cond}
+use mathlib.Core.List.{List, [], _∷_}
+use Prim.Native.Nat.{ℕ}
+use Rattle.register.specs.Server.{Status, faulty, cured, correct}
 use Rattle.plan.specs.Check.{Outcome, refused, result}
 use Rattle.plan.specs.Numbered.{refusalNumber}
+use Rattle.cluster.specs.declared.Stamped.{Stamped as Place}
+use Rattle.simulator.specs.declared.play.Played.{Played}
+use Rattle.simulator.specs.declared.play.Played.the-variants as P
+use Rattle.simulator.specs.declared.look.Seen.{Seen}
+use Rattle.simulator.specs.declared.look.Seen.the-variants as S
+use Rattle.simulator.specs.declared.look.Looked.{Looked}
 use Rattle.simulator.specs.declared.judge.Judged.{Judged}
 use Rattle.simulator.specs.declared.judge.Judged.the-variants as J
+use Rattle.simulator.specs.Look.{Stamped, Shown, is-faulty, is-cured, is-correct}
+
+-- Play: '9 under 5 bytes for each read; 10 workspace under 60,000 bytes. It returns the number of reads'
+abbrev pub played : Played → Outcome ℕ
+played (P.Reads m) = result m
+played (P.Refused r) = refused (refusalNumber r)
+played P.AnswersShort = refused 9
+played P.WorkspaceShort = refused 10
+
+-- the pairs in the places before the first empty one
+unfoldable pub shownIn : List Place → List Stamped
+shownIn [] = []
+shownIn (p ∷ ps) = cond (p .kept) (record { value = p .value; number = p .number } ∷ shownIn ps) []
+
+-- Look: 'Check's refusals; then 10; 11 box not below n, or tick not below H. It returns held, curing or sound, and its pairs'
+abbrev pub lookedAs : List Stamped → Seen → Outcome Shown
+lookedAs pairs S.Faulty = result (record { condition = is-faulty; pairs = pairs })
+lookedAs pairs S.Cured = result (record { condition = is-cured; pairs = pairs })
+lookedAs pairs S.Correct = result (record { condition = is-correct; pairs = pairs })
+lookedAs pairs (S.Refused r) = refused (refusalNumber r)
+lookedAs pairs S.WorkspaceShort = refused 10
+lookedAs pairs S.OutOfRange = refused 11
+
+abbrev pub looked : Looked → Outcome Shown
+looked x = lookedAs (shownIn (x .pairs)) (x .seen)
+
+-- a server's status as Look gives it
+abbrev pub seenOf : Status → Seen
+seenOf faulty = S.Faulty
+seenOf (cured since) = S.Cured
+seenOf correct = S.Correct
 
 -- Judge: '12 length other than 5 times the reads; 13 an answer whose begin, screen or zero bit isn't that of its read. Then yes or no'
 abbrev pub judged : Judged → Outcome Bool

@@ -1,2 +1,4 @@
 // The library's operations.
 pub mod judge;
+pub mod look;
+pub mod play;
