@@ -13,7 +13,6 @@ use Rattle.plan.specs.Shape.{shape}
 use Rattle.plan.specs.Parts.{operationOf, operationsOf}
 use Rattle.plan.specs.Header.{moves}
 use Rattle.plan.proofs.Reading.{length-reads, count-yes, count-no}
-use Rattle.plan.proofs.reads.count.Reads as reads
 use Rattle.plan.proofs.reads.count.Statement.{statement}
 use Rattle.plan.proofs.reads.count.Tie as tie
 

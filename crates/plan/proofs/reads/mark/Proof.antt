@@ -6,7 +6,6 @@ use lib.ListN.{length, length-set}
 use denote.Ref.{now}
 use Rattle.plan.specs.Steps.{Marked}
 use Rattle.plan.proofs.Spans.{marked-none, marked-more}
-use Rattle.plan.proofs.reads.mark.Reads as reads
 use Rattle.plan.proofs.reads.mark.Statement.{statement}
 use Rattle.plan.proofs.reads.mark.Tie as tie
 

@@ -11,7 +11,6 @@ use Rattle.plan.specs.Steps.{IsOperation, Opened}
 use Rattle.plan.specs.Shape.{shape}
 use Rattle.plan.proofs.Passed.{read-ends}
 use Rattle.plan.proofs.Spans.{opened-none, opened-write, opened-read}
-use Rattle.plan.proofs.reads.opened.Reads as reads
 use Rattle.plan.proofs.reads.opened.Statement.{statement}
 use Rattle.plan.proofs.reads.opened.Tie as tie
 
