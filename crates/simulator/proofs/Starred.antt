@@ -13,6 +13,8 @@ use Rattle.register.specs.Plan
 use Rattle.register.specs.Server
 use Rattle.register.specs.Cluster
 use Rattle.register.specs.Reading
+use Rattle.register.proofs.Logic.{and-l, and-r}
+use Rattle.register.proofs.Lists.{sameList-eq}
 use Rattle.plan.specs.Header
 use Rattle.plan.specs.Parts
 use Rattle.plan.specs.Packed
@@ -26,14 +28,6 @@ use Rattle.simulator.specs.Starred as S
 unfoldable pub opened : List ℕ → Check.Outcome ℕ
 unfolding bitOf fieldOf Lists.count Lists.anyUpTo Lists.allUpTo Lists.tabFrom Lists.flat Lists.any Lists.filter Lists.distinct Lists.highest Lists.sameList Plan.stamped Plan.valueOf Plan.numberOf Plan.kOf Plan.isMove Server.claimOf Server.has Server.pairsOf Server.insert Server.insertAll Server.takeIn Server.quorum Server.votedIn Server.deliver Server.stage1 Server.stage2 Server.moved Server.stage3 Server.stage4 Cluster.sentIn Cluster.writesIn Cluster.readsIn Cluster.votesFrom Cluster.forgedIn Cluster.votesIn Cluster.step Cluster.serverOf Cluster.tick Cluster.cluster Reading.sameRead Reading.replyFrom Reading.forgedTo Reading.noted Reading.notedBy Reading.countIn Reading.best Reading.answerFrom Header.headerOf Header.moves Parts.inPlacement Parts.operationOf Parts.forgeryOf Parts.delayOf Parts.operationsOf Parts.isLink Parts.writesFrom Parts.readsFrom Packed.planOf Check.headerInRange Check.enoughServers Check.endOf Check.placementStands Check.operationRises Check.operationWaits Check.operationStands Check.readOpen Check.forgeryRises Check.forgeryStands Check.delayStands Check.finalBitsZero Check.placementsStand Check.operationsStand Check.forgeriesStand Check.delaysStand Check.checkOf Answers.bytesOf Answers.packed Answers.answerBytes Answers.answersFor Answers.answersOf Look.conditionOf Look.shownBy S.k-one S.k-two S.period-short S.five S.four S.six S.five-two S.no-reads S.one-read S.written S.takeover S.starred
 opened s = Check.checkOf 16 s
-
-and-left : (a b : Bool) → T (a && b) → T a
-and-left true b h = tt
-and-left false b h = h
-
-and-right : (a b : Bool) → T (a && b) → T b
-and-right true b h = h
-and-right false b h = absurd h
 
 -- Tests for equality, each with the law that it is one.
 same-outcome : Check.Outcome ℕ → Check.Outcome ℕ → Bool
@@ -66,14 +60,6 @@ condition-same Look.is-correct Look.is-faulty h = absurd (omega arith)
 condition-same Look.is-correct Look.is-cured h = absurd (omega arith)
 condition-same Look.is-correct Look.is-correct h = refl
 
-numbers-same : (xs ys : List ℕ) → T (Lists.sameList xs ys) → xs ≡ ys
-unfolding Lists.sameList
-numbers-same [] [] h = refl
-numbers-same [] (y ∷ ys) h = absurd h
-numbers-same (x ∷ xs) [] h = absurd h
-numbers-same (x ∷ xs) (y ∷ ys) h =
-    ap₂ (λ (z : ℕ) (zs : List ℕ). z ∷ zs) (eqb→eq x y (and-left (eqb x y) _ h)) (numbers-same xs ys (and-right (eqb x y) _ h))
-
 same-pairs : List Look.Stamped → List Look.Stamped → Bool
 same-pairs [] [] = true
 same-pairs [] (y ∷ ys) = false
@@ -86,16 +72,16 @@ pairs-same [] [] h = refl
 pairs-same [] (y ∷ ys) h = absurd h
 pairs-same (x ∷ xs) [] h = absurd h
 pairs-same (x ∷ xs) (y ∷ ys) h =
-    let e : x .value ≡ y .value = eqb→eq (x .value) (y .value) (and-left (eqb (x .value) (y .value)) _ h) in
-    let k = and-right (eqb (x .value) (y .value)) _ h in
-    let d : x .number ≡ y .number = eqb→eq (x .number) (y .number) (and-left (eqb (x .number) (y .number)) _ k) in
-    let r = pairs-same xs ys (and-right (eqb (x .number) (y .number)) _ k) in
+    let e : x .value ≡ y .value = eqb→eq (x .value) (y .value) (and-l (eqb (x .value) (y .value)) _ h) in
+    let k = and-r (eqb (x .value) (y .value)) _ h in
+    let d : x .number ≡ y .number = eqb→eq (x .number) (y .number) (and-l (eqb (x .number) (y .number)) _ k) in
+    let r = pairs-same xs ys (and-r (eqb (x .number) (y .number)) _ k) in
     ap₂ (λ (z : Look.Stamped) (zs : List Look.Stamped). z ∷ zs) (ap₂ (λ (v m : ℕ). let z : Look.Stamped = record { value = v; number = m } in z) e d) r
 
 shown-same : (x y : Look.Shown) → T (eqb (condition-number (x .condition)) (condition-number (y .condition)) && same-pairs (x .pairs) (y .pairs)) → x ≡ y
 shown-same x y h =
-    let c = condition-same (x .condition) (y .condition) (eqb→eq _ (condition-number (y .condition)) (and-left (eqb (condition-number (x .condition)) (condition-number (y .condition))) _ h)) in
-    let p = pairs-same (x .pairs) (y .pairs) (and-right (eqb (condition-number (x .condition)) (condition-number (y .condition))) _ h) in
+    let c = condition-same (x .condition) (y .condition) (eqb→eq _ (condition-number (y .condition)) (and-l (eqb (condition-number (x .condition)) (condition-number (y .condition))) _ h)) in
+    let p = pairs-same (x .pairs) (y .pairs) (and-r (eqb (condition-number (x .condition)) (condition-number (y .condition))) _ h) in
     ap₂ (λ (d : Look.Condition) (q : List Look.Stamped). let z : Look.Shown = record { condition = d; pairs = q } in z) c p
 
 -- the test of a row
@@ -118,12 +104,12 @@ unfolding passes S.Holds
 row-holds (S.has-length s n) h = eqb→eq _ n h
 row-holds (S.checks s o) h = outcome-same _ o h
 row-holds (S.has-k s k) h = eqb→eq _ k h
-row-holds (S.writes-bytes s bytes) h = numbers-same _ bytes h
+row-holds (S.writes-bytes s bytes) h = sameList-eq _ bytes h
 row-holds (S.answers s value number count) h =
     let P : Plan.Plan = Packed.planOf 16 s in
     let a : Reading.Answer = Reading.answerOf P (Judge.readOf P 0) in
-    let k = and-right (eqb (Plan.valueOf 16 (a .pair)) value) _ h in
-    (eqb→eq _ value (and-left (eqb (Plan.valueOf 16 (a .pair)) value) _ h), eqb→eq _ number (and-left (eqb (Plan.numberOf 16 (a .pair)) number) _ k), eqb→eq _ count (and-right (eqb (Plan.numberOf 16 (a .pair)) number) _ k))
+    let k = and-r (eqb (Plan.valueOf 16 (a .pair)) value) _ h in
+    (eqb→eq _ value (and-l (eqb (Plan.valueOf 16 (a .pair)) value) _ h), eqb→eq _ number (and-l (eqb (Plan.numberOf 16 (a .pair)) number) _ k), eqb→eq _ count (and-r (eqb (Plan.numberOf 16 (a .pair)) number) _ k))
 row-holds (S.shows s b t shown) h = shown-same (Look.shownBy 16 (Cluster.serverOf (Cluster.cluster (Packed.planOf 16 s) (suc t)) b)) shown h
 
 -- all rows pass, by computation
@@ -138,8 +124,8 @@ table-passes = tt
 each : (rs : List S.Row) → T (all-pass rs) → (r : S.Row) → Lists.In r rs → S.Holds r
 unfolding all-pass
 each [] h r i = absurd i
-each (x ∷ rs) h r (inl e) = rw e (row-holds x (and-left (passes x) (all-pass rs) h))
-each (x ∷ rs) h r (inr i) = each rs (and-right (passes x) (all-pass rs) h) r i
+each (x ∷ rs) h r (inl e) = rw e (row-holds x (and-l (passes x) (all-pass rs) h))
+each (x ∷ rs) h r (inr i) = each rs (and-r (passes x) (all-pass rs) h) r i
 
 -- every starred case holds
 pub starred-holds : (r : S.Row) → Lists.In r S.starred → S.Holds r
