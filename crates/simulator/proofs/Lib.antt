@@ -12,3 +12,4 @@ pub mod Promised
 pub mod PlayCases
 pub mod LookCases
 pub mod Places
+pub mod RehearseCases

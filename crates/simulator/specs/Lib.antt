@@ -5,4 +5,5 @@ pub mod PointThree
 pub mod Starred
 pub mod JudgeTables
 pub mod Promised
+pub mod Rehearse
 pub mod Numbered

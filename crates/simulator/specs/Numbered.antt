@@ -1,4 +1,5 @@
 -- Document 01's number or value for every case of what the operations return.
+use mathlib.Core.Path.{_≡_}
 use mathlib.Core.Bool.{Bool, true, false, cond}
 use mathlib.Core.List.{List, [], _∷_}
 use Prim.Native.Nat.{ℕ}
@@ -13,6 +14,9 @@ use Rattle.simulator.specs.declared.look.Seen.the-variants as S
 use Rattle.simulator.specs.declared.look.Looked.{Looked}
 use Rattle.simulator.specs.declared.judge.Judged.{Judged}
 use Rattle.simulator.specs.declared.judge.Judged.the-variants as J
+use Rattle.simulator.specs.declared.rehearse.Rehearsed.{Rehearsed}
+use Rattle.simulator.specs.declared.rehearse.Rehearsed.the-variants as R
+use Rattle.simulator.specs.Rehearse.{Verdict, yes, no}
 use Rattle.simulator.specs.Look.{Stamped, Shown, is-faulty, is-cured, is-correct}
 
 -- Play: '9 under 5 bytes for each read; 10 workspace under 60,000 bytes. It returns the number of reads'
@@ -52,3 +56,22 @@ judged J.No = result false
 judged (J.Refused r) = refused (refusalNumber r)
 judged J.WrongLength = refused 12
 judged J.WrongRead = refused 13
+
+abbrev pub saysYes : Judged → Bool
+saysYes J.Yes = true
+saysYes J.No = false
+saysYes (J.Refused r) = false
+saysYes J.WrongLength = false
+saysYes J.WrongRead = false
+
+-- Play and Judge in one
+abbrev pub rehearsed : Rehearsed → Outcome Verdict
+rehearsed (R.Yes m) = result (yes m)
+rehearsed R.No = result no
+rehearsed (R.Refused r) = refused (refusalNumber r)
+rehearsed R.AnswersShort = refused 9
+rehearsed R.WorkspaceShort = refused 10
+
+-- the case that point 3 rules out
+pub record NotNo (r : Rehearsed) : Type 0 where
+  pub never : r ≡ R.No → ⊥
