@@ -1,0 +1,22 @@
+-- `of_check` meets its contract: Check's refusal has its code.
+use borrow.Author.Needs.{needs}
+use Rattle.codes.proofs.of_check.Statement.{statement}
+use Rattle.codes.proofs.of_check.Tie as tie
+
+enum-known-c : tie.Need-enum-known-c
+enum-known-c c = search needs
+
+enum-known-c-2 : tie.Need-enum-known-c-2
+enum-known-c-2 c = search needs
+
+refusal-requires : tie.Need-refusal-requires
+refusal-requires c κs = search needs
+
+returns : tie.Need-returns
+returns c = search needs
+
+returns-2 : tie.Need-returns-2
+returns-2 c = cc
+
+pub of-check-spec : {M : Type 1} → statement M
+of-check-spec = tie.close (tie.spec enum-known-c enum-known-c-2 refusal-requires returns returns-2)

@@ -1,0 +1,53 @@
+-- `of_judge` meets its contract: Check's refusal has its code.
+use borrow.Author.Needs.{needs}
+use Rattle.codes.proofs.of_judge.Statement.{statement}
+use Rattle.codes.proofs.of_judge.Tie as tie
+
+enum-told : tie.Need-enum-told
+enum-told c = search needs
+
+enum-told-2 : tie.Need-enum-told-2
+enum-told-2 c = search needs
+
+enum-known-j : tie.Need-enum-known-j
+enum-known-j c = search needs
+
+refusal-requires : tie.Need-refusal-requires
+refusal-requires c κs = search needs
+
+enum-told-3 : tie.Need-enum-told-3
+enum-told-3 c = search needs
+
+enum-told-4 : tie.Need-enum-told-4
+enum-told-4 c = search needs
+
+returns : tie.Need-returns
+returns c = search needs
+
+returns-2 : tie.Need-returns-2
+returns-2 c = search needs
+
+returns-3 : tie.Need-returns-3
+returns-3 c = cc
+
+returns-4 : tie.Need-returns-4
+returns-4 c = search needs
+
+returns-5 : tie.Need-returns-5
+returns-5 c = search needs
+
+pub of-judge-spec : {M : Type 1} → statement M
+of-judge-spec =
+    tie.close
+    (tie.spec
+    enum-told
+    enum-told-2
+    enum-known-j
+    refusal-requires
+    enum-told-3
+    enum-told-4
+    returns
+    returns-2
+    returns-3
+    returns-4
+    returns-5)
