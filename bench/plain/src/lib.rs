@@ -1,0 +1,99 @@
+//! Check, Play, Look and Judge of document 01 as an ordinary program: the yardstick for the
+//! proved library's speed, and the other side of its differential tests. It shares no code
+//! with the library and makes no use of facts proved there.
+
+#![forbid(unsafe_code)]
+
+mod bits;
+mod cluster;
+mod judge;
+mod plan;
+mod server;
+
+pub use plan::Stamped;
+
+use cluster::Cluster;
+use judge::ANSWER_BYTES;
+use plan::Plan;
+
+pub const WORKSPACE_BYTES: usize = 60_000;
+
+/// A refusal by document 01's number.
+#[derive(Clone, Copy, Debug, PartialEq, Eq)]
+pub struct Refused(pub u8);
+
+#[derive(Clone, Copy, Debug, PartialEq, Eq)]
+pub enum Condition {
+    Faulty,
+    Cured,
+    Correct,
+}
+
+/// What a look shows: the stamped values highest first, as many as `count` says.
+#[derive(Clone, Copy, Debug, PartialEq, Eq)]
+pub struct Seen {
+    pub condition: Condition,
+    pub count: usize,
+    pub kept: [Stamped; 3],
+}
+
+/// The number of reads.
+pub fn check(plan: &[u8]) -> Result<usize, Refused> {
+    Ok(Plan::unpack(plan)?.reads.len())
+}
+
+/// The number of reads; the answers stand at the start of the buffer.
+pub fn play(plan: &[u8], answers: &mut [u8], workspace: &mut [u8]) -> Result<usize, Refused> {
+    let plan = Plan::unpack(plan)?;
+    if answers.len() < ANSWER_BYTES * plan.reads.len() {
+        return Err(Refused(9));
+    }
+    let workspace = workspace.get_mut(..WORKSPACE_BYTES).ok_or(Refused(10))?;
+    let mut cluster = Cluster::new(&plan);
+    for tick in 0..plan.header.ticks {
+        cluster.tick(tick);
+    }
+    let places = answers.chunks_exact_mut(ANSWER_BYTES);
+    for ((read, place), &(stamped, count)) in plan.reads.iter().zip(places).zip(&cluster.answers) {
+        place.copy_from_slice(&judge::pack(read, stamped, count));
+    }
+    workspace.fill(0);
+    Ok(plan.reads.len())
+}
+
+/// A server after a tick.
+pub fn look(
+    plan: &[u8],
+    workspace: &mut [u8],
+    server: usize,
+    tick: usize,
+) -> Result<Seen, Refused> {
+    let plan = Plan::unpack(plan)?;
+    let workspace = workspace.get_mut(..WORKSPACE_BYTES).ok_or(Refused(10))?;
+    if server >= plan.header.servers || tick >= plan.header.ticks {
+        return Err(Refused(11));
+    }
+    let mut cluster = Cluster::new(&plan);
+    for tick in 0..=tick {
+        cluster.tick(tick);
+    }
+    let (condition, store) = cluster.look(server);
+    let mut seen = Seen { condition, count: store.kept().len(), kept: Default::default() };
+    seen.kept[..seen.count].copy_from_slice(store.kept());
+    workspace.fill(0);
+    Ok(seen)
+}
+
+/// Whether every answer is one that a regular register may give.
+pub fn judge(plan: &[u8], answers: &[u8]) -> Result<bool, Refused> {
+    let plan = Plan::unpack(plan)?;
+    if answers.len() != ANSWER_BYTES * plan.reads.len() {
+        return Err(Refused(12));
+    }
+    let answers = answers.chunks_exact(ANSWER_BYTES);
+    let mut answered = plan.reads.iter().zip(answers);
+    if !answered.clone().all(|(read, answer)| judge::belongs(read, answer)) {
+        return Err(Refused(13));
+    }
+    Ok(answered.all(|(read, answer)| judge::is_regular(&plan, read, answer)))
+}
