@@ -1,0 +1,83 @@
+//! The library's own functions over slices, with the numbers that they return; `register.h` says
+//! what they mean. A slice is valid for its length and never null, and a slice lent for writing
+//! overlaps no other: that is all the library asks.
+
+mod library {
+    extern "C" {
+        pub fn register_check(plan: *const u8, plan_length: usize) -> usize;
+        pub fn register_play(
+            plan: *const u8,
+            plan_length: usize,
+            answers: *mut u8,
+            answers_length: usize,
+            workspace: *mut u8,
+            workspace_length: usize,
+        ) -> usize;
+        pub fn register_look(
+            plan: *const u8,
+            plan_length: usize,
+            workspace: *mut u8,
+            workspace_length: usize,
+            server: usize,
+            tick: usize,
+            pairs: *mut u8,
+            pairs_length: usize,
+        ) -> usize;
+        pub fn register_judge(
+            plan: *const u8,
+            plan_length: usize,
+            answers: *const u8,
+            answers_length: usize,
+        ) -> usize;
+    }
+}
+
+pub fn check(plan: &[u8]) -> usize {
+    // SAFETY: the pointer and length are a slice's.
+    unsafe { library::register_check(plan.as_ptr(), plan.len()) }
+}
+
+pub fn play(plan: &[u8], answers: &mut [u8], workspace: &mut [u8]) -> usize {
+    let (answers, answers_length) = (answers.as_mut_ptr(), answers.len());
+    let (workspace, workspace_length) = (workspace.as_mut_ptr(), workspace.len());
+    // SAFETY: the pointers and lengths are slices', and the two to write to are exclusive.
+    unsafe {
+        library::register_play(
+            plan.as_ptr(),
+            plan.len(),
+            answers,
+            answers_length,
+            workspace,
+            workspace_length,
+        )
+    }
+}
+
+pub fn look(
+    plan: &[u8],
+    workspace: &mut [u8],
+    server: usize,
+    tick: usize,
+    pairs: &mut [u8],
+) -> usize {
+    let (workspace, workspace_length) = (workspace.as_mut_ptr(), workspace.len());
+    let (pairs, pairs_length) = (pairs.as_mut_ptr(), pairs.len());
+    // SAFETY: the pointers and lengths are slices', and the two to write to are exclusive.
+    unsafe {
+        library::register_look(
+            plan.as_ptr(),
+            plan.len(),
+            workspace,
+            workspace_length,
+            server,
+            tick,
+            pairs,
+            pairs_length,
+        )
+    }
+}
+
+pub fn judge(plan: &[u8], answers: &[u8]) -> usize {
+    // SAFETY: the pointers and lengths are slices'.
+    unsafe { library::register_judge(plan.as_ptr(), plan.len(), answers.as_ptr(), answers.len()) }
+}
