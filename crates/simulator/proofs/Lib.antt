@@ -10,6 +10,7 @@ pub mod JudgeLawsSteps
 pub mod JudgeLawsPlan
 pub mod Promised
 pub mod PlayCases
+pub mod FaultyBlank
 pub mod LookCases
 pub mod Places
 pub mod RehearseCases
