@@ -10,7 +10,7 @@ use Rattle.bits.specs.Field.{fieldOf}
 use Rattle.register.specs.Plan.{Forgery, stamped}
 use Rattle.cluster.specs.declared.Links.{Links}
 use Rattle.cluster.specs.Layout.{entryAt, delayAt}
-use Rattle.script.specs.declared.forged.Message.{Message}
+use Rattle.plan.specs.declared.forgeries.Forged.{Forged}
 use Rattle.script.specs.Inputs.{Reach}
 
 -- the forged message from bit `at` on
@@ -23,10 +23,10 @@ forgedBits s at = record {
 }
 
 -- the same, field by field
-pub record Packed (s : List ℕ) (at : ℕ) (r : Message) : Type 0 where
-  pub sent : r .sent ≡ fieldOf s at 7
-  pub sender : r .sender ≡ fieldOf s (at + 7) 4
-  pub receiver : r .receiver ≡ fieldOf s (at + 11) 5
+pub record Packed (s : List ℕ) (at : ℕ) (r : Forged) : Type 0 where
+  pub sent : r .at ≡ fieldOf s at 7
+  pub sender : r .from ≡ fieldOf s (at + 7) 4
+  pub receiver : r .to ≡ fieldOf s (at + 11) 5
   pub value : r .value ≡ fieldOf s (at + 16) 16
   pub number : r .number ≡ fieldOf s (at + 32) 8
 

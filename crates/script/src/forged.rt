@@ -6,28 +6,14 @@ ghost use Rattle.script.specs.Forged.{Packed, numberIn, entryBytes, Fill
 use cluster::Links;
 use cluster::Window;
 use cluster::log;
-
-// A forged message as the plan has it.
-struct Message {
-    sent: u8,
-    sender: u8,
-    receiver: u8,
-    value: u16,
-    number: u8,
-}
+use plan::forgeries::Forged;
 
 // The forged message that stands from bit `at` on.
-fn message_at(part: &[u8], at: usize) -> Message
+fn message_at(part: &[u8], at: usize) -> Forged
     requires { ⌜ (at + 40 ≤ 8 * length (now part)) × (at < 2 ^ 50) ⌝ }
     ensures { λ r. ⌜ Packed (now (part .entry)) at r ⌝ }
 {
-    Message {
-        sent: bits::field(part, at, 7) as u8,
-        sender: bits::field(part, at + 7, 4) as u8,
-        receiver: bits::field(part, at + 11, 5) as u8,
-        value: bits::field(part, at + 16, 16) as u16,
-        number: bits::field(part, at + 32, 8) as u8,
-    }
+    Forged::of(bits::field(part, at, 40))
 }
 
 // The number, if it is that of a known pair with this value; else 255.
@@ -83,20 +69,14 @@ pub fn fill(
     while e < count {
         let g = message_at(part, offset + 40 * e);
         let number = known_number(values, m, g.value, g.number);
-        let delay = log::delay(
-            plan,
-            links,
-            g.sent as usize,
-            g.sender as usize,
-            g.receiver as usize,
-        );
+        let delay = log::delay(plan, links, g.at as usize, g.from as usize, g.to as usize);
         put_entry(
             work,
             16384 + 8 * e,
-            g.sent,
-            g.sent + delay as u8,
-            g.receiver,
-            g.sender,
+            g.at,
+            g.at + delay as u8,
+            g.to,
+            g.from,
             number,
         );
         e += 1;

@@ -1,9 +1,9 @@
 // The operations of a plan: its writes by number, and its reads in order.
-ghost use Prim.Native.Nat.{_+_, _*_, _<_};
 ghost use Rattle.register.specs.Lists.{tab};
 ghost use Rattle.plan.specs.Parts.{writesFrom, readsFrom};
 ghost use Rattle.script.specs.Operations.{opAt, Room, Written, ReadIn};
 use cluster::Known;
+use plan::operations::Operation;
 
 // The known pairs, and the tick in which write j begins, from 1 on.
 pub struct Writes {
@@ -29,10 +29,10 @@ pub fn writes_of(plan: &[u8], at: usize, count: usize, initial: u16) -> Writes
     let mut m: usize = 1;
     let mut i: usize = 0;
     while i < count {
-        let o = at + 26 * i;
-        if bits::field(plan, o + 7, 3) == 0 {
-            values[m] = bits::field(plan, o + 10, 16) as u16;
-            begun[m] = bits::field(plan, o, 7) as u8;
+        let o = Operation::read(plan, at + 26 * i);
+        if o.party == 0 {
+            values[m] = o.value;
+            begun[m] = o.at;
             m += 1;
         }
         i += 1;
@@ -57,11 +57,10 @@ pub fn reads_of(plan: &[u8], at: usize, count: usize) -> Reads
     let mut m: usize = 0;
     let mut i: usize = 0;
     while i < count {
-        let o = at + 26 * i;
-        let party = bits::field(plan, o + 7, 3);
-        if party != 0 {
-            begun[m] = bits::field(plan, o, 7) as u8;
-            reader[m] = party as u8;
+        let o = Operation::read(plan, at + 26 * i);
+        if o.party != 0 {
+            begun[m] = o.at;
+            reader[m] = o.party;
             m += 1;
         }
         i += 1;

@@ -23,29 +23,17 @@ loop-holds : tie.Need-loop-holds Inv-loop μ-loop
 loop-holds c =
     (search needs, search needs, search needs, search needs, read-in-none (opAt (c .before .args .plan .now) (c .before .args .at)) (replicate 255 0) (replicate 255 0))
 
-mul-o : tie.Need-mul-o Inv-loop μ-loop
-mul-o c = search needs
+mul-read : tie.Need-mul-read Inv-loop μ-loop
+mul-read c = search needs
 
-add-o : tie.Need-add-o Inv-loop μ-loop
-add-o c = search needs
+add-read : tie.Need-add-read Inv-loop μ-loop
+add-read c = search needs
 
-add-field : tie.Need-add-field Inv-loop μ-loop
-add-field c = search needs
-
-field-requires : tie.Need-field-requires Inv-loop μ-loop
-field-requires c κs = search needs
-
-field-requires-2 : tie.Need-field-requires-2 Inv-loop μ-loop
-field-requires-2 c κs = search needs
-
-cast-begun : tie.Need-cast-begun Inv-loop μ-loop
-cast-begun c = search needs
+read-requires : tie.Need-read-requires Inv-loop μ-loop
+read-requires c κs = search needs
 
 array-write-begun : tie.Need-array-write-begun Inv-loop μ-loop
 array-write-begun c = search needs
-
-cast-reader : tie.Need-cast-reader Inv-loop μ-loop
-cast-reader c = search needs
 
 array-write-reader : tie.Need-array-write-reader Inv-loop μ-loop
 array-write-reader c = search needs
@@ -61,15 +49,16 @@ loop-less c = search needs
 
 loop-again : tie.Need-loop-again Inv-loop μ-loop
 loop-again c =
-    let h = c .before .before .before .loop in
-    let s = c .before .before .before .before .before .args .plan .now in
-    let at = c .before .before .before .before .before .args .at in
-    let R = c .before .before .before .before .before .pre in
+    let h = c .before .before .before .before .loop in
+    let s = c .before .before .before .before .before .before .args .plan .now in
+    let at = c .before .before .before .before .before .before .args .at in
+    let R = c .before .before .before .before .before .before .pre in
+    let E = c .before .before .read .ensures in
     elim (c .if1 .came) [
-      | inl w ↦ read-stored s at _ R (h .i) (c .before .before .loop-test .taken) (h .begun) (h .reader) (h .m) (h .inv .4) _ _ _ _ _ (h .inv .1) (h .inv .2) (h .inv .3)
-          (rw (← c .before .field .ensures .0) (ne-eqb _ 0 (w .0 .taken))) (w .1 .ensures .0) (c .before .field .ensures .0) (w .2) (w .3) (w .4)
-      | inr w ↦ read-left s at _ R (h .i) (c .before .before .loop-test .taken) (h .begun) (h .reader) (h .m) (h .inv .4) _ _ _ (h .inv .1) (h .inv .2) (h .inv .3)
-          (sym (c .before .field .ensures .0) ∙ w .0 .left) (w .1) (w .2) (w .3)
+      | inl w ↦ read-stored s at _ R (h .i) (c .before .before .before .loop-test .taken) (h .begun) (h .reader) (h .m) (h .inv .4) _ _ _ _ _ (h .inv .1) (h .inv .2) (h .inv .3)
+          (rw (← E .party) (ne-eqb _ 0 (w .0 .taken))) (E .tick) (E .party) (w .1) (w .2) (w .3)
+      | inr w ↦ read-left s at _ R (h .i) (c .before .before .before .loop-test .taken) (h .begun) (h .reader) (h .m) (h .inv .4) _ _ _ (h .inv .1) (h .inv .2) (h .inv .3)
+          (sym (E .party) ∙ w .0 .left) (w .1) (w .2) (w .3)
     ]
 
 returns : tie.Need-returns Inv-loop μ-loop
@@ -84,14 +73,10 @@ reads-of-spec =
     Inv-loop
     μ-loop
     loop-holds
-    mul-o
-    add-o
-    add-field
-    field-requires
-    field-requires-2
-    cast-begun
+    mul-read
+    add-read
+    read-requires
     array-write-begun
-    cast-reader
     array-write-reader
     add-m
     add-i
