@@ -13,6 +13,7 @@ ghost use Rattle.answers.specs.Workspace.{workspaceSize, zeroed};
 use cluster::Known;
 use cluster::Links;
 use cluster::Window;
+use plan::header::Shape;
 
 pub mod choose;
 pub mod names;
@@ -111,13 +112,13 @@ pub fn put(
     );
 }
 
-// Zeroes the workspace's first 60,000 bytes.
+// Zeroes as much of the workspace as Play and Look may use.
 pub fn zero(work: &mut [u8])
     requires { ⌜ workspaceSize ≤ length (now work) ⌝ }
     ensures { λ _. ⌜ now (work .exit) ≡ zeroed (now (work .entry)) ⌝ }
 {
     let mut i: usize = 0;
-    while i < 60000 {
+    while i < Shape::WORKSPACE_BYTES {
         work[i] = 0;
         i += 1;
     }

@@ -1,4 +1,5 @@
--- An accepted plan has at most 34,362 bytes: a party's operations stand apart, so that few fit below the plan's ticks.
+-- An accepted plan has at most 34,362 bytes and at most 168 reads: a party's operations stand apart, so that few fit below the plan's
+-- ticks.
 -- It stands on the laws of waiting and on the ranges of the header.
 use mathlib.Core.Path.{_≡_, refl}
 use mathlib.Core.Bool.{Bool, true, false, not, _&&_, _||_}
@@ -11,13 +12,17 @@ use lib.ListN.{length}
 use borrow.Author.Tests.{leb-true, ltb-true, eqb-true, lt-ltb, ne-eqb}
 use Rattle.register.specs.Lists.{allUpTo, count, one-if}
 use Rattle.plan.specs.Header.{Header, headerOf, parties}
-use Rattle.plan.specs.Parts.{operationOf}
+use Rattle.plan.specs.Parts.{operationOf, operationsOf}
 use Rattle.plan.specs.Check.{operationStands, operationsStand, operationRises, operationWaits, endOf, checkOf, result}
+use Rattle.plan.specs.Limits.{mostBytes, mostReads}
+use Rattle.plan.specs.Packed.{planOf}
 use Rattle.plan.specs.Shape.{Ranged}
 use Rattle.plan.proofs.Laws.{and-both, or-true, all-at, all-from, table-few}
 use Rattle.register.proofs.Logic.{T-eq}
-use Rattle.plan.proofs.Accept.{accepted}
+use Rattle.register.proofs.Counting.{count-not}
+use Rattle.plan.proofs.Accept.{accepted, reads-counted}
 use Rattle.plan.proofs.Sizes.{accepted-sizes}
+use Rattle.plan.proofs.Reading.{length-reads}
 use Rattle.plan.proofs.Waiting.{ended}
 
 -- Operations of one party, each of which begins after the last one's end.
@@ -113,8 +118,16 @@ module _ (s : List ℕ) (h : Header) (r : Ranged h) (stand : operationsStand 16 
       let one : (p : ℕ) → 1 ≤ p → count (λ j. eqb (party j) p) (h .operations) ≤ 42 = reads-few in
       omega (arith, all, writes-few, one 1 (omega arith), one 2 (omega arith), one 3 (omega arith), one 4 (omega arith))
 
+  -- four times 42 reads
+  reads-of-few : count (λ j. not (eqb (party j) 0)) (h .operations) ≤ mostReads
+  reads-of-few =
+      let all = five-parties party (h .operations) (λ j l. omega (arith, each j l .0)) in
+      let one : (p : ℕ) → 1 ≤ p → count (λ j. eqb (party j) p) (h .operations) ≤ 42 = reads-few in
+      let rest = count-not (λ j. eqb (party j) 0) (h .operations) in
+      omega (arith, all, rest, one 1 (omega arith), one 2 (omega arith), one 3 (omega arith), one 4 (omega arith))
+
 -- 'An accepted plan has at most 34,362 bytes.'
-pub longest : (s : List ℕ) (m : ℕ) → checkOf 16 s ≡ result m → length s ≤ 34362
+pub longest : (s : List ℕ) (m : ℕ) → checkOf 16 s ≡ result m → length s ≤ mostBytes
 longest s m e =
     let h = headerOf 16 s in
     let z = accepted-sizes s m e in
@@ -122,3 +135,12 @@ longest s m e =
     let o = operations-few s h r (T-eq (operationsStand 16 s h) (accepted 16 s m e .operations)) in
     let t = table-few (h .ticks) (parties h) (omega arith) (omega arith) in
     omega arith
+
+-- and at most 168 reads
+pub most-reads : (s : List ℕ) (m : ℕ) → checkOf 16 s ≡ result m → m ≤ mostReads
+unfolding planOf operationsOf party
+most-reads s m e =
+    let h = headerOf 16 s in
+    let stand = T-eq (operationsStand 16 s h) (accepted 16 s m e .operations) in
+    let few = reads-of-few s h (accepted-sizes s m e .ranged) stand in
+    rw (reads-counted 16 s m e, length-reads (h .operations) (operationOf 16 s h)) few

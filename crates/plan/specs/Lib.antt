@@ -1,4 +1,5 @@
 pub mod Header
+pub mod Limits
 pub mod Parts
 pub mod Packed
 pub mod Check

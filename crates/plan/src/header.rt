@@ -5,6 +5,7 @@ ghost use mathlib.Core.Path.{_≡_};
 ghost use Prim.Native.Nat.{_+_, _*_, _≤_, _<_};
 ghost use lib.ListN.{length};
 ghost use Rattle.plan.specs.Header.{headerOf, kIn, moves, parties, operationAt, forgeryAt, bitLength};
+ghost use Rattle.plan.specs.Limits.{mostBytes, impliedBytes, mostReads};
 ghost use Rattle.plan.specs.Check.{headerInRange, enoughServers};
 ghost use Rattle.plan.specs.Shape.{shape, Ranged};
 
@@ -25,7 +26,18 @@ pub struct Shape {
 impl Shape {
     pub const HEADER_BYTES: usize = 8;
 
+    // The longest plan that Check accepts.
     pub const MOST_BYTES: usize = 34362;
+
+    // The most bytes that a header in range implies: what is longer need not be read to its end.
+    pub const IMPLIED_BYTES: usize = 34437;
+
+    // The reads of an accepted plan: at most 42 of each reader.
+    pub const MOST_READS: usize = 168;
+
+    pub const ANSWER_BYTES: usize = 5;
+
+    pub const WORKSPACE_BYTES: usize = 60000;
 
     pub const MOST_SERVERS: u8 = 16;
 
@@ -38,6 +50,25 @@ impl Shape {
     pub const MOST_TICKS: u8 = 128;
 
     pub const MOST_FORGERIES: u16 = 1024;
+
+    // The limits that no other function of the crate uses, proved to be the definitions'.
+    pub fn most_bytes() -> usize
+        ensures { λ r. ⌜ r ≡ mostBytes ⌝ }
+    {
+        Self::MOST_BYTES
+    }
+
+    pub fn implied_bytes() -> usize
+        ensures { λ r. ⌜ r ≡ impliedBytes ⌝ }
+    {
+        Self::IMPLIED_BYTES
+    }
+
+    pub fn most_reads() -> usize
+        ensures { λ r. ⌜ r ≡ mostReads ⌝ }
+    {
+        Self::MOST_READS
+    }
 
     pub fn read(plan: &[u8]) -> Shape
         requires { ⌜ 8 ≤ length (now plan) ⌝ }

@@ -11,6 +11,7 @@ ghost use Rattle.player.specs.Answering.{Over, Parts};
 use answers::Reading;
 use cluster::Links;
 use cluster::Rules;
+use plan::header::Shape;
 use script::Script;
 use script::forged;
 
@@ -73,7 +74,7 @@ pub fn answer_all(answers: &mut [u8], plan: &[u8], work: &[u8], script: Script)
     while i < count {
         let begun = reads.begun[i];
         let reader = reads.reader[i];
-        let at = 5 * i;
+        let at = Shape::ANSWER_BYTES * i;
         answer_read(
             &mut answers[at..],
             plan,

@@ -151,7 +151,7 @@ fn judge_answers(plan: &[u8], answers: &[u8], count: usize) -> Judged
     requires { ⌜ checkOf 16 (now plan) ≡ result count ⌝ }
     ensures { λ r. ⌜ judged r ≡ judgeAfter 16 (now (plan .entry)) (now (answers .entry)) (result count) ⌝ }
 {
-    if answers.len() != 5 * count {
+    if answers.len() != Shape::ANSWER_BYTES * count {
         return Judged::WrongLength;
     }
     let shape = Shape::read(plan);

@@ -58,7 +58,7 @@ pub fn look(plan: &[u8], work: &mut [u8], server: usize, tick: usize) -> Looked
     match checked {
         Checked::Refused(why) => refusal(Seen::Refused(why)),
         Checked::Reads(_reads) => {
-            if work.len() < 60000 {
+            if work.len() < Shape::WORKSPACE_BYTES {
                 return refusal(Seen::WorkspaceShort);
             }
             let shape = Shape::read(plan);

@@ -5,6 +5,7 @@ ghost use Rattle.simulator.specs.Numbered.{played};
 ghost use Rattle.simulator.specs.Promised.{Promised};
 use plan::Checked;
 use plan::Refusal;
+use plan::header::Shape;
 
 // What Play returns: the number of reads, or the first refusal that applies: Check's; 9; 10.
 pub enum Played {
@@ -22,10 +23,10 @@ pub fn play(plan: &[u8], answers: &mut [u8], work: &mut [u8]) -> Played
     match checked {
         Checked::Refused(why) => Played::Refused(why),
         Checked::Reads(reads) => {
-            if answers.len() < 5 * reads {
+            if answers.len() < Shape::ANSWER_BYTES * reads {
                 return Played::AnswersShort;
             }
-            if work.len() < 60000 {
+            if work.len() < Shape::WORKSPACE_BYTES {
                 return Played::WorkspaceShort;
             }
             player::play(plan, answers, work);

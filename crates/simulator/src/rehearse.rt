@@ -7,6 +7,7 @@ use super::judge::Judged;
 use super::play;
 use super::play::Played;
 use plan::Refusal;
+use plan::header::Shape;
 
 // What a rehearsal returns: Judge's yes with the number of reads, its no, or Play's refusal.
 pub enum Rehearsed {
@@ -40,7 +41,7 @@ pub fn rehearse(plan: &[u8], answers: &mut [u8], work: &mut [u8]) -> Rehearsed
         Played::AnswersShort => Rehearsed::AnswersShort,
         Played::WorkspaceShort => Rehearsed::WorkspaceShort,
         Played::Reads(reads) => {
-            let end = 5 * reads;
+            let end = Shape::ANSWER_BYTES * reads;
             if is_yes(judge::judge(plan, &answers[..end])) {
                 return Rehearsed::Yes(reads);
             }
