@@ -1,7 +1,7 @@
 -- The names read from the bytes are the claims that the read has noted by its end, for known pairs.
 -- It stands on the log of the step rules and on what LogRep and Heard say of the bytes.
 use mathlib.Core.Path.{_≡_, refl, sym, ap, _∙_}
-use mathlib.Core.Bool.{Bool, true, false, _&&_, _||_, cond}
+use mathlib.Core.Bool.{Bool, true, false, _&&_, _||_, cond, and-assoc}
 use mathlib.Core.List.{List, [], map}
 use Prim.Native.Nat.{ℕ, zero, suc, _+_, _*_, _≤_, _<_}
 use native.Mathlib.Omega.{arith}
@@ -73,10 +73,6 @@ module _ (P : Plan) (r : Read) (log : Log) where
       ∙ ap (λ (b : Bool). b || has (forgedTo P r) p i)
       (has-flat (readEnd P r) (λ u. flat (P .n) (λ k. replyFrom P log r u k)) p i
       ∙ any-cong (readEnd P r) _ (λ u. sends u i && member p (sentIn log u i .replyWith)) (λ u _. has-tick u p i l))
-
-and-assoc : (a b c : Bool) → (a && b) && c ≡ a && (b && c)
-and-assoc true b c = refl
-and-assoc false b c = refl
 
 module _ (P : Plan) (g : ℕ → ℕ) (m t : ℕ) (r : Read) (work plan : List ℕ) (links : Links) (window : Window) (nf : ℕ)
     (ir : In r (P .reads)) (late : readEnd P r ≤ t) (L : LogRep P g m t (cluster P t .log) work) (H : Heard P g m r work plan links window nf) where

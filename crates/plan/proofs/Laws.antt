@@ -82,14 +82,17 @@ or-false false = refl
 pub row-inside : (i n p : ℕ) → i < n → i * p + p ≤ n * p
 row-inside i n p h = let m = mul-le-mul-right p h in omega (arith, m)
 
-pub square-byte : (p : ℕ) → p ≤ 511 → p * p ≤ 261121
-square-byte p h = mul-le-mul {n₂ = 511} {m₂ = 511} h h
-
 -- what each passes, all pass
 pub all-from : (g : ℕ → Bool) (n : ℕ) → ((i : ℕ) → i < n → g i ≡ true) → allUpTo n g ≡ true
 unfolding allUpTo
 all-from g zero f = refl
 all-from g (suc n) f = rw (f n (omega arith), all-from g n (λ i l. f i (omega arith)))
+
+-- the same tests
+pub all-same : (f g : ℕ → Bool) (n : ℕ) → ((i : ℕ) → i < n → f i ≡ g i) → allUpTo n f ≡ allUpTo n g
+unfolding allUpTo
+all-same f g zero e = refl
+all-same f g (suc n) e = rw (e n (omega arith), all-same f g n (λ i l. e i (omega arith)))
 
 pub or-true : (b : Bool) → b || true ≡ true
 or-true true = refl

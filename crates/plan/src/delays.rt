@@ -3,13 +3,17 @@ use crate::header::Shape;
 use crate::logic::both;
 use crate::logic::is_within;
 ghost use mathlib.Core.Path.{_≡_};
-ghost use Prim.Native.Nat.{_+_, _*_, _^_, _≤_, _<_};
+ghost use mathlib.Core.Bool.{_&&_};
+ghost use Prim.Native.Nat.{_+_, _*_, _/_, _%_, _^_, _≤_, _<_};
 ghost use lib.ListN.{length};
 ghost use Rattle.plan.specs.Header.{parties};
 ghost use Rattle.plan.specs.Parts.{isLink};
 ghost use Rattle.plan.specs.Check.{delaysStand, finalBitsZero};
 ghost use Rattle.plan.specs.Shape.{shape, Sized};
-ghost use Rattle.plan.specs.Steps.{allowed, rowStands, tickStands};
+ghost use Rattle.plan.specs.Steps.{allowed, tickStands, linkBit, needOf, mostPairs, Needed, bitStands, firstStand};
+
+// The pairs of delays in a tick of the most parties: half of 21 times 21.
+const MOST_PAIRS: usize = 220;
 
 fn is_link(n: usize, i: usize, j: usize) -> bool
     ensures { λ r. ⌜ r ≡ isLink n i j ⌝ }
@@ -27,36 +31,122 @@ fn is_allowed(h: Shape, i: usize, j: usize, delay: u8) -> bool
     }
 }
 
-// The delays from party i, of which the first stands at bit `at`.
-fn row_stands(plan: &[u8], h: Shape, at: usize, i: usize) -> bool
-    requires { ⌜ (at + 4 * parties (shape h) ≤ 8 * length (now plan)) × (at < 2 ^ 60) ⌝ }
-    ensures { λ r. ⌜ r ≡ rowStands (now (plan .entry)) (shape h) at i ⌝ }
+// 1 where delay q of a tick is of a link.
+fn link_bit(n: usize, parties: usize, q: usize) -> u8
+    requires { ⌜ 1 ≤ parties ⌝ }
+    ensures { λ r. ⌜ (r ≡ linkBit n parties q) × (r ≤ 1) ⌝ }
 {
-    let parties = h.parties();
-    let mut j = 0;
-    while j < parties {
-        if !is_allowed(h, i, j, bits::nibble(plan, at + 4 * j)) {
-            return false;
-        }
-        j += 1;
+    if is_link(n, q / parties, q % parties) {
+        1
+    } else {
+        0
     }
-    true
 }
 
-// The delays of a tick, of which the first stands at bit `at`.
-fn tick_stands(plan: &[u8], h: Shape, at: usize) -> bool
-    requires { ⌜ (at + 4 * (parties (shape h) * parties (shape h)) ≤ 8 * length (now plan)) × (at < 2 ^ 59) ⌝ }
+// The same of delays 2k and 2k + 1, as the two nibbles of a byte.
+fn need_of(n: usize, parties: usize, k: usize) -> u8
+    requires { ⌜ (1 ≤ parties) × (k < 2 ^ 60) ⌝ }
+    ensures { λ r. ⌜ r ≡ needOf n parties k ⌝ }
+{
+    16 * link_bit(n, parties, 2 * k) + link_bit(n, parties, 2 * k + 1)
+}
+
+// These bytes for a tick.
+fn needs(n: usize, parties: usize, bytes: usize) -> [u8; MOST_PAIRS]
+    requires { ⌜ (1 ≤ parties) × (bytes ≤ mostPairs) ⌝ }
+    ensures { λ r. ⌜ (length r ≡ mostPairs) × Needed n parties bytes r ⌝ }
+{
+    let mut r = [0u8; MOST_PAIRS];
+    let mut k = 0;
+    while k < bytes {
+        r[k] = need_of(n, parties, k);
+        k += 1;
+    }
+    r
+}
+
+// Eight bits of two bytes.
+fn shifted(high: u8, low: u8, down: u16) -> u8
+    requires { ⌜ down ≤ 8 ⌝ }
+    ensures { λ r. ⌜ r ≡ (high * 256 + low) / 2 ^ down % 256 ⌝ }
+{
+    ((((high as u16) * 256 + low as u16) >> down) % 256) as u8
+}
+
+// The two delays in byte x.
+fn byte_stands(need: u8, delta: u8, x: u8) -> bool
+    requires { ⌜ (need / 16 ≤ 1) × (need % 16 ≤ 1) ⌝ }
+    ensures { λ r. ⌜ r ≡ bitStands (need % 16) delta (x % 16) && bitStands (need / 16) delta (x / 16) ⌝ }
+{
+    let high = x / 16;
+    let low = x % 16;
+    both(
+        (high + 15) / 16 * 16 + (low + 15) / 16 == need,
+        both(low <= delta, high <= delta),
+    )
+}
+
+// The first 2 * bytes delays of the tick that begins at bit `at`, two at a time and with no early exit.
+fn pairs_stand(plan: &[u8], need: &[u8], h: Shape, at: usize, bytes: usize) -> bool
+    requires { ⌜ (at / 8 + bytes < length (now plan)) × (at < 2 ^ 59) × (bytes ≤ mostPairs) × (bytes ≤ length (now need))
+        × Needed (h .n) (parties (shape h)) bytes (now need) ⌝ }
+    ensures { λ r. ⌜ r ≡ firstStand (now (plan .entry)) (shape h) at (2 * bytes) ⌝ }
+{
+    let from = at / 8;
+    let down = (8 - at % 8) as u16;
+    let mut stands = true;
+    let mut k = 0;
+    while k < bytes {
+        let x = shifted(plan[from + k], plan[from + k + 1], down);
+        stands = both(byte_stands(need[k], h.delta, x), stands);
+        k += 1;
+    }
+    stands
+}
+
+// The delays from `from` to all - 1 of a tick, one at a time; `before` says whether those before them stand.
+fn rest_stand(plan: &[u8], h: Shape, at: usize, from: usize, all: usize, before: bool) -> bool
+    requires { ⌜ (at + 4 * all ≤ 8 * length (now plan)) × (at < 2 ^ 59) × (all ≤ 441) × (from ≤ all)
+        × (before ≡ firstStand (now plan) (shape h) at from) ⌝ }
+    ensures { λ r. ⌜ r ≡ firstStand (now (plan .entry)) (shape h) at all ⌝ }
+{
+    let parties = h.parties();
+    let mut stands = before;
+    let mut q = from;
+    while q < all {
+        stands = both(
+            is_allowed(h, q / parties, q % parties, bits::nibble(plan, at + 4 * q)),
+            stands,
+        );
+        q += 1;
+    }
+    stands
+}
+
+// Of so many pairs from bit `at` on, those with a byte behind them: all, or all but the last.
+fn followed(pairs: usize, at: usize, len: usize) -> usize
+    requires { ⌜ (at < 2 ^ 59) × (pairs ≤ mostPairs) × (at / 8 < len) × (at / 8 + pairs ≤ len) ⌝ }
+    ensures { λ r. ⌜ (r ≤ pairs) × (at / 8 + r < len) ⌝ }
+{
+    if at / 8 + pairs < len {
+        pairs
+    } else {
+        pairs - 1
+    }
+}
+
+// The delays of a tick: in pairs as far as a byte follows them, then the rest.
+fn tick_stands(plan: &[u8], need: &[u8], h: Shape, at: usize) -> bool
+    requires { ⌜ (at + 4 * (parties (shape h) * parties (shape h)) ≤ 8 * length (now plan)) × (at < 2 ^ 59)
+        × (parties (shape h) * parties (shape h) ≤ 441) × (mostPairs ≤ length (now need))
+        × Needed (h .n) (parties (shape h)) (parties (shape h) * parties (shape h) / 2) (now need) ⌝ }
     ensures { λ r. ⌜ r ≡ tickStands (now (plan .entry)) (shape h) at ⌝ }
 {
     let parties = h.parties();
-    let mut i = 0;
-    while i < parties {
-        if !row_stands(plan, h, at + 4 * (i * parties), i) {
-            return false;
-        }
-        i += 1;
-    }
-    true
+    let all = parties * parties;
+    let pairs = followed(all / 2, at, plan.len());
+    let stands = pairs_stand(plan, need, h, at, pairs);
+    rest_stand(plan, h, at, 2 * pairs, all, stands)
 }
 
 pub fn all_stand(plan: &[u8], h: Shape) -> bool
@@ -66,9 +156,10 @@ pub fn all_stand(plan: &[u8], h: Shape) -> bool
     let ticks = h.ticks as usize;
     let parties = h.parties();
     let first = h.delays_at();
+    let need = needs(h.n as usize, parties, parties * parties / 2);
     let mut t = 0;
     while t < ticks {
-        if !tick_stands(plan, h, first + 4 * (t * (parties * parties))) {
+        if !tick_stands(plan, &need, h, first + 4 * (t * (parties * parties))) {
             return false;
         }
         t += 1;

@@ -14,6 +14,7 @@ use Rattle.plan.specs.Parts.{writesFrom, readsFrom}
 use Rattle.plan.specs.Packed.{planOf}
 use Rattle.plan.specs.Shape.{shape, Ranged}
 use Rattle.plan.specs.Check.{checkOf, result}
+use Rattle.plan.proofs.Laws.{all-same}
 use Rattle.plan.proofs.Accept.{Accepted, accepted, reads-counted, in-range}
 use Rattle.plan.proofs.AcceptReads.{few-reads}
 use Rattle.plan.proofs.AcceptWrites.{writes-apart}
@@ -21,12 +22,6 @@ use Rattle.script.specs.Operations.{opAt, noWrite, Written, ReadIn}
 use Rattle.script.proofs.Placing.{writes-there, reads-there}
 use Rattle.simulator.specs.Judge.{readOf, answerFits}
 use Rattle.simulator.specs.JudgeTables.{Tables, fitsRead}
-
--- two tests that agree below n pass together
-all-same : (f g : ℕ → Bool) (n : ℕ) → ((i : ℕ) → i < n → f i ≡ g i) → allUpTo n f ≡ allUpTo n g
-unfolding allUpTo
-all-same f g zero h = refl
-all-same f g (suc n) h = rw (h n (omega arith), all-same f g n (λ i l. h i (omega arith)))
 
 module _ (s : List ℕ) (m : ℕ) (e : checkOf 16 s ≡ result m) where
   A : Accepted 16 s
