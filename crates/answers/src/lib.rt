@@ -8,7 +8,7 @@ ghost use Rattle.register.specs.Plan.{stamped};
 ghost use Rattle.cluster.specs.Inputs.{pairAt};
 ghost use Rattle.answers.specs.Named.{Ready, Entries, namedBy};
 ghost use Rattle.answers.specs.Choosing.{choiceOf, answerBy};
-ghost use Rattle.answers.specs.Answers.{answerBytes};
+ghost use Rattle.answers.specs.Answers.{answerSize, answerBytes};
 ghost use Rattle.answers.specs.Workspace.{workspaceSize, zeroed};
 use cluster::Known;
 use cluster::Links;
@@ -58,11 +58,11 @@ fn packed(begun: u8, reader: u8, value: u16, number: u8, count: u32) -> u64
     (((read * 65536 + value as u64) * 256 + number as u64) * 32 + count as u64) * 2
 }
 
-// Writes the answer of a read at the start of its part of the answer buffer, which is the part from 5 times the read's index.
+// Writes the answer of a read at the start of its part of the answer buffer, which is the part from ANSWER_BYTES times the read's index.
 pub fn write(out: &mut [u8], begun: u8, reader: u8, value: u16, number: u8, count: u32)
-    requires { ⌜ 5 ≤ length (now out) ⌝ }
+    requires { ⌜ answerSize 16 ≤ length (now out) ⌝ }
     ensures { λ _. ⌜ now (out .exit) ≡ answerBytes 16 (record { begun = begun; reader = reader })
-        (record { pair = stamped 16 value number; count = count }) ++ drop 5 (now (out .entry)) ⌝ }
+        (record { pair = stamped 16 value number; count = count }) ++ drop (answerSize 16) (now (out .entry)) ⌝ }
 {
     let v = packed(begun, reader, value, number, count);
     out[0] = (v / 4294967296 % 256) as u8;
@@ -95,10 +95,10 @@ pub fn put(
     known: Known,
     reply: u32,
 )
-    requires { ⌜ (5 ≤ length (now out)) × (known .m ≤ 65) × Ready (now work) (now plan) links read × Entries (now work) window ⌝ }
+    requires { ⌜ (answerSize 16 ≤ length (now out)) × (known .m ≤ 65) × Ready (now work) (now plan) links read × Entries (now work) window ⌝ }
     ensures { λ _. ⌜ now (out .exit) ≡ answerBytes 16 (record { begun = read .begun; reader = read .reader })
         (answerBy (pairAt known) (choiceOf (namedBy (now (work .entry)) (now (plan .entry)) links read window) reply (known .m)))
-        ++ drop 5 (now (out .entry)) ⌝ }
+        ++ drop (answerSize 16) (now (out .entry)) ⌝ }
 {
     let choice = answer(work, plan, links, read, window, known.m, reply);
     let value = value_of(known, choice);

@@ -35,6 +35,8 @@ impl Shape {
     // The reads of an accepted plan: at most 42 of each reader.
     pub const MOST_READS: usize = 168;
 
+    pub const ANSWER_BITS: usize = 40;
+
     pub const ANSWER_BYTES: usize = 5;
 
     pub const WORKSPACE_BYTES: usize = 60000;

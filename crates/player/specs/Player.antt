@@ -7,11 +7,11 @@ use Rattle.register.specs.Cluster.{cluster, serverOf}
 use Rattle.plan.specs.Packed.{planOf}
 use Rattle.cluster.specs.declared.Server.{Server}
 use Rattle.cluster.specs.Stored.{statusOf, keys}
-use Rattle.answers.specs.Answers.{answersOf}
+use Rattle.answers.specs.Answers.{answerSize, answersOf}
 use Rattle.answers.specs.Workspace.{zeroed}
 
 pub record Answered (s answers₀ answers₁ work₀ work₁ : List ℕ) : Type 0 where
-  pub answers : answers₁ ≡ answersOf 16 s ++ drop (5 * length (planOf 16 s .reads)) answers₀
+  pub answers : answers₁ ≡ answersOf 16 s ++ drop (answerSize 16 * length (planOf 16 s .reads)) answers₀
   pub workspace : work₁ ≡ zeroed work₀
 
 -- server b after tick t

@@ -6,7 +6,7 @@ ghost use lib.ListN.{length, drop};
 ghost use Rattle.register.specs.Lists.{In};
 ghost use Rattle.register.specs.Reading.{answerOf};
 ghost use Rattle.plan.specs.Packed.{planOf};
-ghost use Rattle.answers.specs.Answers.{answerBytes, answersOf};
+ghost use Rattle.answers.specs.Answers.{answerSize, answerBytes, answersOf};
 ghost use Rattle.player.specs.Answering.{Over, Parts};
 use answers::Reading;
 use cluster::Links;
@@ -28,8 +28,8 @@ fn answer_read(
     begun: u8,
     reader: u8,
 )
-    requires { ⌜ (5 ≤ length (now out)) × Parts (now plan) (now work) rules links (now values) m (now starts) × In (record { begun = begun; reader = reader }) (planOf 16 (now plan) .reads) ⌝ }
-    ensures { λ _. ⌜ now (out .exit) ≡ answerBytes 16 (record { begun = begun; reader = reader }) (answerOf (planOf 16 (now (plan .entry))) (record { begun = begun; reader = reader })) ++ drop 5 (now (out .entry)) ⌝ }
+    requires { ⌜ (answerSize 16 ≤ length (now out)) × Parts (now plan) (now work) rules links (now values) m (now starts) × In (record { begun = begun; reader = reader }) (planOf 16 (now plan) .reads) ⌝ }
+    ensures { λ _. ⌜ now (out .exit) ≡ answerBytes 16 (record { begun = begun; reader = reader }) (answerOf (planOf 16 (now (plan .entry))) (record { begun = begun; reader = reader })) ++ drop (answerSize 16) (now (out .entry)) ⌝ }
 {
     let end = begun + 2 * rules.delta;
     let read = Reading {
@@ -58,8 +58,8 @@ fn answer_read(
 
 // Writes the answers of all reads, each at its own five bytes.
 pub fn answer_all(answers: &mut [u8], plan: &[u8], work: &[u8], script: Script)
-    requires { ⌜ Over (now plan) (now work) script × (5 * script .reads .m ≤ length (now answers)) ⌝ }
-    ensures { λ _. ⌜ now (answers .exit) ≡ answersOf 16 (now (plan .entry)) ++ drop (5 * script .reads .m) (now (answers .entry)) ⌝ }
+    requires { ⌜ Over (now plan) (now work) script × (answerSize 16 * script .reads .m ≤ length (now answers)) ⌝ }
+    ensures { λ _. ⌜ now (answers .exit) ≡ answersOf 16 (now (plan .entry)) ++ drop (answerSize 16 * script .reads .m) (now (answers .entry)) ⌝ }
 {
     let rules = script.rules;
     let links = script.links;

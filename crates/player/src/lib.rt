@@ -3,6 +3,7 @@ ghost use Prim.Native.Nat.{_*_, _≤_, _<_};
 ghost use lib.ListN.{length};
 ghost use Rattle.plan.specs.Header.{headerOf};
 ghost use Rattle.plan.specs.Packed.{planOf};
+ghost use Rattle.answers.specs.Answers.{answerSize};
 ghost use Rattle.answers.specs.Workspace.{workspaceSize};
 ghost use Rattle.script.specs.Script.{Accepts};
 ghost use Rattle.player.specs.Player.{Answered, Seen};
@@ -13,7 +14,7 @@ pub mod run;
 
 // Plays all ticks, writes the answers and zeroes the workspace.
 pub fn play(plan: &[u8], answers: &mut [u8], work: &mut [u8])
-    requires { ⌜ Accepts (now plan) × (5 * length (planOf 16 (now plan) .reads) ≤ length (now answers)) × (workspaceSize ≤ length (now work)) ⌝ }
+    requires { ⌜ Accepts (now plan) × (answerSize 16 * length (planOf 16 (now plan) .reads) ≤ length (now answers)) × (workspaceSize ≤ length (now work)) ⌝ }
     ensures { λ _. ⌜ Answered (now (plan .entry)) (now (answers .entry)) (now (answers .exit)) (now (work .entry)) (now (work .exit)) ⌝ }
 {
     let script = script::read(plan, work);

@@ -5,6 +5,7 @@ use mathlib.Core.List.{List}
 use Prim.Native.Nat.{ℕ, _*_}
 use lib.ListN.{take}
 use Rattle.plan.specs.Check.{Outcome, result}
+use Rattle.answers.specs.Answers.{answerSize}
 use Rattle.simulator.specs.Judge.{judgeOf}
 use Rattle.simulator.specs.PointThree.{PointThree}
 
@@ -12,4 +13,4 @@ pub record Promised (s : List ℕ) (outcome : Outcome ℕ) (answers : List ℕ) 
   -- the plan has point 3, whole
   pub point : (m : ℕ) → outcome ≡ result m → PointThree 16 s
   -- and Judge says yes to the answers that stand in the buffer
-  pub judged : (m : ℕ) → outcome ≡ result m → judgeOf 16 s (take (5 * m) answers) ≡ result true
+  pub judged : (m : ℕ) → outcome ≡ result m → judgeOf 16 s (take (answerSize 16 * m) answers) ≡ result true

@@ -11,7 +11,7 @@ ghost use lib.ListN.{length, getD};
 ghost use Rattle.register.specs.Lists.{allUpTo};
 ghost use Rattle.register.specs.Plan.{Plan, Read, Write, stamped};
 ghost use Rattle.register.specs.Regular.{finished, allowed};
-ghost use Rattle.answers.specs.Answers.{pairIn};
+ghost use Rattle.answers.specs.Answers.{answerSize, pairIn};
 ghost use Rattle.plan.specs.Check.{result, checkOf};
 ghost use Rattle.simulator.specs.Judge.{readOf, judgeAfter, judgeOf};
 ghost use Rattle.simulator.specs.Numbered.{judged};
@@ -98,14 +98,14 @@ fn all_allowed(
     reads: &[u8; 255],
     count: usize,
 ) -> bool
-    requires { ⌜ (1 ≤ m) × (m ≤ 65) × (count ≤ 255) × (5 * count ≤ length (now answers)) ⌝ }
+    requires { ⌜ (1 ≤ m) × (m ≤ 65) × (count ≤ 255) × (answerSize 16 * count ≤ length (now answers)) ⌝ }
     ensures { λ r. ⌜ ((P : Plan) → Tables P (now (values .entry)) (now (begun .entry)) m → P .delta ≡ delta
         → ((i : ℕ) → i < count → readOf P i .begun ≡ getD (now (reads .entry)) i 0)
         → r ≡ allUpTo count (λ i. allowed P (readOf P i) (pairIn 16 (now (answers .entry)) i))) ⌝ }
 {
     let mut i: usize = 0;
     while i < count {
-        let at = 40 * i + 10;
+        let at = Shape::ANSWER_BITS * i + 10;
         let value = bits::field(answers, at, 16) as u16;
         let number = bits::field(answers, at + 16, 8) as u8;
         if !is_allowed(values, begun, m, delta, reads[i], value, number) {
@@ -118,10 +118,10 @@ fn all_allowed(
 
 // Are begin, reader and zero bit of answer i those of its read?
 fn is_fitting(answers: &[u8], i: usize, begun: u8, reader: u8) -> bool
-    requires { ⌜ (5 * i + 5 ≤ length (now answers)) × (i < 256) ⌝ }
+    requires { ⌜ (answerSize 16 * i + answerSize 16 ≤ length (now answers)) × (i < 256) ⌝ }
     ensures { λ r. ⌜ r ≡ fitsRead (now (answers .entry)) i begun reader ⌝ }
 {
-    let at = 40 * i;
+    let at = Shape::ANSWER_BITS * i;
     if bits::field(answers, at, 7) != begun as u64 {
         return false;
     }
@@ -133,7 +133,7 @@ fn is_fitting(answers: &[u8], i: usize, begun: u8, reader: u8) -> bool
 
 // The same of all answers. Both tables are fields of one struct, so they share a lifetime.
 fn all_fit<'a>(answers: &[u8], begun: &'a [u8; 255], reader: &'a [u8; 255], count: usize) -> bool
-    requires { ⌜ (count ≤ 255) × (5 * count ≤ length (now answers)) ⌝ }
+    requires { ⌜ (count ≤ 255) × (answerSize 16 * count ≤ length (now answers)) ⌝ }
     ensures { λ r. ⌜ r ≡ allUpTo count (λ i. fitsRead (now (answers .entry)) i (getD (now (begun .entry)) i 0) (getD (now (reader .entry)) i 0)) ⌝ }
 {
     let mut i: usize = 0;
