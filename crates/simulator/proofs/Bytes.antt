@@ -1,4 +1,4 @@
--- Fields of bytes in a row, of a number written as bytes, and of a number packed from parts; each for every width.
+-- Fields of pieces in a row, of a number written as bytes, and of a number packed from parts; each for every width.
 -- It stands on the laws of bit fields.
 use mathlib.Core.Path.{_≡_, refl, sym, ap, _∙_}
 use mathlib.Core.List.{List, [], _∷_, _++_}
@@ -6,26 +6,14 @@ use Prim.Native.Nat.{ℕ, zero, suc, _+_, _*_, _/_, _%_, _^_, _≤_, _<_}
 use native.Mathlib.Nat.{mod-lt, mod-one, pow-zero, zero-add}
 use native.Mathlib.Omega.{arith}
 use lib.Dec.{lit<}
-use lib.ListN.{length, getD, length-append, List·getD-append}
-use lib.Seq.{drop-append-seam, getD-at}
+use lib.ListN.{length, getD, length-append}
+use lib.Seq.{getD-at}
 use lib.Arith.{digits-lt}
 use lib.Pow.{high, low, mod-pow-add, pow-add}
-use Rattle.bits.specs.Field.{bitOf, fieldOf}
-use Rattle.bits.proofs.Laws.{field-zero, field-suc, field-lt, field-split, field-part, bytes-more}
+use Rattle.bits.specs.Field.{fieldOf}
+use Rattle.bits.proofs.Laws.{field-zero, field-lt, field-split, bytes-more}
+use Rattle.bits.proofs.Joined.{field-left, field-right}
 use Rattle.answers.specs.Answers.{bytesOf}
-
-bit-left : (a b : List ℕ) (i : ℕ) → i < 8 * length a → bitOf (a ++ b) i ≡ bitOf a i
-unfolding bitOf
-bit-left a b i h = rw (List·getD-append a b 0 (i / 8) (omega arith))
-
--- a field inside the first of two byte strings
-pub field-left : (a b : List ℕ) (at w : ℕ) → at + w ≤ 8 * length a → fieldOf (a ++ b) at w ≡ fieldOf a at w
-field-left a b at zero h = rw (field-zero (a ++ b) at, field-zero a at)
-field-left a b at (suc w) h = rw (field-suc (a ++ b) at w, field-suc a at w, field-left a b at w (omega arith), bit-left a b (at + w) (omega arith))
-
--- a field of the second
-pub field-right : (a b : List ℕ) (at w : ℕ) → fieldOf (a ++ b) (8 * length a + at) w ≡ fieldOf b at w
-field-right a b at w = sym (field-part (a ++ b) (length a) at w) ∙ rw drop-append-seam
 
 -- a field made of two parts gives them back
 module _ (s : List ℕ) (at a b hi lo : ℕ) (e : fieldOf s at (a + b) ≡ hi * 2 ^ b + lo) (l : lo < 2 ^ b) where
