@@ -2,23 +2,31 @@
 -- It stands on what Check accepts and on the ranges of the header.
 use mathlib.Core.Path.{_≡_}
 use mathlib.Core.List.{List}
-use Prim.Native.Nat.{ℕ}
+use Prim.Native.Nat.{ℕ, _≤_}
 use native.Mathlib.Omega.{arith}
 use lib.ListN.{length}
 use Rattle.register.proofs.Logic.{T-eq}
 use Rattle.plan.specs.Header.{Header, headerOf, moves, parties, bitLength}
+use Rattle.plan.specs.Limits.{impliedBytes}
 use Rattle.plan.specs.Check.{result, checkOf, bytesFor, headerInRange}
 use Rattle.plan.specs.Shape.{Ranged, Sized}
 use Rattle.plan.proofs.Laws.{moves-few, table-few}
 use Rattle.plan.proofs.Ranges.{ranged-header}
 use Rattle.plan.proofs.Accept.{accepted, exact}
 
-pub sizes : (s : List ℕ) (h : Header) → Ranged h → length s ≡ bytesFor (bitLength 16 h) → Sized s h
+few : (h : Header) → Ranged h → (moves h ≤ 128) × (bitLength 16 h ≤ 275494)
 unfolding moves
-sizes s h r e =
+few h r =
     let m = moves-few (h .ticks) (h .period) (omega arith) in
     let t = table-few (h .ticks) (parties h) (omega arith) (omega arith) in
-    record { ranged = r; size = e; moves-hi = omega arith; bits-hi = omega arith }
+    (omega arith, omega arith)
+
+-- no header in range implies more bytes
+pub implied-few : (h : Header) → Ranged h → bytesFor (bitLength 16 h) ≤ impliedBytes
+implied-few h r = omega (arith, few h r)
+
+pub sizes : (s : List ℕ) (h : Header) → Ranged h → length s ≡ bytesFor (bitLength 16 h) → Sized s h
+sizes s h r e = let z = few h r in record { ranged = r; size = e; moves-hi = z .0; bits-hi = z .1 }
 
 pub accepted-sizes : (s : List ℕ) (m : ℕ) → checkOf 16 s ≡ result m → Sized s (headerOf 16 s)
 accepted-sizes s m e =
