@@ -6,15 +6,15 @@ use Prim.Native.Nat.{ℕ, _+_, _*_, _-_, _/_, _%_, _≤_, _<_}
 use native.Mathlib.Nat.{add-zero, div-one, mul-one}
 use native.Mathlib.Omega.{arith}
 use lib.Arith.{digits-div, digits-mod}
-use lib.Dec.{T, leb, ltb, eqb}
+use lib.Dec.{leb, ltb, eqb}
 use lib.ListN.{length}
-use borrow.Author.Tests.{le-leb, leb-true, lt-ltb, ltb-true, eq-eqb, eqb-true, ne-eqb}
+use borrow.Author.Tests.{lt-ltb, eqb-true, ne-eqb}
 use Rattle.bits.specs.Field.{fieldOf}
 use Rattle.bits.proofs.Laws.{field-zero, field-split}
-use Rattle.register.specs.Lists.{one-if, allUpTo, count}
+use Rattle.register.specs.Lists.{one-if, allUpTo}
 use Rattle.register.proofs.Counting.{count-cong}
 use Rattle.plan.specs.Header.{headerOf, moves, operationAt}
-use Rattle.plan.specs.Limits.{mostBytes, mostReads}
+use Rattle.plan.specs.Limits.{mostReads}
 use Rattle.plan.specs.Parts.{Operation, inPlacement, operationOf, operationsOf, forgeryOf, delayOf, isLink}
 use Rattle.plan.specs.Packed.{planOf}
 use Rattle.plan.specs.Check.{result, checkOf, endOf, placementStands, operationRises, operationWaits, operationStands, forgeryRises, forgeryStands, delayStands, placementsStand, operationsStand, forgeriesStand, delaysStand, finalBitsZero}

@@ -1,9 +1,8 @@
 -- What Judge decodes of a plan that Check accepts: the tables say the plan's reads and writes.
 -- It stands on what Check accepts and on where the operations stand in the plan's bits.
-use mathlib.Core.Path.{_≡_, refl, sym, ap}
-use mathlib.Core.Bool.{Bool}
+use mathlib.Core.Path.{_≡_, sym, ap}
 use mathlib.Core.List.{List}
-use Prim.Native.Nat.{ℕ, zero, suc, _+_, _*_, _≤_, _<_}
+use Prim.Native.Nat.{ℕ, _+_, _*_, _≤_, _<_}
 use native.Mathlib.Omega.{arith}
 use lib.ListN.{getD}
 use Rattle.register.specs.Lists.{tab, allUpTo}
