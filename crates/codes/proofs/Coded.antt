@@ -5,6 +5,7 @@ use mathlib.Core.List.{List, []}
 use Prim.Native.Nat.{ℕ, _+_, _*_, _≤_, _<_}
 use native.Mathlib.Omega.{arith}
 use lib.ListN.{length}
+use Rattle.cluster.specs.declared.Stamped.{Stamped as Place}
 use Rattle.simulator.specs.Look.{Stamped, Looked}
 use Rattle.simulator.specs.Numbered.{lookedAs}
 use Rattle.simulator.specs.declared.look.Seen.{Seen}
@@ -28,7 +29,8 @@ condition-code ps (Refused r) h = absurd (omega arith)
 condition-code ps WorkspaceShort h = absurd (omega arith)
 condition-code ps OutOfRange h = absurd (omega arith)
 
-module _ (ps : List Stamped) (s : Seen) (workspace pairs : List ℕ) (x : Looked) (is : record { outcome = lookedAs ps s; workspace = workspace } ≡ x) where
+module _ (ps : List Stamped) (s : Seen) (places : List Place) (workspace pairs : List ℕ) (x : Looked)
+    (is : record { outcome = lookedAs ps s; places = places; workspace = workspace } ≡ x) where
   pub look-refused : 256 ≤ seenCode s → record { code = seenCode s; workspace = workspace; pairs = pairs } ≡ codedIn pairs x
   unfolding pairsOver pairBytes
   look-refused h = rw (← is, refusal-code ps s h .0, refusal-code ps s h .1)

@@ -134,7 +134,7 @@ pub fn look(plan: &[u8], work: &mut [u8], server: usize, tick: usize, pairs: &mu
     if REFUSED <= code {
         return code;
     }
-    let places = looked.pairs;
+    let places = looked.places;
     let shown = put_pairs(pairs, places);
     code + 4 * shown
 }

@@ -5,14 +5,15 @@ use mathlib.Core.Bool.{Bool, _&&_}
 use mathlib.Core.List.{List, []}
 use Prim.Native.Nat.{ℕ, zero, suc, _<_}
 use lib.Dec.{T, T-not}
+use lib.ListN.{replicate}
 use Rattle.register.specs.Plan.{Plan, Read, isMove}
 use Rattle.register.specs.Server.{Server, Claim, Out, isFaulty, isCorrect, curedAt, deliver, stage1, stage2, moved, stage3, stage4}
 use Rattle.register.specs.Cluster.{Log, step, serverOf, cluster}
 use Rattle.register.proofs.Logic.{cond-e}
 use Rattle.register.proofs.Trace.{before-is, before-zero, cluster-servers}
 use Rattle.plan.specs.Header.{headerOf}
-use Rattle.plan.specs.Packed.{planOf}
-use Rattle.simulator.specs.Look.{shownBy}
+use Rattle.plan.specs.Packed.{storeDepth, planOf}
+use Rattle.simulator.specs.Look.{shownBy, emptyPlace, placesOf}
 
 abbrev Blank : Server → Type 0
 Blank x = T (isFaulty (x .status)) → x .kept ≡ []
@@ -46,8 +47,12 @@ pub faulty-blank : (P : Plan) (t b : ℕ) → b < P .n → T (isFaulty (serverOf
 faulty-blank P zero b l = let e = sym (before-is P 0 b) ∙ before-zero P b l in rw e (λ h. absurd h)
 faulty-blank P (suc t) b l = rw (cluster-servers P t b l) (step-blank P t b (cluster P t .log) (serverOf (cluster P t) b) (faulty-blank P t b l))
 
--- so Look shows none of it
-pub faulty-shows-none : (s : List ℕ) (t b : ℕ) → b < headerOf 16 s .n → T (isFaulty (serverOf (cluster (planOf 16 s) t) b .status))
-    → shownBy 16 (serverOf (cluster (planOf 16 s) t) b) .pairs ≡ []
-unfolding planOf shownBy
-faulty-shows-none s t b l h = rw (faulty-blank (planOf 16 s) t b l h)
+-- so Look shows none of it, and every place of its array is empty
+module _ (s : List ℕ) (t b : ℕ) (l : b < headerOf 16 s .n) (h : T (isFaulty (serverOf (cluster (planOf 16 s) t) b .status))) where
+  pub faulty-shows-none : shownBy 16 (serverOf (cluster (planOf 16 s) t) b) .pairs ≡ []
+  unfolding planOf shownBy
+  faulty-shows-none = rw (faulty-blank (planOf 16 s) t b l h)
+
+  pub faulty-places-empty : placesOf (shownBy 16 (serverOf (cluster (planOf 16 s) t) b) .pairs) ≡ replicate storeDepth emptyPlace
+  unfolding placesOf
+  faulty-places-empty = rw faulty-shows-none

@@ -12,5 +12,6 @@ pub mod Promised
 pub mod PlayCases
 pub mod FaultyBlank
 pub mod LookCases
+pub mod ShownPlaces
 pub mod Places
 pub mod RehearseCases

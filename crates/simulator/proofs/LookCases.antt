@@ -2,26 +2,27 @@
 -- It stands on the definitions alone.
 use mathlib.Core.Path.{_≡_, refl, _∙_}
 use mathlib.Core.Bool.{Bool, true, false, cond}
-use mathlib.Core.List.{List, [], _∷_, map}
-use Prim.Native.Nat.{ℕ, suc, _≤_, _<_}
-use lib.ListN.{length}
+use mathlib.Core.List.{List, [], _∷_, _++_, map}
+use Prim.Native.Nat.{ℕ, zero, suc, _-_, _≤_, _<_}
+use lib.ListN.{length, replicate}
 use borrow.Author.Tests.{lt-ltb, le-ltb}
 use Rattle.register.specs.Plan.{stamped, valueOf, numberOf}
 use Rattle.register.specs.Server.{Server, Status, faulty, cured, correct}
 use Rattle.register.specs.Cluster.{cluster, serverOf}
 use Rattle.plan.specs.Header.{headerOf}
-use Rattle.plan.specs.Packed.{planOf}
+use Rattle.plan.specs.Packed.{storeDepth, planOf}
 use Rattle.plan.specs.Check.{Outcome, refused, result, checkOf}
 use Rattle.plan.proofs.Stamped.{value-stamped, number-stamped}
 use Rattle.cluster.specs.declared.Stamped.{Stamped as Place}
 use Rattle.cluster.specs.Stored.{keys}
 use Rattle.answers.specs.Workspace.{workspaceSize, zeroed}
-use Rattle.simulator.specs.Look.{Stamped, Shown, conditionOf, shownBy, Looked, lookAfter, lookOf}
+use Rattle.simulator.specs.Look.{Stamped, Shown, conditionOf, shownBy, placeWith, emptyPlace, placesOf, Looked, lookShown, lookRefused, lookAfter, lookOf}
+use Rattle.simulator.specs.declared.look.Seen.{Seen}
 use Rattle.simulator.specs.Numbered.{shownIn, lookedAs, seenOf}
 
 module _ (s workspace : List ℕ) (b t : ℕ) where
   abbrev refusedBy : ℕ → Looked
-  refusedBy number = record { outcome = refused number; workspace = workspace }
+  refusedBy number = lookRefused 16 s workspace b t number
 
   pub look-checked : (n : ℕ) → checkOf 16 s ≡ refused n → refusedBy n ≡ lookOf 16 s workspace b t
   unfolding lookOf lookAfter
@@ -42,10 +43,10 @@ module _ (s workspace : List ℕ) (b t : ℕ) where
         unfolding lookOf lookAfter
         look-tick h = rw (accepted, le-ltb (length workspace) workspaceSize room, lt-ltb b (headerOf 16 s .n) server, le-ltb t (headerOf 16 s .ticks) h)
 
-        pub look-done : t < headerOf 16 s .ticks → (o : Outcome Shown) (w : List ℕ) → o ≡ result (shownBy 16 (serverOf (cluster (planOf 16 s) (suc t)) b)) → w ≡ zeroed workspace
-            → record { outcome = o; workspace = w } ≡ lookOf 16 s workspace b t
+        pub look-done : t < headerOf 16 s .ticks → (x : Looked) → x ≡ lookShown (shownBy 16 (serverOf (cluster (planOf 16 s) (suc t)) b)) (zeroed workspace)
+            → x ≡ lookOf 16 s workspace b t
         unfolding lookOf lookAfter
-        look-done h o w eo ew = rw (accepted, le-ltb (length workspace) workspaceSize room, lt-ltb b (headerOf 16 s .n) server, lt-ltb t (headerOf 16 s .ticks) h, eo, ew)
+        look-done h x e = rw (accepted, le-ltb (length workspace) workspaceSize room, lt-ltb b (headerOf 16 s .n) server, lt-ltb t (headerOf 16 s .ticks) h) e
 
 -- places whose values have 16 bits
 unfoldable pub AllFit : List Place → Type 0
@@ -77,7 +78,18 @@ shown-as faulty pairs = refl
 shown-as (cured since) pairs = refl
 shown-as correct pairs = refl
 
-pub shown : (x : Server) (status : Status) (ps : List Place) → x .status ≡ status → x .kept ≡ keys ps → AllFit ps
-    → lookedAs (shownIn ps) (seenOf status) ≡ result (shownBy 16 x)
-unfolding shownBy
-shown x status ps es ek f = shown-as status (shownIn ps) ∙ rw (es, ek, shown-keys ps f)
+-- the array's pairs are those that it was made of
+shown-places : (pairs : List Stamped) → shownIn (placesOf pairs) ≡ pairs
+unfolding placesOf shownIn
+shown-places pairs = go pairs (storeDepth - length pairs)
+  where
+    go : (pairs : List Stamped) (m : ℕ) → shownIn (map placeWith pairs ++ replicate m emptyPlace) ≡ pairs
+    go [] zero = refl
+    go [] (suc m) = refl
+    go (p ∷ pairs) m = rw (go pairs m)
+
+module _ (x : Server) (status : Status) (kept : List Place) (es : x .status ≡ status) (ek : x .kept ≡ keys kept) (f : AllFit kept) where
+  pub shown : (seen : Seen) (places : List Place) (w v : List ℕ) → seen ≡ seenOf status → places ≡ placesOf (shownIn kept) → w ≡ v
+      → record { outcome = lookedAs (shownIn places) seen; places = places; workspace = w } ≡ lookShown (shownBy 16 x) v
+  unfolding shownBy
+  shown seen places w v e p z = rw (p, e, z, shown-places (shownIn kept), shown-as status (shownIn kept), es, ek, shown-keys kept f)

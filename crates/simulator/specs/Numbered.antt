@@ -41,7 +41,7 @@ lookedAs pairs S.WorkspaceShort = refused 10
 lookedAs pairs S.OutOfRange = refused 11
 
 abbrev pub looked : Looked → Outcome Shown
-looked x = lookedAs (shownIn (x .pairs)) (x .seen)
+looked x = lookedAs (shownIn (x .places)) (x .seen)
 
 -- a server's status as Look gives it
 abbrev pub seenOf : Status → Seen

@@ -1,13 +1,17 @@
 // Look: a server after a tick, with a lent workspace.
 ghost use mathlib.Core.Path.{_≡_};
+ghost use mathlib.Core.List.{[]};
 ghost use Rattle.cluster.specs.Stored.{statusOf};
-ghost use Rattle.simulator.specs.Look.{lookOf};
-ghost use Rattle.simulator.specs.Numbered.{looked, seenOf};
+ghost use Rattle.simulator.specs.Look.{placesOf, lookOf};
+ghost use Rattle.simulator.specs.Numbered.{looked, seenOf, shownIn};
 use cluster::Stamped;
 use cluster::Status;
 use plan::Checked;
 use plan::Refusal;
 use plan::header::Shape;
+
+// How many pairs a server keeps at most.
+pub const STORE_DEPTH: usize = 3;
 
 // What Look sees: a server's condition, or the first refusal that applies: Check's; 10; 11.
 pub enum Seen {
@@ -19,10 +23,10 @@ pub enum Seen {
     OutOfRange,
 }
 
-// The server's pairs stand beside it, highest number first, up to the first empty place.
+// The server's pairs stand beside it, highest number first, then empty places; beside a refusal all places are empty.
 pub struct Looked {
     pub seen: Seen,
-    pub pairs: [Stamped; 3],
+    pub places: [Stamped; STORE_DEPTH],
 }
 
 fn condition(status: Status) -> Seen
@@ -35,24 +39,46 @@ fn condition(status: Status) -> Seen
     }
 }
 
-// A refusal shows no pairs.
-fn refusal(seen: Seen) -> Looked
-    ensures { λ r. ⌜ r .seen ≡ seen ⌝ }
+fn empty_places() -> [Stamped; STORE_DEPTH]
+    ensures { λ r. ⌜ r ≡ placesOf [] ⌝ }
 {
-    let none = Stamped {
+    let empty = Stamped {
         kept: false,
         number: 0,
         value: 0,
     };
-    let pairs = [none; 3];
+    [empty; 3]
+}
+
+// The pairs of a store, which stand before its first empty place, and nothing behind them.
+fn shown_places(kept: [Stamped; STORE_DEPTH]) -> [Stamped; 3]
+    ensures { λ r. ⌜ r ≡ placesOf (shownIn kept) ⌝ }
+{
+    let mut shown = empty_places();
+    let mut i: usize = 0;
+    while i < STORE_DEPTH {
+        let p = kept[i];
+        if !p.kept {
+            return shown;
+        }
+        shown[i] = p;
+        i += 1;
+    }
+    shown
+}
+
+fn refusal(seen: Seen) -> Looked
+    ensures { λ r. ⌜ r ≡ record { seen = seen; places = placesOf [] } ⌝ }
+{
+    let places = empty_places();
     Looked {
         seen: seen,
-        pairs: pairs,
+        places: places,
     }
 }
 
 pub fn look(plan: &[u8], work: &mut [u8], server: usize, tick: usize) -> Looked
-    ensures { λ r. ⌜ record { outcome = looked r; workspace = now (work .exit) } ≡ lookOf 16 (now (plan .entry)) (now (work .entry)) server tick ⌝ }
+    ensures { λ r. ⌜ record { outcome = looked r; places = r .places; workspace = now (work .exit) } ≡ lookOf 16 (now (plan .entry)) (now (work .entry)) server tick ⌝ }
 {
     let checked = plan::check(plan);
     match checked {
@@ -70,11 +96,12 @@ pub fn look(plan: &[u8], work: &mut [u8], server: usize, tick: usize) -> Looked
             }
             let s = player::look(plan, work, server, tick as u8);
             let status = s.status;
-            let pairs = s.kept;
+            let kept = s.kept;
             let seen = condition(status);
+            let places = shown_places(kept);
             Looked {
                 seen: seen,
-                pairs: pairs,
+                places: places,
             }
         }
     }

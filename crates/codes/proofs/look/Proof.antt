@@ -19,7 +19,7 @@ returns : tie.Need-returns
 returns c =
     let r = c .before .before .before .before .look .result in
     let code = c .before .of-seen .ensures in
-    rw code (look-refused (shownIn (r .pairs)) (r .seen) _ _ _ (c .before .before .before .before .look .ensures) (rw code at (c .if1 .taken)))
+    rw code (look-refused (shownIn (r .places)) (r .seen) _ _ _ _ (c .before .before .before .before .look .ensures) (rw code at (c .if1 .taken)))
 
 put-pairs-requires : tie.Need-put-pairs-requires
 put-pairs-requires c κs = search needs
@@ -41,7 +41,7 @@ returns-2 c =
     let r = c .before .before .before .before .before .before .before .before .before .look .result in
     let code = c .before .before .before .before .before .before .of-seen .ensures in
     let e = c .before .before .put-pairs .ensures in
-    rw (e .1, e .2, code) (look-shown (shownIn (r .pairs)) (r .seen) _ _ _ (c .before .before .before .before .before .before .before .before .before .look .ensures) (rw code at (c .before .before .before .before .before .if1 .left)))
+    rw (e .1, e .2, code) (look-shown (shownIn (r .places)) (r .seen) _ _ _ _ (c .before .before .before .before .before .before .before .before .before .look .ensures) (rw code at (c .before .before .before .before .before .if1 .left)))
 
 pub look-spec : {M : Type 1} → statement M
 look-spec =

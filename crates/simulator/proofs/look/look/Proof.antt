@@ -66,6 +66,9 @@ look-requires c κs =
 condition-requires : tie.Need-condition-requires
 condition-requires c κs = search needs
 
+shown-places-requires : tie.Need-shown-places-requires
+shown-places-requires c κs = search needs
+
 returns-4 : tie.Need-returns-4
 returns-4 c = rw (c .refusal .ensures) (look-checked _ _ _ _ _ (sym (c .before .before .before .before .check .ensures) ∙ ap numbered (c .before .before .checked .given .1)))
 
@@ -74,11 +77,11 @@ same-length c = search needs
 
 returns-5 : tie.Need-returns-5
 returns-5 c =
-    let n = ap (λ (h : Header). h .n) (c .before .before .before .before .before .before .before .before .before .before .read .ensures) in
-    let t = ap (λ (h : Header). h .ticks) (c .before .before .before .before .before .before .before .before .before .before .read .ensures) in
-    let d = c .before .before .before .before .look in
-    look-done _ _ _ _ _ (sym (c .before .before .before .before .before .before .before .before .before .before .before .before .before .before .before .check .ensures) ∙ ap numbered (c .before .before .before .before .before .before .before .before .before .before .before .before .before .checked2 .given .1)) (c .before .before .before .before .before .before .before .before .before .before .before .if1 .left) (omega (arith, n, c .before .before .before .before .before .before .before .before .if2 .left)) (omega (arith, t, c .before .before .before .before .before .before .if3 .left)) _ _
-    (rw (c .condition .ensures) (shown _ _ _ (d .ensures .status) (d .ensures .kept) (places-fit (d .result) (d .ok)))) (d .ensures .workspace)
+    let n = ap (λ (h : Header). h .n) (c .before .before .before .before .before .before .before .before .before .before .before .read .ensures) in
+    let t = ap (λ (h : Header). h .ticks) (c .before .before .before .before .before .before .before .before .before .before .before .read .ensures) in
+    let d = c .before .before .before .before .before .look in
+    look-done _ _ _ _ _ (sym (c .before .before .before .before .before .before .before .before .before .before .before .before .before .before .before .before .check .ensures) ∙ ap numbered (c .before .before .before .before .before .before .before .before .before .before .before .before .before .before .checked2 .given .1)) (c .before .before .before .before .before .before .before .before .before .before .before .before .if1 .left) (omega (arith, n, c .before .before .before .before .before .before .before .before .before .if2 .left)) (omega (arith, t, c .before .before .before .before .before .before .before .if3 .left)) _
+    (shown _ _ _ (d .ensures .status) (d .ensures .kept) (places-fit (d .result) (d .ok)) _ _ _ _ (c .before .condition .ensures) (c .shown-places .ensures) (d .ensures .workspace))
 
 pub look-spec : {M : Type 1} → statement M
 look-spec =
@@ -100,6 +103,7 @@ look-spec =
     cast-look
     look-requires
     condition-requires
+    shown-places-requires
     returns-4
     same-length
     returns-5)
