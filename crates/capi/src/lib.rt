@@ -2,8 +2,8 @@
 ghost use mathlib.Core.Path.{_≡_};
 ghost use Rattle.plan.specs.Check.{checkOf};
 ghost use Rattle.simulator.specs.Judge.{judgeOf};
-ghost use Rattle.codes.specs.Codes.{readsCode, verdictCode};
-ghost use Rattle.capi.specs.Exported.{playExported, lookExported};
+ghost use Rattle.codes.specs.Codes.{readsCode, verdictCode, lookCoded};
+ghost use Rattle.capi.specs.Exported.{playExported};
 
 // The number of reads.
 #[no_mangle]
@@ -21,7 +21,7 @@ pub extern "C" fn register_play(plan: &[u8], answers: &mut [u8], workspace: &mut
     codes::of_play(simulator::play::play(plan, answers, workspace))
 }
 
-// A server's condition and 4 for each pair that it keeps, whose bytes stand at the start of `pairs`. 356: no room for three pairs.
+// A server's condition and 4 for each pair that it keeps. As many whole pairs as fit stand at the start of `pairs`, three bytes each.
 #[no_mangle]
 pub extern "C" fn register_look(
     plan: &[u8],
@@ -30,11 +30,8 @@ pub extern "C" fn register_look(
     tick: usize,
     pairs: &mut [u8],
 ) -> usize
-    ensures { λ r. ⌜ record { code = r; workspace = now (workspace .exit); pairs = now (pairs .exit) } ≡ lookExported (now (plan .entry)) (now (workspace .entry)) server tick (now (pairs .entry)) ⌝ }
+    ensures { λ r. ⌜ record { code = r; workspace = now (workspace .exit); pairs = now (pairs .exit) } ≡ lookCoded (now (plan .entry)) (now (workspace .entry)) server tick (now (pairs .entry)) ⌝ }
 {
-    if pairs.len() < 9 {
-        return 356;
-    }
     codes::look(plan, workspace, server, tick, pairs)
 }
 

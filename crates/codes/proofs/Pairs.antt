@@ -1,20 +1,20 @@
--- What stands in a buffer after the pairs of three places were stored over it, up to the first empty place.
+-- What stands in a buffer after one more pair was stored over it, if it has room.
 -- It stands on the definitions and on `sets-eq`.
-use mathlib.Core.Path.{_≡_, refl}
-use mathlib.Core.Bool.{true, false}
+use mathlib.Core.Path.{_≡_, refl, sym, ap, _∙_}
+use mathlib.Core.Bool.{Bool, true, false, cond}
 use mathlib.Core.List.{List, [], _∷_, _++_}
-use Prim.Native.Nat.{ℕ, suc, _+_, _≤_}
+use Prim.Native.Nat.{ℕ, suc, _+_, _*_, _/_, _≤_, _<_}
 use native.Mathlib.Numerals.{add-one}
 use native.Mathlib.Omega.{arith}
-use lib.ListN.{length, getD, set}
-use lib.Seq.{sets, sets-eq}
-use Rattle.cluster.specs.declared.Stamped.{Stamped}
-use Rattle.cluster.proofs.StoreLaws.{Three, of, empty}
+use lib.Dec.{ltb}
+use lib.ListN.{length, take, drop, getD, set, length-append, length-drop}
+use lib.Seq.{sets, sets-eq, take-nil, take-all, length-take-le, take-append-le, take-at, drop-append-add, drop-drop}
+use borrow.Author.Tests.{ltb-true, ltb-false}
+use Rattle.cluster.specs.declared.Stamped.{Stamped as Place}
+use Rattle.simulator.specs.Look.{Stamped}
 use Rattle.simulator.specs.Numbered.{shownIn}
-use Rattle.codes.specs.Codes.{placeBytes, pairBytes, pairsOver}
-
-abbrev place : List Stamped → ℕ → Stamped
-place ps i = getD ps i empty
+use Rattle.simulator.proofs.ShownPlaces.{pairOf, Passed, passed, passed-more}
+use Rattle.codes.specs.Codes.{pairSize, pairBytes, pairsOver}
 
 pub stored : (l : List ℕ) (at high low number value least : ℕ) → high ≡ value → low ≡ least
     → set (set (set l at high) (at + 1) low) (at + 2) number ≡ sets l at (value ∷ least ∷ number ∷ [])
@@ -23,32 +23,65 @@ stored l at high low number value least eh el = rw (eh, el, add-one at, add-two 
     add-two : (n : ℕ) → n + 2 ≡ suc (suc n)
     add-two n = omega arith
 
--- so many pairs were stored, and the buffer is as it has to be
-abbrev Stored : List Stamped → List ℕ → ℕ → List ℕ → Type 0
-Stored ps before n after = (n ≤ 3) × (n ≡ length (shownIn ps)) × (after ≡ pairsOver (shownIn ps) before)
+-- a buffer with no pair over it is as it was
+pub over-none : (l : List ℕ) → pairsOver [] l ≡ l
+unfolding pairsOver pairBytes
+over-none l = rw (take-nil (length l / pairSize))
 
-pub none-stored : (ps : List Stamped) (l : List ℕ) → Three ps → place ps 0 .kept ≡ false → Stored ps l 0 l
-unfolding shownIn pairsOver pairBytes
-none-stored ps l (of x y z) a = rw a (omega arith, refl, refl)
+bytes-append : (ps qs : List Stamped) → pairBytes (ps ++ qs) ≡ pairBytes ps ++ pairBytes qs
+unfolding pairBytes
+bytes-append [] qs = refl
+bytes-append (p ∷ ps) qs = rw (bytes-append ps qs)
 
-module _ (l : List ℕ) (room : 9 ≤ length l) where
-  abbrev one : List Stamped → List ℕ
-  one ps = sets l 0 (placeBytes (place ps 0))
+length-bytes : (ps : List Stamped) → length (pairBytes ps) ≡ pairSize * length ps
+unfolding pairBytes
+length-bytes [] = refl
+length-bytes (p ∷ ps) = omega (arith, length-bytes ps)
 
-  abbrev two : List Stamped → List ℕ
-  two ps = sets (one ps) 3 (placeBytes (place ps 1))
+drop-past : (b l : List ℕ) (m : ℕ) → drop (length b + m) (b ++ drop (length b) l) ≡ drop (length b + m) l
+drop-past b l m = drop-append-add b (drop (length b) l) m ∙ drop-drop m (length b) l
 
-  abbrev all : List Stamped → List ℕ
-  all ps = sets (two ps) 6 (placeBytes (place ps 2))
+module _ (ps : List Stamped) (p : Stamped) (l : List ℕ) where
+  abbrev at : ℕ
+  at = pairSize * length ps
 
-  pub one-stored : (ps : List Stamped) → Three ps → place ps 0 .kept ≡ true → place ps 1 .kept ≡ false → Stored ps l 1 (one ps)
-  unfolding shownIn pairsOver pairBytes
-  one-stored ps (of x y z) a b = rw (a, b) (omega arith, refl, sets-eq (placeBytes x) l 0 (omega arith))
+  -- no room: nothing changes
+  left-out : length l < at + pairSize → pairsOver ps l ≡ pairsOver (ps ++ (p ∷ [])) l
+  unfolding pairsOver
+  left-out h = let few : length l / pairSize ≤ length ps = omega arith in rw (take-append-le (length l / pairSize) ps (p ∷ []) few)
 
-  pub two-stored : (ps : List Stamped) → Three ps → place ps 0 .kept ≡ true → place ps 1 .kept ≡ true → place ps 2 .kept ≡ false → Stored ps l 2 (two ps)
-  unfolding shownIn pairsOver pairBytes
-  two-stored ps (of x y z) a b c = rw (a, b, c) (omega arith, refl, sets-eq (placeBytes x ++ placeBytes y) l 0 (omega arith))
+  module _ (h : at + pairSize ≤ length l) where
+    whole : pairsOver ps l ≡ pairBytes ps ++ drop at l
+    unfolding pairsOver
+    whole = rw (take-all (length l / pairSize) ps (omega arith), length-bytes ps)
 
-  pub all-stored : (ps : List Stamped) → Three ps → place ps 0 .kept ≡ true → place ps 1 .kept ≡ true → place ps 2 .kept ≡ true → Stored ps l 3 (all ps)
-  unfolding shownIn pairsOver pairBytes
-  all-stored ps (of x y z) a b c = rw (a, b, c) (omega arith, refl, sets-eq (placeBytes x ++ (placeBytes y ++ placeBytes z)) l 0 (omega arith))
+    whole-more : pairsOver (ps ++ (p ∷ [])) l ≡ pairBytes ps ++ pairBytes (p ∷ []) ++ drop (at + pairSize) l
+    unfolding pairsOver pairBytes
+    whole-more =
+        let n : length (ps ++ (p ∷ [])) ≡ suc (length ps) = length-append ps (p ∷ []) ∙ omega arith in
+        let e : pairSize * length (ps ++ (p ∷ [])) ≡ at + pairSize = omega arith in
+        rw (take-all (length l / pairSize) (ps ++ (p ∷ [])) (omega arith), length-bytes (ps ++ (p ∷ [])), e, bytes-append ps (p ∷ []))
+
+    put-in : sets (pairsOver ps l) at (pairBytes (p ∷ [])) ≡ pairsOver (ps ++ (p ∷ [])) l
+    unfolding pairBytes
+    put-in =
+        let b : length (pairBytes ps) ≡ at = length-bytes ps in
+        let n : length (pairBytes ps ++ drop at l) ≡ length l = length-append (pairBytes ps) (drop at l) ∙ rw (b, length-drop at l) (omega arith) in
+        let d : drop (at + pairSize) (pairBytes ps ++ drop at l) ≡ drop (at + pairSize) l = rw b at (drop-past (pairBytes ps) l pairSize) in
+        rw (whole-more, whole, sets-eq (pairBytes (p ∷ [])) (pairBytes ps ++ drop at l) at (omega arith), take-at (pairBytes ps) (drop at l) at b, d)
+
+  pub over-more : cond (ltb (length l) (at + pairSize)) (pairsOver ps l) (sets (pairsOver ps l) at (pairBytes (p ∷ []))) ≡ pairsOver (ps ++ (p ∷ [])) l
+  over-more = go (ltb (length l) (at + pairSize)) refl
+    where
+      go : (b : Bool) → ltb (length l) (at + pairSize) ≡ b → cond b (pairsOver ps l) (sets (pairsOver ps l) at (pairBytes (p ∷ []))) ≡ pairsOver (ps ++ (p ∷ [])) l
+      go true e = left-out (ltb-true (length l) (at + pairSize) e)
+      go false e = put-in (ltb-false (length l) (at + pairSize) e)
+
+-- the same of a walk along a store's places
+pub put-more : (ps : List Place) (k : ℕ) → Passed ps k → (d : Place) → k < length ps → getD ps k d .kept ≡ true → (l before after : List ℕ)
+    → length before ≡ length l → before ≡ pairsOver (passed ps k) l
+    → after ≡ cond (ltb (length before) (pairSize * k + pairSize)) before (sets before (pairSize * k) (pairBytes (pairOf (getD ps k d) ∷ [])))
+    → after ≡ pairsOver (passed ps (k + 1)) l
+put-more ps k h d r e l before after n b a =
+    let at : length (passed ps k) ≡ k = length-take-le k (shownIn ps) (h .within) in
+    rw (a, n, b, passed-more ps k h d r e) (rw at at (over-more (passed ps k) (pairOf (getD ps k d)) l))

@@ -2,22 +2,22 @@
 use mathlib.Core.Bool.{Bool, true, false}
 use mathlib.Core.List.{List, [], _∷_, _++_}
 use Prim.Native.Nat.{ℕ, _+_, _*_, _/_, _%_}
-use lib.ListN.{length, drop}
-use Rattle.plan.specs.Numbered.{refusalNumber}
+use lib.ListN.{length, take, drop}
 use Rattle.plan.specs.Check.{Outcome, refused, result}
-use Rattle.cluster.specs.declared.Stamped.{Stamped as Place}
 use Rattle.simulator.specs.Look.{Condition, is-faulty, is-cured, is-correct, Stamped, Shown, Looked, lookOf}
-use Rattle.simulator.specs.declared.look.Seen.{Seen}
-use Rattle.simulator.specs.declared.look.Seen.the-variants as S
+
+-- of a refusal: its published number, above every result
+abbrev pub refusalCode : ℕ → ℕ
+refusalCode number = 256 + number
 
 -- of Check and Play: the number of reads
 abbrev pub readsCode : Outcome ℕ → ℕ
-readsCode (refused number) = 256 + number
+readsCode (refused number) = refusalCode number
 readsCode (result m) = m
 
 -- of Judge: 1 for yes, 0 for no
 abbrev pub verdictCode : Outcome Bool → ℕ
-verdictCode (refused number) = 256 + number
+verdictCode (refused number) = refusalCode number
 verdictCode (result true) = 1
 verdictCode (result false) = 0
 
@@ -26,32 +26,28 @@ conditionCode is-faulty = 0
 conditionCode is-cured = 1
 conditionCode is-correct = 2
 
--- of Look: the condition, and 4 for each pair shown
+-- what each pair adds to the condition
+abbrev pub perPair : ℕ
+perPair = 4
+
+-- of Look: the condition, and how many pairs there are, whether or not the buffer has room for them
 abbrev pub shownCode : Outcome Shown → ℕ
-shownCode (refused number) = 256 + number
-shownCode (result shown) = conditionCode (shown .condition) + 4 * length (shown .pairs)
+shownCode (refused number) = refusalCode number
+shownCode (result shown) = conditionCode (shown .condition) + perPair * length (shown .pairs)
 
--- what Look saw, its pairs left out
-abbrev pub seenCode : Seen → ℕ
-seenCode S.Faulty = 0
-seenCode S.Cured = 1
-seenCode S.Correct = 2
-seenCode (S.Refused r) = 256 + refusalNumber r
-seenCode S.WorkspaceShort = 266
-seenCode S.OutOfRange = 267
+-- the bytes of a pair: the value's high and low byte, the number
+abbrev pub pairSize : ℕ
+pairSize = 3
 
--- three bytes for each pair: the value's high and low byte, the number
 unfoldable pub pairBytes : List Stamped → List ℕ
 pairBytes [] = []
 pairBytes (p ∷ ps) = p .value / 256 ∷ p .value % 256 ∷ p .number ∷ pairBytes ps
 
--- the same of the pair in a place of a store
-abbrev pub placeBytes : Place → List ℕ
-placeBytes p = p .value / 256 ∷ p .value % 256 ∷ p .number ∷ []
-
--- a buffer with the bytes of these pairs at its start, the rest as it was
+-- a buffer with as many whole pairs at its start as fit it, the bytes behind them as they were
 unfoldable pub pairsOver : List Stamped → List ℕ → List ℕ
-pairsOver ps buffer = pairBytes ps ++ drop (3 * length ps) buffer
+pairsOver pairs buffer =
+    let written : List ℕ = pairBytes (take (length buffer / pairSize) pairs) in
+    written ++ drop (length written) buffer
 
 -- the pairs that are shown; a refusal shows none
 abbrev pub pairsOf : Outcome Shown → List Stamped

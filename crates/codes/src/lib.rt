@@ -1,34 +1,52 @@
-// What the operations return, as one number each: a result below 256, or 256 and the refusal's number.
+// What the operations return, as one number each: a result below REFUSED, or REFUSED and the refusal's number.
 ghost use mathlib.Core.Path.{_≡_};
-ghost use Prim.Native.Nat.{_+_, _/_, _%_, _<_, _≤_};
+ghost use mathlib.Core.Bool.{cond};
+ghost use mathlib.Core.List.{[], _∷_};
+ghost use Prim.Native.Nat.{_+_, _*_, _/_, _%_, _<_, _≤_};
+ghost use lib.Dec.{ltb};
 ghost use lib.ListN.{length};
 ghost use lib.Seq.{sets};
+ghost use Rattle.plan.specs.Packed.{storeDepth};
 ghost use Rattle.plan.specs.Numbered.{refusalNumber, numbered};
-ghost use Rattle.simulator.specs.Numbered.{played, judged, shownIn};
-ghost use Rattle.codes.specs.Codes.{readsCode, verdictCode, seenCode, placeBytes, pairsOver, lookCoded};
+ghost use Rattle.simulator.specs.Numbered.{played, judged, lookedAs, shownIn};
+ghost use Rattle.codes.specs.Codes.{refusalCode, readsCode, verdictCode, shownCode, pairSize, pairBytes, pairsOver, lookCoded};
 use cluster::Stamped;
 use plan::Checked;
 use plan::Refusal;
 use simulator::judge::Judged;
+use simulator::look::STORE_DEPTH;
 use simulator::look::Seen;
 use simulator::play::Played;
 
 // What a refusal's number is added to.
 pub const REFUSED: usize = 256;
 
-fn refusal(why: Refusal) -> usize
-    ensures { λ r. ⌜ r ≡ 256 + refusalNumber why ⌝ }
+// What each pair that Look shows adds to the condition.
+pub const PER_PAIR: usize = 4;
+
+// The bytes of a pair that Look shows.
+pub const PAIR_BYTES: usize = 3;
+
+// The published number of Check's refusal.
+fn number(why: Refusal) -> usize
+    ensures { λ r. ⌜ (r ≡ refusalNumber why) × (r < 256) ⌝ }
 {
     match why {
-        Refusal::TooShort => 257,
-        Refusal::HeaderRange => 258,
-        Refusal::TooFewServers => 259,
-        Refusal::Length => 260,
-        Refusal::Placement => 261,
-        Refusal::Operation => 262,
-        Refusal::Forgery => 263,
-        Refusal::Delay => 264,
+        Refusal::TooShort => 1,
+        Refusal::HeaderRange => 2,
+        Refusal::TooFewServers => 3,
+        Refusal::Length => 4,
+        Refusal::Placement => 5,
+        Refusal::Operation => 6,
+        Refusal::Forgery => 7,
+        Refusal::Delay => 8,
     }
+}
+
+fn refusal(why: Refusal) -> usize
+    ensures { λ r. ⌜ r ≡ refusalCode (refusalNumber why) ⌝ }
+{
+    REFUSED + number(why)
 }
 
 pub fn of_check(c: Checked) -> usize
@@ -46,8 +64,8 @@ pub fn of_play(p: Played) -> usize
     match p {
         Played::Reads(m) => m,
         Played::Refused(why) => refusal(why),
-        Played::AnswersShort => 265,
-        Played::WorkspaceShort => 266,
+        Played::AnswersShort => REFUSED + 9,
+        Played::WorkspaceShort => REFUSED + 10,
     }
 }
 
@@ -59,22 +77,22 @@ pub fn of_judge(j: Judged) -> usize
         Judged::Yes => 1,
         Judged::No => 0,
         Judged::Refused(why) => refusal(why),
-        Judged::WrongLength => 268,
-        Judged::WrongRead => 269,
+        Judged::WrongLength => REFUSED + 12,
+        Judged::WrongRead => REFUSED + 13,
     }
 }
 
 // What Look saw, its pairs left out: 0 faulty, 1 cured, 2 correct.
 fn of_seen(seen: Seen) -> usize
-    ensures { λ r. ⌜ r ≡ seenCode seen ⌝ }
+    ensures { λ r. ⌜ r ≡ shownCode (lookedAs [] seen) ⌝ }
 {
     match seen {
         Seen::Faulty => 0,
         Seen::Cured => 1,
         Seen::Correct => 2,
         Seen::Refused(why) => refusal(why),
-        Seen::WorkspaceShort => 266,
-        Seen::OutOfRange => 267,
+        Seen::WorkspaceShort => REFUSED + 10,
+        Seen::OutOfRange => REFUSED + 11,
     }
 }
 
@@ -90,42 +108,39 @@ fn low(value: u16) -> u8
     (value % 256) as u8
 }
 
-// A place's pair at `at`: the value's high and low byte, the number.
-fn put_pair(out: &mut [u8], at: usize, p: Stamped)
-    requires { ⌜ (at < 7) × (at + 3 ≤ length (now out)) ⌝ }
-    ensures { λ _. ⌜ (length (now (out .exit)) ≡ length (now (out .entry))) × (now (out .exit) ≡ sets (now (out .entry)) at (placeBytes p)) ⌝ }
+// Pair i at its own bytes, if there is room for all of them: the value's high and low byte, the number.
+fn put_pair(out: &mut [u8], i: usize, p: Stamped)
+    requires { ⌜ i < storeDepth ⌝ }
+    ensures { λ _. ⌜ (length (now (out .exit)) ≡ length (now (out .entry))) × (now (out .exit) ≡ cond (ltb (length (now (out .entry))) (pairSize * i + pairSize))
+        (now (out .entry)) (sets (now (out .entry)) (pairSize * i) (pairBytes (record { value = p .value; number = p .number } ∷ [])))) ⌝ }
 {
+    let at = PAIR_BYTES * i;
+    if out.len() < at + PAIR_BYTES {
+        return;
+    }
     out[at] = high(p.value);
     out[at + 1] = low(p.value);
     out[at + 2] = p.number;
 }
 
-// The pairs in the places before the first empty one, at the start of `out`; how many they are.
-fn put_pairs(out: &mut [u8], places: [Stamped; 3]) -> usize
-    requires { ⌜ 9 ≤ length (now out) ⌝ }
-    ensures { λ r. ⌜ (r ≤ 3) × (r ≡ length (shownIn places)) × (now (out .exit) ≡ pairsOver (shownIn places) (now (out .entry))) ⌝ }
+// As many of the pairs before the first empty place as fit `out`, at its start; how many they are, those left out too.
+fn put_pairs(out: &mut [u8], places: [Stamped; STORE_DEPTH]) -> usize
+    ensures { λ r. ⌜ (r ≤ storeDepth) × (r ≡ length (shownIn places)) × (now (out .exit) ≡ pairsOver (shownIn places) (now (out .entry))) ⌝ }
 {
-    let a = places[0];
-    if !a.kept {
-        return 0;
+    let mut i: usize = 0;
+    while i < STORE_DEPTH {
+        let p = places[i];
+        if !p.kept {
+            return i;
+        }
+        put_pair(out, i, p);
+        i += 1;
     }
-    put_pair(out, 0, a);
-    let b = places[1];
-    if !b.kept {
-        return 1;
-    }
-    put_pair(out, 3, b);
-    let c = places[2];
-    if !c.kept {
-        return 2;
-    }
-    put_pair(out, 6, c);
-    3
+    i
 }
 
-// Look, its pairs written to the start of `pairs`: the condition, and 4 for each pair.
+// Look: the condition and PER_PAIR for each pair. As many whole pairs as fit stand at the start of `pairs`; a refusal writes none.
 pub fn look(plan: &[u8], work: &mut [u8], server: usize, tick: usize, pairs: &mut [u8]) -> usize
-    requires { ⌜ 9 ≤ length (now pairs) ⌝ }
     ensures { λ r. ⌜ record { code = r; workspace = now (work .exit); pairs = now (pairs .exit) } ≡ lookCoded (now (plan .entry)) (now (work .entry)) server tick (now (pairs .entry)) ⌝ }
 {
     let looked = simulator::look::look(plan, work, server, tick);
@@ -136,5 +151,5 @@ pub fn look(plan: &[u8], work: &mut [u8], server: usize, tick: usize, pairs: &mu
     }
     let places = looked.places;
     let shown = put_pairs(pairs, places);
-    code + 4 * shown
+    code + PER_PAIR * shown
 }

@@ -18,8 +18,14 @@ refusal-requires c κs = search needs
 enum-told-3 : tie.Need-enum-told-3
 enum-told-3 c = search needs
 
+add-result : tie.Need-add-result
+add-result c = search needs
+
 enum-told-4 : tie.Need-enum-told-4
 enum-told-4 c = search needs
+
+add-result-2 : tie.Need-add-result-2
+add-result-2 c = search needs
 
 returns : tie.Need-returns
 returns c = search needs
@@ -45,7 +51,9 @@ of-judge-spec =
     enum-known-j
     refusal-requires
     enum-told-3
+    add-result
     enum-told-4
+    add-result-2
     returns
     returns-2
     returns-3

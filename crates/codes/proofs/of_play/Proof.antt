@@ -15,8 +15,14 @@ refusal-requires c κs = search needs
 enum-told : tie.Need-enum-told
 enum-told c = search needs
 
+add-result : tie.Need-add-result
+add-result c = search needs
+
 enum-told-2 : tie.Need-enum-told-2
 enum-told-2 c = search needs
+
+add-result-2 : tie.Need-add-result-2
+add-result-2 c = search needs
 
 returns : tie.Need-returns
 returns c = search needs
@@ -38,7 +44,9 @@ of-play-spec =
     enum-known-p-2
     refusal-requires
     enum-told
+    add-result
     enum-told-2
+    add-result-2
     returns
     returns-2
     returns-3

@@ -21,8 +21,14 @@ refusal-requires c κs = search needs
 enum-told-4 : tie.Need-enum-told-4
 enum-told-4 c = search needs
 
+add-result : tie.Need-add-result
+add-result c = search needs
+
 enum-told-5 : tie.Need-enum-told-5
 enum-told-5 c = search needs
+
+add-result-2 : tie.Need-add-result-2
+add-result-2 c = search needs
 
 returns : tie.Need-returns
 returns c = search needs
@@ -52,7 +58,9 @@ of-seen-spec =
     enum-known-seen
     refusal-requires
     enum-told-4
+    add-result
     enum-told-5
+    add-result-2
     returns
     returns-2
     returns-3

@@ -1,10 +1,23 @@
--- `put_pair` meets its contract: three stores are `sets` of three bytes.
-use lib.ListN.{length-set}
+-- `put_pair` meets its contract: nothing without room, else three stores, which are `sets` of three bytes.
+use mathlib.Core.Path.{refl}
+use Prim.Native.Nat.{_*_}
 use native.Mathlib.Omega.{arith}
+use lib.ListN.{length-set}
+use borrow.Author.Tests.{lt-ltb, le-ltb}
+use Rattle.codes.specs.Codes.{pairSize, pairBytes}
 use Rattle.codes.proofs.Pairs.{stored}
 use borrow.Author.Needs.{needs}
 use Rattle.codes.proofs.put_pair.Statement.{statement}
 use Rattle.codes.proofs.put_pair.Tie as tie
+
+mul-at : tie.Need-mul-at
+mul-at c = search needs
+
+add-if1 : tie.Need-add-if1
+add-if1 c = search needs
+
+returns : tie.Need-returns
+returns c = (refl, rw (lt-ltb _ _ (c .if1 .taken)))
 
 high-requires : tie.Need-high-requires
 high-requires c κs = search needs
@@ -30,13 +43,19 @@ slice-write-out-3 c = simp length-set (omega arith)
 same-length : tie.Need-same-length
 same-length c = search needs
 
-returns : tie.Need-returns
-returns c = (simp length-set, stored (c .before .before .before .args .out .now) (c .before .before .before .args .at) _ _ _ _ _ (c .before .high .ensures) (c .low .ensures))
+returns-2 : tie.Need-returns-2
+unfolding pairBytes
+returns-2 c =
+    let a = c .before .before .before .before .args in
+    (simp length-set, rw (le-ltb _ _ (c .before .before .if1 .left)) (stored (a .out .now) (pairSize * a .i) _ _ (a .p .number) _ _ (c .before .high .ensures) (c .low .ensures)))
 
 pub put-pair-spec : {M : Type 1} → statement M
 put-pair-spec =
     tie.close
     (tie.spec
+    mul-at
+    add-if1
+    returns
     high-requires
     slice-write-out
     low-requires
@@ -45,4 +64,4 @@ put-pair-spec =
     add-out-2
     slice-write-out-3
     same-length
-    returns)
+    returns-2)

@@ -1,79 +1,83 @@
--- `put_pairs` meets its contract: at each return the buffer has had the pairs of the places before it stored.
-use denote.Ref.{now}
-use borrow.Author.Tests.{not-true, not-false}
-use Rattle.cluster.proofs.StoreLaws.{three}
-use Rattle.codes.proofs.Pairs.{none-stored, one-stored, two-stored, all-stored}
+-- `put_pairs` meets its contract. The loop's invariant: the pairs of the places passed stand over the buffer, as far as they fit.
+use mathlib.Core.Path.{_≡_, sym, ap, _∙_}
+use Prim.Native.Nat.{_-_, _≤_, _<_}
+use native.Mathlib.Omega.{arith}
+use lib.ListN.{length}
 use borrow.Author.Needs.{needs}
+use borrow.Author.Tests.{not-true, not-false}
+use Rattle.plan.specs.Packed.{storeDepth}
+use Rattle.simulator.proofs.ShownPlaces.{Passed, passed, none-passed, one-more, at-empty, at-end}
+use Rattle.codes.specs.Codes.{pairsOver}
+use Rattle.codes.proofs.Pairs.{over-none, put-more}
 use Rattle.codes.proofs.put_pairs.Statement.{statement}
 use Rattle.codes.proofs.put_pairs.Tie as tie
 
-array-copy-out-a : tie.Need-array-copy-out-a
-array-copy-out-a c = search needs
+abbrev Inv-loop : tie.InvT-loop
+Inv-loop out₀ places i₀ out i = (i ≤ storeDepth) × Passed places i × (length out ≡ length out₀) × (out ≡ pairsOver (passed places i) out₀)
 
-returns : tie.Need-returns
-returns c =
-    let a = c .before .before .before .before .args in
-    let t = three (a .t2) (c .before .before .before .before .good .1 .0 .1 .0 .1) in
-    none-stored (a .t2) (now (a .out)) t (not-true _ (c .if1 .taken))
+abbrev μ-loop : tie.MeasureT-loop
+μ-loop out₀ places i₀ out i = storeDepth - i
 
-put-pair-requires : tie.Need-put-pair-requires
-put-pair-requires c κs = search needs
+loop-holds : tie.Need-loop-holds Inv-loop μ-loop
+loop-holds c = (search needs, none-passed _, search needs, sym (over-none _))
 
-array-copy-out-b : tie.Need-array-copy-out-b
-array-copy-out-b c = search needs
+mul-p : tie.Need-mul-p Inv-loop μ-loop
+mul-p c = search needs
 
-same-length : tie.Need-same-length
+array-copy-out-p : tie.Need-array-copy-out-p Inv-loop μ-loop
+array-copy-out-p c = search needs
+
+same-length : tie.Need-same-length Inv-loop μ-loop
 same-length c = search needs
 
-returns-2 : tie.Need-returns-2
-returns-2 c =
-    let a = c .before .before .before .before .before .before .before .before .before .before .before .args in
-    let t = three (a .t2) (c .before .before .before .before .before .before .before .before .before .before .before .good .1 .0 .1 .0 .1) in
-    rw (c .before .before .before .before .before .put-pair .ensures .1) (one-stored (now (a .out)) (c .before .before .before .before .before .before .before .before .before .before .before .pre) (a .t2) t (not-false _ (c .before .before .before .before .before .before .before .if1 .left)) (not-true _ (c .if2 .taken)))
+returns : tie.Need-returns Inv-loop μ-loop
+returns c =
+    let h = c .before .before .before .before .loop .inv in
+    let n = c .before .before .before .before .before .before .good .1 .0 .1 .0 .1 in
+    let e = at-empty _ _ (h .1) _ (omega (arith, n)) (not-true _ (c .if1 .taken)) in
+    (h .0, e .0, rw (← e .1) (h .3))
 
-put-pair-requires-2 : tie.Need-put-pair-requires-2
-put-pair-requires-2 c κs = search needs
+put-pair-requires : tie.Need-put-pair-requires Inv-loop μ-loop
+put-pair-requires c κs = search needs
 
-array-copy-out-c : tie.Need-array-copy-out-c
-array-copy-out-c c = search needs
+add-i : tie.Need-add-i Inv-loop μ-loop
+add-i c = search needs
 
-same-length-2 : tie.Need-same-length-2
+loop-less : tie.Need-loop-less Inv-loop μ-loop
+loop-less c = search needs
+
+loop-again : tie.Need-loop-again Inv-loop μ-loop
+loop-again c =
+    let h = c .before .before .before .before .before .before .before .before .loop .inv in
+    let n = c .before .before .before .before .before .before .before .before .before .before .good .1 .0 .1 .0 .1 in
+    let w = c .before .before .put-pair .ensures in
+    let i : c .before .before .before .before .before .before .before .before .loop .i < storeDepth = omega arith in
+    (omega arith, one-more _ _ (h .1) _ (omega (arith, n)) (not-false _ (c .before .before .before .before .if1 .left)), w .0 ∙ h .2, put-more _ _ (h .1) _ (omega (arith, n)) (not-false _ (c .before .before .before .before .if1 .left)) _ _ _ (h .2) (h .3) (w .1))
+
+same-length-2 : tie.Need-same-length-2 Inv-loop μ-loop
 same-length-2 c = search needs
 
-returns-3 : tie.Need-returns-3
-returns-3 c =
-    let a = c .before .before .before .before .before .before .before .before .before .before .before .before .before .before .before .before .before .before .args in
-    let t = three (a .t2) (c .before .before .before .before .before .before .before .before .before .before .before .before .before .before .before .before .before .before .good .1 .0 .1 .0 .1) in
-    rw (c .before .before .before .before .before .put-pair2 .ensures .1, c .before .before .before .before .before .before .before .before .before .before .before .before .put-pair .ensures .1)
-    (two-stored (now (a .out)) (c .before .before .before .before .before .before .before .before .before .before .before .before .before .before .before .before .before .before .pre) (a .t2) t (not-false _ (c .before .before .before .before .before .before .before .before .before .before .before .before .before .before .if1 .left)) (not-false _ (c .before .before .before .before .before .before .before .if2 .left)) (not-true _ (c .if3 .taken)))
-
-put-pair-requires-3 : tie.Need-put-pair-requires-3
-put-pair-requires-3 c κs = search needs
-
-same-length-3 : tie.Need-same-length-3
-same-length-3 c = search needs
-
-returns-4 : tie.Need-returns-4
-returns-4 c =
-    let a = c .before .before .before .before .before .before .before .before .before .before .before .before .before .before .before .before .before .before .before .before .before .before .args in
-    let t = three (a .t2) (c .before .before .before .before .before .before .before .before .before .before .before .before .before .before .before .before .before .before .before .before .before .before .good .1 .0 .1 .0 .1) in
-    rw (c .before .before .put-pair3 .ensures .1, c .before .before .before .before .before .before .before .before .before .put-pair2 .ensures .1, c .before .before .before .before .before .before .before .before .before .before .before .before .before .before .before .before .put-pair .ensures .1)
-    (all-stored (now (a .out)) (c .before .before .before .before .before .before .before .before .before .before .before .before .before .before .before .before .before .before .before .before .before .before .pre) (a .t2) t (not-false _ (c .before .before .before .before .before .before .before .before .before .before .before .before .before .before .before .before .before .before .if1 .left)) (not-false _ (c .before .before .before .before .before .before .before .before .before .before .before .if2 .left)) (not-false _ (c .before .before .before .before .if3 .left)))
+returns-2 : tie.Need-returns-2 Inv-loop μ-loop
+returns-2 c =
+    let h = c .before .loop .inv in
+    let n = c .before .before .before .good .1 .0 .1 .0 .1 in
+    let e = at-end _ _ (h .1) (omega (arith, n)) in
+    (h .0, e .0, rw (← e .1) (h .3))
 
 pub put-pairs-spec : {M : Type 1} → statement M
 put-pairs-spec =
     tie.close
     (tie.spec
-    array-copy-out-a
+    Inv-loop
+    μ-loop
+    loop-holds
+    mul-p
+    array-copy-out-p
+    same-length
     returns
     put-pair-requires
-    array-copy-out-b
-    same-length
-    returns-2
-    put-pair-requires-2
-    array-copy-out-c
+    add-i
+    loop-less
+    loop-again
     same-length-2
-    returns-3
-    put-pair-requires-3
-    same-length-3
-    returns-4)
+    returns-2)
