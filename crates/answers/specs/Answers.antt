@@ -50,5 +50,8 @@ module _ (w : ℕ) (a : List ℕ) (i : ℕ) where
   unfoldable pub pairIn : ℕ
   pairIn = stamped w (fieldOf a (answerAt + 10) w) (fieldOf a (answerAt + 10 + w) 8)
 
+  unfoldable pub countIn : ℕ
+  countIn = fieldOf a (answerAt + 18 + w) 5
+
   unfoldable pub zeroIn : ℕ
   zeroIn = fieldOf a (answerAt + 23 + w) 1

@@ -1,9 +1,14 @@
 // The operations for C and Rust: any bytes, any lengths. A result of 256 or more is a refusal, 256 and its number; it changes no lent byte.
 ghost use mathlib.Core.Path.{_≡_};
 ghost use Rattle.plan.specs.Check.{checkOf};
+ghost use Rattle.plan.specs.Limits.{mostBytes, mostReads};
+ghost use Rattle.answers.specs.Answers.{answerSize};
+ghost use Rattle.answers.specs.Workspace.{workspaceSize};
 ghost use Rattle.simulator.specs.Judge.{judgeOf};
 ghost use Rattle.codes.specs.Codes.{readsCode, verdictCode, lookCoded};
+ghost use Rattle.codes.specs.Fields.{answerField, headerField};
 ghost use Rattle.capi.specs.Exported.{playExported};
+use plan::header::Shape;
 
 // The number of reads.
 #[no_mangle]
@@ -41,4 +46,53 @@ pub extern "C" fn register_judge(plan: &[u8], answers: &[u8]) -> usize
     ensures { λ r. ⌜ r ≡ verdictCode (judgeOf 16 (now (plan .entry)) (now (answers .entry))) ⌝ }
 {
     codes::of_judge(simulator::judge::judge(plan, answers))
+}
+
+// A field of answer i: 0 begin, 1 reader, 2 value, 3 number, 4 count. 0 where there is no such answer or field.
+#[no_mangle]
+pub extern "C" fn register_answer(answers: &[u8], i: usize, field: usize) -> usize
+    ensures { λ r. ⌜ r ≡ answerField (now (answers .entry)) i field ⌝ }
+{
+    codes::fields::of_answer(answers, i, field)
+}
+
+// A field of a plan's header: 0 n, 1 f, 2 delta, 3 period, 4 readers, 5 ticks, 6 initial value, 7 operations, 8 forgeries. 0 where there is no header, or
+// no such field.
+#[no_mangle]
+pub extern "C" fn register_header(plan: &[u8], field: usize) -> usize
+    ensures { λ r. ⌜ r ≡ headerField (now (plan .entry)) field ⌝ }
+{
+    codes::fields::of_header(plan, field)
+}
+
+// The bytes of the longest plan that Check accepts.
+#[no_mangle]
+pub extern "C" fn register_most_bytes() -> usize
+    ensures { λ r. ⌜ r ≡ mostBytes ⌝ }
+{
+    Shape::MOST_BYTES
+}
+
+// The most reads of a plan that Check accepts.
+#[no_mangle]
+pub extern "C" fn register_most_reads() -> usize
+    ensures { λ r. ⌜ r ≡ mostReads ⌝ }
+{
+    Shape::MOST_READS
+}
+
+// The bytes of an answer.
+#[no_mangle]
+pub extern "C" fn register_answer_bytes() -> usize
+    ensures { λ r. ⌜ r ≡ answerSize 16 ⌝ }
+{
+    Shape::ANSWER_BYTES
+}
+
+// The bytes of workspace that Play and Look ask for.
+#[no_mangle]
+pub extern "C" fn register_workspace_bytes() -> usize
+    ensures { λ r. ⌜ r ≡ workspaceSize ⌝ }
+{
+    Shape::WORKSPACE_BYTES
 }

@@ -18,6 +18,8 @@ use simulator::look::STORE_DEPTH;
 use simulator::look::Seen;
 use simulator::play::Played;
 
+pub mod fields;
+
 // What a refusal's number is added to.
 pub const REFUSED: usize = 256;
 
