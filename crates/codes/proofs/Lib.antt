@@ -1,3 +1,4 @@
 pub mod Pairs
 pub mod Coded
 pub mod FieldLaws
+pub mod Apart

@@ -10,7 +10,7 @@ pub mod JudgeLawsSteps
 pub mod JudgeLawsPlan
 pub mod Promised
 pub mod PlayCases
-pub mod FaultyBlank
+pub mod Keeps
 pub mod LookCases
 pub mod ShownPlaces
 pub mod Places

@@ -1,4 +1,4 @@
--- Look (document 01, 'Operations of the library'): its result and the lent workspace, for all inputs.
+-- Look (document 01, 'Operations of the library'): its result, the array of places beside it and the lent workspace, for all inputs.
 use mathlib.Core.Bool.{true, false, _&&_, cond}
 use mathlib.Core.List.{List, [], _++_, map}
 use Prim.Native.Nat.{ℕ, suc, _-_}
