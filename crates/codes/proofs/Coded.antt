@@ -11,7 +11,7 @@ use Rattle.simulator.specs.Numbered.{lookedAs}
 use Rattle.simulator.specs.declared.look.Seen.{Seen}
 use Rattle.simulator.specs.declared.look.Seen.the-variants.{Faulty, Cured, Correct, Refused, WorkspaceShort, OutOfRange}
 use Rattle.codes.proofs.Pairs.{over-none}
-use Rattle.codes.specs.Codes.{Coded, codedIn, shownCode, perPair, pairsOf, pairsOver}
+use Rattle.codes.specs.Codes.{codedIn, shownCode, perPair, pairsOf, pairsOver}
 
 -- what Look saw, its pairs left out
 abbrev seenCode : Seen → ℕ

@@ -1,6 +1,6 @@
 -- Each way that Look ends, as its definition has it, and what it shows of a server.
 -- It stands on the definitions alone.
-use mathlib.Core.Path.{_≡_, refl, _∙_}
+use mathlib.Core.Path.{_≡_, refl}
 use mathlib.Core.Bool.{Bool, true, false, cond}
 use mathlib.Core.List.{List, [], _∷_, _++_, map}
 use Prim.Native.Nat.{ℕ, zero, suc, _-_, _≤_, _<_}
@@ -11,12 +11,12 @@ use Rattle.register.specs.Server.{Server, Status, faulty, cured, correct}
 use Rattle.register.specs.Cluster.{cluster, serverOf}
 use Rattle.plan.specs.Header.{headerOf}
 use Rattle.plan.specs.Packed.{storeDepth, planOf}
-use Rattle.plan.specs.Check.{Outcome, refused, result, checkOf}
+use Rattle.plan.specs.Check.{refused, result, checkOf}
 use Rattle.plan.proofs.Stamped.{value-stamped, number-stamped}
 use Rattle.cluster.specs.declared.Stamped.{Stamped as Place}
 use Rattle.cluster.specs.Stored.{keys}
 use Rattle.answers.specs.Workspace.{workspaceSize, zeroed}
-use Rattle.simulator.specs.Look.{Stamped, Shown, conditionOf, shownBy, placeWith, emptyPlace, placesOf, Looked, lookShown, lookRefused, lookAfter, lookOf}
+use Rattle.simulator.specs.Look.{Stamped, conditionOf, shownBy, placeWith, emptyPlace, placesOf, Looked, lookShown, lookRefused, lookAfter, lookOf}
 use Rattle.simulator.specs.declared.look.Seen.{Seen}
 use Rattle.simulator.specs.Numbered.{shownIn, lookedAs, seenOf}
 

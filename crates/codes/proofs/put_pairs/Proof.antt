@@ -1,5 +1,5 @@
 -- `put_pairs` meets its contract. The loop's invariant: the pairs of the places passed stand over the buffer, as far as they fit.
-use mathlib.Core.Path.{_≡_, sym, ap, _∙_}
+use mathlib.Core.Path.{_≡_, sym, _∙_}
 use Prim.Native.Nat.{_-_, _≤_, _<_}
 use native.Mathlib.Omega.{arith}
 use lib.ListN.{length}
