@@ -9,7 +9,7 @@ use native.Mathlib.Omega.{arith}
 use lib.Dec.{lit≤}
 use lib.ListN.{length, getD, take, set, length-append}
 use lib.Seq.{sets, take-suc}
-use Rattle.decimal.specs.Decimal.{digitByte, decimalOf}
+use Rattle.decimal.specs.Decimal.{digitByte, decimalOf, mostDigits}
 use Rattle.decimal.specs.Stored.{Stored}
 use Rattle.decimal.proofs.Laws.{decimal-one, decimal-more, decimal-length}
 
@@ -26,8 +26,8 @@ stored-then {l} {a} {m} {b} {o} {at} {x} {y} S U = record {
   bytes-are = U .bytes-are ∙ rw (S .bytes-are, S .next-is) (sym (sets-append l at a b));
 }
 
-pub stored-none : (l : List ℕ) (at : ℕ) → Stored l at [] l (at + 0)
-stored-none l at = record { next-is = refl; bytes-are = refl }
+pub stored-none : (l : List ℕ) (at : ℕ) {y : ℕ} → y ≡ at → Stored l at [] l y
+stored-none l at h = record { next-is = omega arith; bytes-are = refl }
 
 -- one byte more of a row
 pub stored-more : {l m o : List ℕ} {at i y : ℕ} (bytes : List ℕ) → i < length bytes → Stored l at (take i bytes) m (at + i)
@@ -36,14 +36,14 @@ stored-more {l} {m} {o} {at} {i} {y} bytes h S U =
     let e : y ≡ at + (i + 1) = omega (arith, U .next-is) in
     rw (add-one i, take-suc bytes i 0 h, ← add-one i, ← e) (stored-then S U)
 
--- The digits of a number are stored; 20 hold any of 64 bits.
+-- The digits of a number of 64 bits are stored.
 module _ {l o : List ℕ} {at y n : ℕ} (fits : n < 2 ^ 64) where
-  few : Stored l at (decimalOf n) o y → Stored l at (decimalOf n) o y × (y ≤ at + 20)
+  few : Stored l at (decimalOf n) o y → Stored l at (decimalOf n) o y × (y ≤ at + mostDigits)
   few S = (S, omega (arith, S .next-is, decimal-length 19 n (lt-of-lt-of-le fits (lit≤ tt))))
 
-  pub stored-one : n < 10 → Stored l at (digitByte n ∷ []) o y → Stored l at (decimalOf n) o y × (y ≤ at + 20)
+  pub stored-one : n < 10 → Stored l at (digitByte n ∷ []) o y → Stored l at (decimalOf n) o y × (y ≤ at + mostDigits)
   stored-one h S = few (rw (decimal-one n h) S)
 
   pub stored-digits : {m : List ℕ} {x : ℕ} → 10 ≤ n → Stored l at (decimalOf (n / 10)) m x → Stored m x (digitByte (n % 10) ∷ []) o y
-      → Stored l at (decimalOf n) o y × (y ≤ at + 20)
+      → Stored l at (decimalOf n) o y × (y ≤ at + mostDigits)
   stored-digits h S U = few (rw (decimal-more n h) (stored-then S U))

@@ -20,6 +20,10 @@ digitsWithin (suc most) n = cond (ltb n 10) (digitByte n ∷ []) (digitsWithin m
 unfoldable pub decimalOf : ℕ → List ℕ
 decimalOf n = digitsWithin (suc n) n
 
+-- the digits of a number of 64 bits
+abbrev pub mostDigits : ℕ
+mostDigits = 20
+
 -- bytes read as digits behind those of n
 unfoldable pub readFrom : ℕ → List ℕ → ℕ
 readFrom n [] = n

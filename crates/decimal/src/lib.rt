@@ -1,7 +1,7 @@
 // Decimal numbers, and other bytes, stored in a lent buffer from a place on. What does not fit the buffer is left out.
 ghost use mathlib.Core.List.{[], _∷_};
 ghost use Prim.Native.Nat.{_+_, _^_, _≤_, _<_};
-ghost use Rattle.decimal.specs.Decimal.{decimalOf};
+ghost use Rattle.decimal.specs.Decimal.{decimalOf, mostDigits};
 ghost use Rattle.decimal.specs.Stored.{Stored};
 
 // One byte, and the place behind it.
@@ -28,11 +28,11 @@ pub fn put_all(out: &mut [u8], at: usize, bytes: &[u8]) -> usize
     at + i
 }
 
-// The digits of a number, at most 20, and the place behind them.
+// The digits of a number, and the place behind them.
 pub fn put(out: &mut [u8], at: usize, n: u64) -> usize
     requires { ⌜ at < 2 ^ 60 ⌝ }
     ensures { λ r. ⌜ Stored (now (out .entry)) at (decimalOf n) (now (out .exit)) r ⌝ }
-    ensures { λ r. ⌜ r ≤ at + 20 ⌝ }
+    ensures { λ r. ⌜ r ≤ at + mostDigits ⌝ }
 {
     if n < 10 {
         return put_byte(out, at, b'0' + n as u8);

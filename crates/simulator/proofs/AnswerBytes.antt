@@ -114,10 +114,10 @@ module _ (w : ℕ) (P : Plan) where
 
   -- the fields of answer i are those of its read
   module _ (whole : w % 8 ≡ 0) (rs : List Read) (d : Read) (i : ℕ) (l : i < length rs) (F : Fits w (getD rs i d) (answerOf P (getD rs i d))) where
-    back : ReadsBack w (answerBytes w (getD rs i d) (answerOf P (getD rs i d))) (getD rs i d) (answerOf P (getD rs i d))
+    pub back : ReadsBack w (answerBytes w (getD rs i d) (answerOf P (getD rs i d))) (getD rs i d) (answerOf P (getD rs i d))
     back = reads-back w (getD rs i d) (answerOf P (getD rs i d)) whole F
 
-    field-answer : (at v : ℕ) → at + v ≤ 24 + w
+    pub field-answer : (at v : ℕ) → at + v ≤ 24 + w
         → fieldOf (answersFor w P rs) (8 * answerSize w * i + at) v ≡ fieldOf (answerBytes w (getD rs i d) (answerOf P (getD rs i d))) at v
     unfolding bytes-of
     field-answer at v h =

@@ -1,0 +1,65 @@
+-- What Play leaves, with buffers for the most reads, decides the text: its outcome is Check's, and its answers are the plan's.
+-- It stands on what Play writes and on the most reads of an accepted plan.
+use mathlib.Core.Path.{_≡_, refl, sym, ap, _∙_}
+use mathlib.Core.List.{List, _++_}
+use Prim.Native.Nat.{ℕ, _+_, _*_, _-_, _≤_, _<_}
+use native.Mathlib.Omega.{arith}
+use lib.ListN.{length, take}
+use Rattle.plan.specs.Limits.{mostReads}
+use Rattle.plan.specs.Packed.{planOf}
+use Rattle.plan.specs.Check.{Outcome, refused, result, checkOf}
+use Rattle.plan.proofs.Accept.{accepted}
+use Rattle.plan.proofs.Longest.{most-reads}
+use Rattle.answers.specs.Answers.{answersOf}
+use Rattle.answers.specs.Workspace.{workspaceSize}
+use Rattle.simulator.specs.Play.{Played, playAfter, playOf}
+use Rattle.simulator.proofs.Played.{play-plays, play-writes}
+use Rattle.codes.specs.Codes.{readsCode}
+use Rattle.text.specs.Text.{readsWord, refusedWord, numberThen, lineFeed, lineWith, linesFor, textAfter, textOf}
+
+-- a code below 256 is a result, and one above is a refusal: no plan has that many reads
+below : (o : Outcome ℕ) → readsCode o < 256 → o ≡ result (readsCode o)
+below (refused n) h = absurd (omega arith)
+below (result m) h = refl
+
+above : (s : List ℕ) (o : Outcome ℕ) → checkOf 16 s ≡ o → 256 ≤ readsCode o → o ≡ refused (readsCode o - 256)
+above s (refused n) e h = let q : n ≡ 256 + n - 256 = omega arith in ap refused q
+above s (result m) e h = absurd (omega (arith, most-reads s m e))
+
+-- what the code of Play's outcome says of the plan, where Play left answers `a`
+pub record Decided (s : List ℕ) (code : ℕ) (a : List ℕ) : Type 0 where
+  pub accepted : code < 256 → checkOf 16 s ≡ result code
+  pub few : code < 256 → code ≤ mostReads
+  pub answers : code < 256 → take (5 * code) a ≡ answersOf 16 s
+  pub refused-text : 256 ≤ code → refusedWord ++ numberThen lineFeed (code - 256) ≡ textOf 16 s
+  pub reads-text : code < 256 → (readsWord ++ numberThen lineFeed code) ++ linesFor 16 (planOf 16 s) (planOf 16 s .reads) ≡ textOf 16 s
+
+module _ (s answers workspace : List ℕ) (room : 5 * mostReads ≤ length answers) (work : workspaceSize ≤ length workspace) where
+  -- buffers for the most reads are never refused
+  outcome-is : playOf 16 s answers workspace .outcome ≡ checkOf 16 s
+  unfolding playOf playAfter
+  outcome-is = go (checkOf 16 s) refl
+    where
+      go : (o : Outcome ℕ) → checkOf 16 s ≡ o → playAfter 16 s answers workspace (checkOf 16 s) .outcome ≡ checkOf 16 s
+      go (refused n) e = rw e
+      go (result m) e = let few = most-reads s m e in play-plays 16 s m e answers workspace (omega arith) work ∙ sym e
+
+  module _ (p : Played) (is : p ≡ playOf 16 s answers workspace) (code : ℕ) (coded : code ≡ readsCode (p .outcome)) where
+    checked : p .outcome ≡ checkOf 16 s
+    checked = ap (λ (x : Played). x .outcome) is ∙ outcome-is
+
+    is-result : code < 256 → checkOf 16 s ≡ result code
+    is-result h = sym checked ∙ below (p .outcome) (rw coded at h) ∙ ap result (sym coded)
+
+    is-refused : 256 ≤ code → checkOf 16 s ≡ refused (code - 256)
+    is-refused h = sym checked ∙ above s (p .outcome) (sym checked) (rw coded at h) ∙ ap (λ (n : ℕ). refused (n - 256)) (sym coded)
+
+    pub decided : Decided s code (p .answers)
+    unfolding textOf textAfter lineWith
+    decided = record {
+      accepted = is-result;
+      few = λ h. most-reads s code (is-result h);
+      answers = λ h. rw is (play-writes 16 s (accepted 16 s code (is-result h)) answers workspace code (outcome-is ∙ is-result h));
+      refused-text = λ h. rw (is-refused h);
+      reads-text = λ h. rw (is-result h);
+    }

@@ -1,0 +1,4 @@
+pub mod Lines
+pub mod Bounds
+pub mod Over
+pub mod Ends

@@ -1,0 +1,113 @@
+-- `write` meets its contract: the text follows from what Play left, and is stored from the buffer's start on.
+use mathlib.Core.Path.{_≡_, sym}
+use mathlib.Core.List.{List}
+use Prim.Native.Nat.{ℕ, _*_, _≤_}
+use native.Mathlib.Nat.{le-of-eq}
+use native.Mathlib.Omega.{arith}
+use lib.Dec.{lit≤}
+use denote.Ref.{now}
+use lib.ListN.{length-replicate}
+use lib.Seq.{length-take-le}
+use Rattle.decimal.specs.Stored.{Stored}
+use Rattle.decimal.proofs.Stores.{stored-then}
+use Rattle.text.specs.Text.{textOf, mostText, writtenOver}
+use Rattle.text.proofs.Over.{stored-over}
+use Rattle.text.proofs.Bounds.{text-length}
+use Rattle.text.proofs.Ends.{Decided, decided}
+use borrow.Author.Needs.{needs}
+use Rattle.text.proofs.write.Statement.{statement}
+use Rattle.text.proofs.write.Tie as tie
+
+-- a text that is stored from the start on is written over the buffer, and no longer than the longest
+ends : {l o : List ℕ} {r : ℕ} (s : List ℕ) → Stored l 0 (textOf 16 s) o r → (record { size = r; bytes = o } ≡ writtenOver (textOf 16 s) l) × (r ≤ mostText)
+ends s S = (stored-over S, omega (arith, S .next-is, text-length s))
+
+-- the array of answers has room for the most reads, and the workspace has its bytes
+by-play : (c : tie.After-of-play) → Decided (now (c .before .before .before .before .before .before .before .before .args .plan)) (c .of-play .result) (c .before .before .before .play .last .1 .0)
+by-play c = decided _ _ _ (lit≤ tt) (le-of-eq (sym (length-replicate {A = ℕ} 60000 0))) _ (c .before .before .before .play .ensures .0) _ (c .of-play .ensures)
+
+slice-aggregate-play : tie.Need-slice-aggregate-play
+slice-aggregate-play c = search needs
+
+slice-aggregate-play-2 : tie.Need-slice-aggregate-play-2
+slice-aggregate-play-2 c = search needs
+
+play-requires : tie.Need-play-requires
+play-requires c κs = search needs
+
+of-play-requires : tie.Need-of-play-requires
+of-play-requires c κs = search needs
+
+slice-aggregate-put-first : tie.Need-slice-aggregate-put-first
+slice-aggregate-put-first c = search needs
+
+put-first-requires : tie.Need-put-first-requires
+put-first-requires c κs = search needs
+
+same-length : tie.Need-same-length
+same-length c = search needs
+
+returns : tie.Need-returns
+returns c =
+    let d = by-play (c .before .before .before .before .before .before) in
+    let text = d .refused-text (c .before .before .before .before .before .if1 .taken) in
+    ends _ (rw text at (c .before .before .put-first .ensures .0))
+
+slice-aggregate-put-first-2 : tie.Need-slice-aggregate-put-first-2
+slice-aggregate-put-first-2 c = search needs
+
+put-first-requires-2 : tie.Need-put-first-requires-2
+put-first-requires-2 c κs = search needs
+
+mul-end : tie.Need-mul-end
+mul-end c = search needs
+
+array-share-prefix-answers : tie.Need-array-share-prefix-answers
+array-share-prefix-answers c =
+    let e = c .before .before .before .before .before .before in
+    let few = by-play (e .before) .few (e .if1 .left) in
+    omega (arith, e .before .before .before .before .play .kept .1 .0)
+
+slice-aggregate-put-lines : tie.Need-slice-aggregate-put-lines
+slice-aggregate-put-lines c =
+    let e = c .before .before .before .before .before .before .before in
+    let few = by-play (e .before) .few (e .if1 .left) in
+    let x = e .before .before .before .before .play in
+    sym (length-take-le (5 * e .before .of-play .result) (x .last .1 .0) (omega (arith, x .kept .1 .0)))
+
+put-lines-requires : tie.Need-put-lines-requires
+put-lines-requires c κs =
+    let e = c .before .before .before .before .before .before .before in
+    let d = by-play (e .before) in
+    (search needs, d .accepted (e .if1 .left), d .answers (e .if1 .left))
+
+same-length-2 : tie.Need-same-length-2
+same-length-2 c = search needs
+
+returns-2 : tie.Need-returns-2
+returns-2 c =
+    let e = c .before .before .before .before .before .before .before .before .before .before in
+    let first = c .before .before .before .before .before .before .before .put-first2 .ensures .0 in
+    let text = by-play (e .before) .reads-text (e .if1 .left) in
+    ends _ (rw text at (stored-then first (c .before .before .put-lines .ensures)))
+
+pub write-spec : {M : Type 1} → statement M
+write-spec =
+    tie.close
+    (tie.spec
+    slice-aggregate-play
+    slice-aggregate-play-2
+    play-requires
+    of-play-requires
+    slice-aggregate-put-first
+    put-first-requires
+    same-length
+    returns
+    slice-aggregate-put-first-2
+    put-first-requires-2
+    mul-end
+    array-share-prefix-answers
+    slice-aggregate-put-lines
+    put-lines-requires
+    same-length-2
+    returns-2)
