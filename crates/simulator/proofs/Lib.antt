@@ -1,10 +1,8 @@
-pub mod Starred
 pub mod Bytes
 pub mod AnswerBytes
 pub mod Judged
 pub mod Played
 pub mod PointThree
-pub mod NotEmpty
 pub mod JudgeLaws
 pub mod JudgeLawsSteps
 pub mod JudgeLawsPlan

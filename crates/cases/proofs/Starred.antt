@@ -20,13 +20,15 @@ use Rattle.plan.specs.Parts
 use Rattle.plan.specs.Packed
 use Rattle.plan.specs.Check
 use Rattle.answers.specs.Answers
 use Rattle.simulator.specs.Look
 use Rattle.simulator.specs.Judge
-use Rattle.simulator.specs.Starred as S
+use Rattle.decimal.specs.Decimal
+use Rattle.text.specs.Text
+use Rattle.cases.specs.Starred as S
 
 -- every definition that a row computes with, opened under one name
 unfoldable pub opened : List ℕ → Check.Outcome ℕ
-unfolding bitOf fieldOf Lists.count Lists.anyUpTo Lists.allUpTo Lists.tabFrom Lists.flat Lists.any Lists.filter Lists.distinct Lists.highest Lists.sameList Plan.stamped Plan.valueOf Plan.numberOf Plan.kOf Plan.isMove Server.claimOf Server.has Server.pairsOf Server.insert Server.insertAll Server.takeIn Server.quorum Server.votedIn Server.deliver Server.stage1 Server.stage2 Server.moved Server.stage3 Server.stage4 Cluster.sentIn Cluster.writesIn Cluster.readsIn Cluster.votesFrom Cluster.forgedIn Cluster.votesIn Cluster.step Cluster.serverOf Cluster.tick Cluster.cluster Reading.sameRead Reading.replyFrom Reading.forgedTo Reading.noted Reading.notedBy Reading.countIn Reading.best Reading.answerFrom Header.headerOf Header.moves Parts.inPlacement Parts.operationOf Parts.forgeryOf Parts.delayOf Parts.operationsOf Parts.isLink Parts.writesFrom Parts.readsFrom Packed.planOf Check.headerInRange Check.enoughServers Check.endOf Check.placementStands Check.operationRises Check.operationWaits Check.operationStands Check.readOpen Check.forgeryRises Check.forgeryStands Check.delayStands Check.finalBitsZero Check.placementsStand Check.operationsStand Check.forgeriesStand Check.delaysStand Check.checkOf Answers.bytesOf Answers.packed Answers.answerBytes Answers.answersFor Answers.answersOf Look.conditionOf Look.shownBy S.k-one S.k-two S.period-short S.five S.four S.six S.five-two S.no-reads S.one-read S.written S.takeover S.starred
+unfolding bitOf fieldOf Lists.count Lists.anyUpTo Lists.allUpTo Lists.tabFrom Lists.flat Lists.any Lists.filter Lists.distinct Lists.highest Lists.sameList Plan.stamped Plan.valueOf Plan.numberOf Plan.kOf Plan.isMove Server.claimOf Server.has Server.pairsOf Server.insert Server.insertAll Server.takeIn Server.quorum Server.votedIn Server.deliver Server.stage1 Server.stage2 Server.moved Server.stage3 Server.stage4 Cluster.sentIn Cluster.writesIn Cluster.readsIn Cluster.votesFrom Cluster.forgedIn Cluster.votesIn Cluster.step Cluster.serverOf Cluster.tick Cluster.cluster Reading.sameRead Reading.replyFrom Reading.forgedTo Reading.noted Reading.notedBy Reading.countIn Reading.best Reading.answerFrom Header.headerOf Header.moves Parts.inPlacement Parts.operationOf Parts.forgeryOf Parts.delayOf Parts.operationsOf Parts.isLink Parts.writesFrom Parts.readsFrom Packed.planOf Check.headerInRange Check.enoughServers Check.endOf Check.placementStands Check.operationRises Check.operationWaits Check.operationStands Check.readOpen Check.forgeryRises Check.forgeryStands Check.delayStands Check.finalBitsZero Check.placementsStand Check.operationsStand Check.forgeriesStand Check.delaysStand Check.checkOf Answers.bytesOf Answers.packed Answers.answerBytes Answers.answersFor Answers.answersOf Look.conditionOf Look.shownBy Decimal.digitsWithin Decimal.decimalOf Text.lineWith Text.lineOf Text.linesFor Text.textAfter Text.textOf S.k-one S.k-two S.period-short S.five S.four S.six S.five-two S.no-reads S.one-read S.written S.takeover S.reads-one S.starred
 opened s = Check.checkOf 16 s
 
 -- Tests for equality, each with the law that it is one.
@@ -90,6 +92,7 @@ passes (S.has-length s n) = eqb (length s) n
 passes (S.checks s o) = same-outcome (Check.checkOf 16 s) o
 passes (S.has-k s k) = eqb (Header.kIn (Header.headerOf 16 s)) k
 passes (S.writes-bytes s bytes) = Lists.sameList (Answers.answersOf 16 s) bytes
+passes (S.prints s text) = Lists.sameList (Text.textOf 16 s) text
 passes (S.answers s value number count) =
     let P : Plan.Plan = Packed.planOf 16 s in
     let a : Reading.Answer = Reading.answerOf P (Judge.readOf P 0) in
@@ -105,6 +108,7 @@ row-holds (S.has-length s n) h = eqb→eq _ n h
 row-holds (S.checks s o) h = outcome-same _ o h
 row-holds (S.has-k s k) h = eqb→eq _ k h
 row-holds (S.writes-bytes s bytes) h = sameList-eq _ bytes h
+row-holds (S.prints s text) h = sameList-eq _ text h
 row-holds (S.answers s value number count) h =
     let P : Plan.Plan = Packed.planOf 16 s in
     let a : Reading.Answer = Reading.answerOf P (Judge.readOf P 0) in

@@ -1,0 +1,115 @@
+-- The starred cases of document 01 ('Rehearsed cases'), from the bytes: the plans, each as the number that its bytes are, and one table of what
+-- holds of them.
+use mathlib.Core.Path.{_≡_}
+use mathlib.Core.List.{List, [], _∷_, _++_}
+use Prim.Native.Nat.{ℕ, suc}
+use lib.ListN.{length}
+use Rattle.register.specs.Plan.{Plan, valueOf, numberOf}
+use Rattle.register.specs.Cluster.{cluster, serverOf}
+use Rattle.register.specs.Reading.{Answer, answerOf}
+use Rattle.plan.specs.Header.{headerOf, kIn}
+use Rattle.plan.specs.Packed.{planOf}
+use Rattle.plan.specs.Check.{Outcome, refused, result, checkOf}
+use Rattle.answers.specs.Answers.{bytesOf, answersOf}
+use Rattle.simulator.specs.Look.{is-cured, is-correct, Shown, shownBy}
+use Rattle.simulator.specs.Judge.{readOf}
+use Rattle.text.specs.Text.{textOf}
+
+-- n = 1, δ = 2, Δ = 4
+unfoldable pub k-one : List ℕ
+k-one = bytesOf 15 0x084210100000000000000011001000
+
+-- n = 1, δ = 2, Δ = 3
+unfoldable pub k-two : List ℕ
+k-two = bytesOf 15 0x084190100000000000000011001000
+
+-- n = 1, δ = 2, Δ = 1
+unfoldable pub period-short : List ℕ
+period-short = bytesOf 15 0x084090100000000000000011001000
+
+-- n = 5, f = 1, δ = 1, Δ = 2: k is 1
+unfoldable pub five : List ℕ
+five = bytesOf 35 0x2a21101000000000000001111011011101110110111101011111001111110011111000
+
+-- n = 4, f = 1, δ = 1, Δ = 2: k is 1
+unfoldable pub four : List ℕ
+four = bytesOf 28 0x22211010000000000000011101101101110101111001111100111100
+
+-- n = 6, f = 1, δ = Δ = 1: k is 2
+unfoldable pub six : List ℕ
+six = bytesOf 42 0x322090100000000000000111110110111101110111011110110111110101111110011111110011111100
+
+-- n = 5, f = 1, δ = Δ = 1: k is 2
+unfoldable pub five-two : List ℕ
+five-two = bytesOf 35 0x2a20901000000000000001111011011101110110111101011111001111110011111000
+
+-- n = 1, f = 0, δ = Δ = s = H = 1, no operations: 15 bytes
+unfoldable pub no-reads : List ℕ
+no-reads = bytesOf 15 0x082090100000000000000011001000
+
+-- as before with H = 3, start value 7, delays 1, reader 1 reads at 0: 31 bytes
+unfoldable pub one-read : List ℕ
+one-read = bytesOf 31 0x08209030007010000000000000000040000004400400004400400004400400
+
+-- n = 1, f = 0, δ = 1, Δ = 2, s = 1, H = 5, value 9 written at 0, read at 2
+unfoldable pub written : List ℕ
+written = bytesOf 43 0x08211050000020000000000000000000024110000001100100001100100001100100001100100001100100
+
+-- n = 5, f = 1, δ = 1, Δ = 2, s = 1, H = 4, start value 7, value 9 written at 0, server 0 faulty at 0, server 1 at 2
+unfoldable pub takeover : List ℕ
+takeover =
+    bytesOf 60 0x2a2110400070100080004000000002404444044044404440440444404044444004444440044444000444404404440444044044440404444400444444
+    ++ (bytesOf 54 0x004444400044440440444044404404444040444440044444400444440004444044044404440440444404044444004444440044444000)
+
+-- "reads 1", then "0 1 2 7 0 1", each ended by a line feed
+unfoldable pub reads-one : List ℕ
+reads-one = bytesOf 8 0x726561647320310a ++ bytesOf 12 0x30203120322037203020310a
+
+-- What a row says of a plan's bytes.
+pub data Row : Type 0 where
+  has-length : List ℕ → ℕ → Row
+  checks : List ℕ → Outcome ℕ → Row
+  has-k : List ℕ → ℕ → Row
+  writes-bytes : List ℕ → List ℕ → Row
+  prints : List ℕ → List ℕ → Row
+  answers : List ℕ → ℕ → ℕ → ℕ → Row
+  shows : List ℕ → ℕ → ℕ → Shown → Row
+
+-- its bytes; what Check returns; k; the answer bytes; the text that is printed, whole; value, number and count of the first read's answer;
+-- server b after tick t
+unfoldable pub Holds : Row → Type 0
+Holds (has-length s n) = length s ≡ n
+Holds (checks s o) = checkOf 16 s ≡ o
+Holds (has-k s k) = kIn (headerOf 16 s) ≡ k
+Holds (writes-bytes s bytes) = answersOf 16 s ≡ bytes
+Holds (prints s text) = textOf 16 s ≡ text
+Holds (answers s value number count) =
+    let P : Plan = planOf 16 s in
+    let a : Answer = answerOf P (readOf P 0) in
+    (valueOf 16 (a .pair) ≡ value) × (numberOf 16 (a .pair) ≡ number) × (a .count ≡ count)
+Holds (shows s b t shown) = shownBy 16 (serverOf (cluster (planOf 16 s) (suc t)) b) ≡ shown
+
+unfoldable pub starred : List Row
+starred =
+    checks k-one (result 0) ∷
+    has-k k-one 1 ∷
+    checks k-two (result 0) ∷
+    has-k k-two 2 ∷
+    checks period-short (refused 2) ∷
+    checks five (result 0) ∷
+    checks four (refused 3) ∷
+    checks six (result 0) ∷
+    checks five-two (refused 3) ∷
+    has-length no-reads 15 ∷
+    checks no-reads (result 0) ∷
+    checks (no-reads ++ (0x00 ∷ [])) (refused 4) ∷
+    has-length one-read 31 ∷
+    checks one-read (result 1) ∷
+    writes-bytes one-read (bytesOf 5 0x004001c002) ∷
+    prints one-read reads-one ∷
+    checks written (result 1) ∷
+    answers written 9 1 1 ∷
+    checks takeover (result 0) ∷
+    shows takeover 0 2 (record { condition = is-cured; pairs = [] }) ∷
+    shows takeover 0 3 (record { condition = is-correct; pairs = record { value = 9; number = 1 } ∷ record { value = 7; number = 0 } ∷ [] }) ∷
+    []
