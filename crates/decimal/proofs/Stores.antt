@@ -26,6 +26,10 @@ stored-then {l} {a} {m} {b} {o} {at} {x} {y} S U = record {
   bytes-are = U .bytes-are ∙ rw (S .bytes-are, S .next-is) (sym (sets-append l at a b));
 }
 
+-- the same bytes, written otherwise
+pub stored-as : {l a b o : List ℕ} {at y : ℕ} → a ≡ b → Stored l at a o y → Stored l at b o y
+stored-as e S = rw e at S
+
 pub stored-none : (l : List ℕ) (at : ℕ) {y : ℕ} → y ≡ at → Stored l at [] l y
 stored-none l at h = record { next-is = omega arith; bytes-are = refl }
 

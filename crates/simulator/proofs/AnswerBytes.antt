@@ -13,7 +13,7 @@ use Rattle.register.specs.Plan.{Plan, Read, valueOf, numberOf}
 use Rattle.register.specs.Reading.{Answer, answerOf}
 use Rattle.plan.specs.Packed.{planOf}
 use Rattle.plan.proofs.Stamped.{stamped-back}
-use Rattle.answers.specs.Answers.{answerSize, packed, answerBytes, answersFor, answersOf, answerAt, beginIn, readerIn, pairIn, zeroIn}
+use Rattle.answers.specs.Answers.{answerSize, packed, answerBytes, answersFor, answersOf, answerAt, beginIn, readerIn, pairIn, countIn, zeroIn}
 use Rattle.simulator.proofs.Bytes.{field-high, field-low, parts-lt, length-bytes, field-bytes, joined, length-joined, field-joined}
 
 -- an answer whose parts fit their fields
@@ -114,10 +114,10 @@ module _ (w : ℕ) (P : Plan) where
 
   -- the fields of answer i are those of its read
   module _ (whole : w % 8 ≡ 0) (rs : List Read) (d : Read) (i : ℕ) (l : i < length rs) (F : Fits w (getD rs i d) (answerOf P (getD rs i d))) where
-    pub back : ReadsBack w (answerBytes w (getD rs i d) (answerOf P (getD rs i d))) (getD rs i d) (answerOf P (getD rs i d))
+    back : ReadsBack w (answerBytes w (getD rs i d) (answerOf P (getD rs i d))) (getD rs i d) (answerOf P (getD rs i d))
     back = reads-back w (getD rs i d) (answerOf P (getD rs i d)) whole F
 
-    pub field-answer : (at v : ℕ) → at + v ≤ 24 + w
+    field-answer : (at v : ℕ) → at + v ≤ 24 + w
         → fieldOf (answersFor w P rs) (8 * answerSize w * i + at) v ≡ fieldOf (answerBytes w (getD rs i d) (answerOf P (getD rs i d))) at v
     unfolding bytes-of
     field-answer at v h =
@@ -138,6 +138,10 @@ module _ (w : ℕ) (P : Plan) where
         let a : List ℕ = answersFor w P rs in
         let number = same-bit a 8 _ _ (answerAt w a i + 10 + w) (omega arith) (field-answer (10 + w) 8 (omega arith) ∙ back .number-back) in
         rw (value, number) (stamped-back w (answerOf P (getD rs i d) .pair))
+
+    pub count-of : countIn w (answersFor w P rs) i ≡ answerOf P (getD rs i d) .count
+    unfolding countIn
+    count-of = same-bit (answersFor w P rs) 5 _ _ _ (omega arith) (field-answer (18 + w) 5 (omega arith) ∙ back .count-back)
 
     pub zero-of : zeroIn w (answersFor w P rs) i ≡ 0
     unfolding zeroIn

@@ -14,25 +14,25 @@ use Rattle.answers.specs.Answers.{answersOf}
 use Rattle.answers.specs.Workspace.{workspaceSize}
 use Rattle.simulator.specs.Play.{Played, playAfter, playOf}
 use Rattle.simulator.proofs.Played.{play-plays, play-writes}
-use Rattle.codes.specs.Codes.{readsCode}
+use Rattle.codes.specs.Codes.{refusalCode, readsCode}
 use Rattle.text.specs.Text.{readsWord, refusedWord, numberThen, lineFeed, lineWith, linesFor, textAfter, textOf}
 
--- a code below 256 is a result, and one above is a refusal: no plan has that many reads
-below : (o : Outcome ℕ) → readsCode o < 256 → o ≡ result (readsCode o)
+-- a code tells a result from a refusal: no plan has so many reads
+below : (o : Outcome ℕ) → readsCode o < refusalCode 0 → o ≡ result (readsCode o)
 below (refused n) h = absurd (omega arith)
 below (result m) h = refl
 
-above : (s : List ℕ) (o : Outcome ℕ) → checkOf 16 s ≡ o → 256 ≤ readsCode o → o ≡ refused (readsCode o - 256)
-above s (refused n) e h = let q : n ≡ 256 + n - 256 = omega arith in ap refused q
+above : (s : List ℕ) (o : Outcome ℕ) → checkOf 16 s ≡ o → refusalCode 0 ≤ readsCode o → o ≡ refused (readsCode o - refusalCode 0)
+above s (refused n) e h = let q : n ≡ refusalCode n - refusalCode 0 = omega arith in ap refused q
 above s (result m) e h = absurd (omega (arith, most-reads s m e))
 
 -- what the code of Play's outcome says of the plan, where Play left answers `a`
 pub record Decided (s : List ℕ) (code : ℕ) (a : List ℕ) : Type 0 where
-  pub accepted : code < 256 → checkOf 16 s ≡ result code
-  pub few : code < 256 → code ≤ mostReads
-  pub answers : code < 256 → take (5 * code) a ≡ answersOf 16 s
-  pub refused-text : 256 ≤ code → refusedWord ++ numberThen lineFeed (code - 256) ≡ textOf 16 s
-  pub reads-text : code < 256 → (readsWord ++ numberThen lineFeed code) ++ linesFor 16 (planOf 16 s) (planOf 16 s .reads) ≡ textOf 16 s
+  pub accepted : code < refusalCode 0 → checkOf 16 s ≡ result code
+  pub few : code < refusalCode 0 → code ≤ mostReads
+  pub answers : code < refusalCode 0 → take (5 * code) a ≡ answersOf 16 s
+  pub refused-text : refusalCode 0 ≤ code → refusedWord ++ numberThen lineFeed (code - refusalCode 0) ≡ textOf 16 s
+  pub reads-text : code < refusalCode 0 → (readsWord ++ numberThen lineFeed code) ++ linesFor 16 (planOf 16 s) (planOf 16 s .reads) ≡ textOf 16 s
 
 module _ (s answers workspace : List ℕ) (room : 5 * mostReads ≤ length answers) (work : workspaceSize ≤ length workspace) where
   -- buffers for the most reads are never refused
@@ -48,11 +48,11 @@ module _ (s answers workspace : List ℕ) (room : 5 * mostReads ≤ length answe
     checked : p .outcome ≡ checkOf 16 s
     checked = ap (λ (x : Played). x .outcome) is ∙ outcome-is
 
-    is-result : code < 256 → checkOf 16 s ≡ result code
+    is-result : code < refusalCode 0 → checkOf 16 s ≡ result code
     is-result h = sym checked ∙ below (p .outcome) (rw coded at h) ∙ ap result (sym coded)
 
-    is-refused : 256 ≤ code → checkOf 16 s ≡ refused (code - 256)
-    is-refused h = sym checked ∙ above s (p .outcome) (sym checked) (rw coded at h) ∙ ap (λ (n : ℕ). refused (n - 256)) (sym coded)
+    is-refused : refusalCode 0 ≤ code → checkOf 16 s ≡ refused (code - refusalCode 0)
+    is-refused h = sym checked ∙ above s (p .outcome) (sym checked) (rw coded at h) ∙ ap (λ (n : ℕ). refused (n - refusalCode 0)) (sym coded)
 
     pub decided : Decided s code (p .answers)
     unfolding textOf textAfter lineWith

@@ -1,4 +1,5 @@
 pub mod Lines
-pub mod Bounds
+pub mod Refusals
 pub mod Over
+pub mod Bounds
 pub mod Ends

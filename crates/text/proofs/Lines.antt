@@ -1,15 +1,18 @@
 -- The lines read from the answers' bytes are those of the reads, where the answers are those of an accepted plan.
 -- It stands on point 3, by which an answer fits its fields, and on the answers' bytes.
 use mathlib.Core.Path.{_≡_, refl, sym, ap, _∙_}
+use mathlib.Core.Bool.{Bool, true, false, cond}
 use mathlib.Core.List.{List, [], _∷_, _++_, append-assoc, append-nil}
-use Prim.Native.Nat.{ℕ, zero, suc, _+_, _*_, _≤_, _<_}
+use Prim.Native.Nat.{ℕ, zero, suc, _+_, _*_, _/_, _≤_, _<_}
 use native.Mathlib.Nat.{le-refl}
 use native.Mathlib.Omega.{arith}
-use lib.Dec.{lit≤, leb→le}
+use lib.Dec.{ltb, leb→le}
 use lib.ListN.{length, take}
 use lib.Seq.{take-suc, take-all}
+use borrow.Author.Tests.{lt-ltb}
+use Rattle.bits.proofs.Laws.{field-lt}
 use Rattle.register.specs.Lists.{In}
-use Rattle.register.specs.Plan.{Plan, Read, readEnd, valueOf, numberOf}
+use Rattle.register.specs.Plan.{Plan, Read, valueOf, numberOf}
 use Rattle.register.specs.Reading.{Answer, answerOf}
 use Rattle.plan.specs.declared.header.Shape.{Shape}
 use Rattle.plan.specs.Shape.{shape}
@@ -18,11 +21,12 @@ use Rattle.plan.specs.Packed.{planOf}
 use Rattle.plan.specs.Check.{result, checkOf}
 use Rattle.plan.proofs.Tests.{getD-in}
 use Rattle.plan.proofs.Accept.{accepted, reads-counted, in-range}
-use Rattle.answers.specs.Answers.{beginIn, readerIn, answersFor, answersOf}
+use Rattle.answers.specs.Answers.{answerSize, answerAt, beginIn, answersFor, answersOf}
 use Rattle.simulator.specs.Judge.{readOf}
-use Rattle.simulator.proofs.AnswerBytes.{Fits, begin-of, reader-of, back, field-answer, answersOf-length}
+use Rattle.simulator.proofs.AnswerBytes.{Fits, begin-of, reader-of, pair-of, count-of, answers-length}
 use Rattle.simulator.proofs.Judged.{fits}
 use Rattle.simulator.proofs.PointThree.{pointThree}
+use Rattle.codes.specs.Fields.{answerFields, answerField}
 use Rattle.text.specs.declared.Answer.{Answer as Fields}
 use Rattle.text.specs.Text.{lineOf, linesFor}
 use Rattle.text.specs.Lines.{answerIn, lineFor, linesIn}
@@ -30,6 +34,15 @@ use Rattle.text.specs.Lines.{answerIn, lineFor, linesIn}
 -- what the fields of a read's answer have to be
 abbrev fieldsOf : Read → Answer → Fields
 fieldsOf r a = record { begin = r .begun; reader = r .reader; value = valueOf 16 (a .pair); number = numberOf 16 (a .pair); count = a .count }
+
+-- the begin of an answer, whatever the bytes
+pub begin-low : (a : List ℕ) (i : ℕ) → answerIn a i .begin < 128
+unfolding answerIn answerField answerFields beginIn
+begin-low a i = go (ltb i (length a / answerSize 16)) (field-lt a (answerAt 16 a i) 7)
+  where
+    go : (t : Bool) {x : ℕ} → x < 128 → cond t x 0 < 128
+    go true h = h
+    go false h = omega arith
 
 lines-append : (P : Plan) (a b : List Read) → linesFor 16 P (a ++ b) ≡ linesFor 16 P a ++ linesFor 16 P b
 unfolding linesFor
@@ -47,23 +60,21 @@ module _ (s : List ℕ) (m : ℕ) (e : checkOf 16 s ≡ result m) where
   inside i l = rw (reads-counted 16 s m e) at l
 
   -- every answer fits its fields
-  read-fits : (i : ℕ) → i < m → Fits 16 (readOf P i) (answerOf P (readOf P i))
-  read-fits i l =
-      let r-in = getD-in (P .reads) i none (inside i l) in
-      fits 16 s (accepted 16 s m e) (readOf P i) r-in (pointThree 16 refl s m e .served (readOf P i) r-in)
+  pub answer-fits : (r : Read) → In r (P .reads) → Fits 16 r (answerOf P r)
+  answer-fits r i = fits 16 s (accepted 16 s m e) r i (pointThree 16 refl s m e .served r i)
 
   fields-are : (i : ℕ) → i < m → answerIn (answersOf 16 s) i ≡ fieldsOf (readOf P i) (answerOf P (readOf P i))
-  unfolding answerIn answersOf beginIn readerIn
+  unfolding answerIn answerField answerFields answersOf
   fields-are i l =
       let n = inside i l in
-      let F = read-fits i l in
-      let B = back 16 P refl (P .reads) none i n F in
+      let F = answer-fits (readOf P i) (getD-in (P .reads) i none n) in
+      let whole : i < length (answersFor 16 P (P .reads)) / answerSize 16 = omega (arith, answers-length 16 P (P .reads)) in
       rw (
+        lt-ltb _ _ whole,
         begin-of 16 P refl (P .reads) none i n F,
         reader-of 16 P refl (P .reads) none i n F,
-        (field-answer 16 P refl (P .reads) none i n F 10 16 (lit≤ tt) ∙ B .value-back),
-        (field-answer 16 P refl (P .reads) none i n F 26 8 (lit≤ tt) ∙ B .number-back),
-        (field-answer 16 P refl (P .reads) none i n F 34 5 (lit≤ tt) ∙ B .count-back),
+        pair-of 16 P refl (P .reads) none i n F,
+        count-of 16 P refl (P .reads) none i n F,
       )
 
   line-is : (i : ℕ) → i < m → lineFor (2 * P .delta) (answerIn (answersOf 16 s) i) ≡ lineOf 16 P (readOf P i)
@@ -80,9 +91,6 @@ module _ (s : List ℕ) (m : ℕ) (e : checkOf 16 s ≡ result m) where
   lines-are = first-lines m (le-refl m) ∙ rw (take-all m (P .reads) (omega (arith, reads-counted 16 s m e)))
 
   -- Sizes that the code meets.
-  pub answers-room : (a : List ℕ) → a ≡ answersOf 16 s → length a ≡ 5 * m
-  answers-room a is = ap length is ∙ answersOf-length 16 s ∙ omega (arith, reads-counted 16 s m e)
-
   pub header-there : 8 ≤ length s
   header-there = leb→le 8 (length s) (accepted 16 s m e .long)
 

@@ -2,12 +2,12 @@
 -- It stands on the definitions alone.
 use mathlib.Core.Path.{_≡_, refl, ap, _∙_}
 use mathlib.Core.List.{List, [], _∷_, _++_}
-use Prim.Native.Nat.{ℕ, zero, suc, _≤_}
+use Prim.Native.Nat.{ℕ, suc, _≤_}
 use native.Mathlib.Nat.{zero-add}
 use lib.ListN.{length, take, drop, set}
 use lib.Seq.{sets, take-all, take-at}
 use Rattle.decimal.specs.Stored.{Stored}
-use Rattle.text.specs.Text.{Written, writtenOver}
+use Rattle.text.specs.Text.{writtenOver}
 
 sets-nil : (i : ℕ) (t : List ℕ) → sets {A = ℕ} [] i t ≡ []
 sets-nil i [] = refl

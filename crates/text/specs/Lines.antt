@@ -1,22 +1,13 @@
 -- The lines of the text, as the code has them: from the bytes of the answers.
 use mathlib.Core.List.{List, [], _∷_, _++_}
 use Prim.Native.Nat.{ℕ, zero, suc, _+_}
-use Rattle.bits.specs.Field.{fieldOf}
-use Rattle.answers.specs.Answers.{answerAt}
+use Rattle.codes.specs.Fields.{answerField}
 use Rattle.text.specs.declared.Answer.{Answer}
 use Rattle.text.specs.Text.{lineWith}
 
--- 'begin 7, screen 3, cue 16, number 8, count 5' of answer i
+-- the fields of answer i
 unfoldable pub answerIn : List ℕ → ℕ → Answer
-answerIn a i =
-    let at : ℕ = answerAt 16 a i in
-    record {
-      begin = fieldOf a at 7;
-      reader = fieldOf a (at + 7) 3;
-      value = fieldOf a (at + 10) 16;
-      number = fieldOf a (at + 26) 8;
-      count = fieldOf a (at + 34) 5;
-    }
+answerIn a i = record { begin = answerField a i 0; reader = answerField a i 1; value = answerField a i 2; number = answerField a i 3; count = answerField a i 4 }
 
 -- the line of an answer to a read that lasts so many ticks
 unfoldable pub lineFor : ℕ → Answer → List ℕ

@@ -52,9 +52,15 @@ textAfter w s (result m) = let P : Plan = planOf w s in (readsWord ++ lineWith (
 unfoldable pub textOf : ℕ → List ℕ → List ℕ
 textOf w s = textAfter w s (checkOf w s)
 
--- the longest: a first line of 10 bytes, and 23 for each read
+-- the longest first line, the longest line of a read, and the longest text
+abbrev pub mostFirst : ℕ
+mostFirst = 10
+
+abbrev pub mostLine : ℕ
+mostLine = 23
+
 abbrev pub mostText : ℕ
-mostText = 10 + 23 * mostReads
+mostText = mostFirst + mostLine * mostReads
 
 -- How long a text is, and the bytes of a buffer afterwards.
 pub record Written : Type 0 where

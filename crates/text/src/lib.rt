@@ -1,5 +1,6 @@
 // The text that the program prints for a plan, written into a lent buffer: `reads` and the count with a line for each read, or `refused` and the
 // number.
+use codes::fields::of_answer;
 use plan::header::Shape;
 ghost use mathlib.Core.Path.{_≡_};
 ghost use mathlib.Core.List.{_++_};
@@ -13,8 +14,13 @@ ghost use Rattle.answers.specs.Answers.{answersOf};
 ghost use Rattle.text.specs.Text.{numberThen, lineFeed, linesFor, textOf, writtenOver};
 ghost use Rattle.text.specs.Lines.{answerIn, lineFor};
 
-// The longest text: a first line of 10 bytes, and 23 for each read.
-pub const MOST_BYTES: usize = 10 + 23 * Shape::MOST_READS;
+// The longest first line, `reads 168`, and the longest line of a read: numbers of 3, 1, 3, 5, 3 and 2 digits. Each with its line feed.
+const FIRST_BYTES: usize = 10;
+
+const LINE_BYTES: usize = 23;
+
+// The longest text.
+pub const MOST_BYTES: usize = FIRST_BYTES + LINE_BYTES * Shape::MOST_READS;
 
 // A number and the byte behind it.
 fn put_number(out: &mut [u8], at: usize, n: u64, after: u8) -> usize
@@ -48,16 +54,14 @@ struct Answer {
 impl Answer {
     // Answer i of the answer bytes.
     fn read(answers: &[u8], i: usize) -> Answer
-        requires { ⌜ (i < 256) × (5 * i + 5 ≤ length (now answers)) ⌝ }
         ensures { λ r. ⌜ (r ≡ answerIn (now (answers .entry)) i) × (r .begin < 128) ⌝ }
     {
-        let at = 8 * Shape::ANSWER_BYTES * i;
         Answer {
-            begin: bits::field(answers, at, 7),
-            reader: bits::field(answers, at + 7, 3),
-            value: bits::field(answers, at + 10, 16),
-            number: bits::field(answers, at + 26, 8),
-            count: bits::field(answers, at + 34, 5),
+            begin: of_answer(answers, i, 0) as u64,
+            reader: of_answer(answers, i, 1) as u64,
+            value: of_answer(answers, i, 2) as u64,
+            number: of_answer(answers, i, 3) as u64,
+            count: of_answer(answers, i, 4) as u64,
         }
     }
 }

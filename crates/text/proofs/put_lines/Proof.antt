@@ -7,10 +7,10 @@ use lib.ListN.{length}
 use borrow.Author.Needs.{needs}
 use Rattle.decimal.specs.Decimal.{mostDigits}
 use Rattle.decimal.specs.Stored.{Stored}
-use Rattle.decimal.proofs.Stores.{stored-none, stored-then}
+use Rattle.decimal.proofs.Stores.{stored-as, stored-none, stored-then}
 use Rattle.plan.proofs.Longest.{most-reads}
 use Rattle.text.specs.Lines.{linesIn}
-use Rattle.text.proofs.Lines.{answers-room, header-there, span-few, all-lines}
+use Rattle.text.proofs.Lines.{header-there, span-few, all-lines}
 use Rattle.text.proofs.put_lines.Statement.{statement}
 use Rattle.text.proofs.put_lines.Tie as tie
 
@@ -34,11 +34,7 @@ unfolding linesIn
 loop-holds c = (search needs, refl, search needs, stored-none _ _ refl)
 
 read-requires-2 : tie.Need-read-requires-2 Inv-loop μ-loop
-read-requires-2 c κs =
-    let s = c .before .before .before .before .before .before .before .before in
-    let few = most-reads _ _ (s .pre .1) in
-    let room = answers-room _ _ (s .pre .1) _ (s .pre .2) in
-    search needs
+read-requires-2 c κs = search needs
 
 put-line-requires : tie.Need-put-line-requires Inv-loop μ-loop
 put-line-requires c κs =
@@ -73,7 +69,7 @@ returns c =
     let r = a .before .before in
     let s = r .before .before .before .before in
     let all : a .loop .i ≡ s .args .count = omega arith in
-    rw (all-lines _ _ (s .pre .1) _ (r .read .ensures) _ _ (s .pre .2) all) at (a .loop .inv .3)
+    stored-as (all-lines _ _ (s .pre .1) _ (r .read .ensures) _ _ (s .pre .2) all) (a .loop .inv .3)
 
 pub put-lines-spec : {M : Type 1} → statement M
 put-lines-spec =

@@ -9,7 +9,7 @@ use denote.Ref.{now}
 use lib.ListN.{length-replicate}
 use lib.Seq.{length-take-le}
 use Rattle.decimal.specs.Stored.{Stored}
-use Rattle.decimal.proofs.Stores.{stored-then}
+use Rattle.decimal.proofs.Stores.{stored-as, stored-then}
 use Rattle.text.specs.Text.{textOf, mostText, writtenOver}
 use Rattle.text.proofs.Over.{stored-over}
 use Rattle.text.proofs.Bounds.{text-length}
@@ -51,7 +51,7 @@ returns : tie.Need-returns
 returns c =
     let d = by-play (c .before .before .before .before .before .before) in
     let text = d .refused-text (c .before .before .before .before .before .if1 .taken) in
-    ends _ (rw text at (c .before .before .put-first .ensures .0))
+    ends _ (stored-as text (c .before .before .put-first .ensures .0))
 
 slice-aggregate-put-first-2 : tie.Need-slice-aggregate-put-first-2
 slice-aggregate-put-first-2 c = search needs
@@ -89,7 +89,7 @@ returns-2 c =
     let e = c .before .before .before .before .before .before .before .before .before .before in
     let first = c .before .before .before .before .before .before .before .put-first2 .ensures .0 in
     let text = by-play (e .before) .reads-text (e .if1 .left) in
-    ends _ (rw text at (stored-then first (c .before .before .put-lines .ensures)))
+    ends _ (stored-as text (stored-then first (c .before .before .put-lines .ensures)))
 
 pub write-spec : {M : Type 1} → statement M
 write-spec =
