@@ -6,6 +6,8 @@ mod measure;
 mod operations;
 mod stack;
 
+use std::process::ExitCode;
+
 use cases::{Shape, FIVE_SERVERS, LARGEST, MIDDLE, SLOW};
 
 fn microseconds(nanoseconds: f64) -> String {
@@ -84,17 +86,30 @@ fn print_stack() {
     );
 }
 
-fn main() {
-    let arguments: Vec<String> = std::env::args().skip(1).collect();
+fn main() -> ExitCode {
+    let words: Vec<String> = std::env::args().skip(1).collect();
+    let words: Vec<&str> = words.iter().map(String::as_str).collect();
     let largest = cases::plan(LARGEST);
     assert_eq!(largest.len(), 34_362);
-    if let [option, what, frames] = &arguments[..] {
-        assert_eq!(option, "--stack");
-        return stack::attempt(what, frames.parse().unwrap(), largest);
-    }
-    let rounds =
-        arguments.first().map_or(101, |word| word.parse().expect("usage: timing [ROUNDS]"));
+    let rounds = match words[..] {
+        [] => Some(101),
+        [rounds] => rounds.parse().ok(),
+        // How this program calls itself.
+        ["--stack", what, frames] => match frames.parse() {
+            Ok(frames) => {
+                stack::attempt(what, frames, largest);
+                return ExitCode::SUCCESS;
+            }
+            Err(_) => None,
+        },
+        _ => None,
+    };
+    let Some(rounds @ 1..) = rounds else {
+        eprintln!("usage: bench/run [ROUNDS], a number from 1 on");
+        return ExitCode::from(2);
+    };
     print_operations(rounds);
     print_growth(rounds);
     print_stack();
+    ExitCode::SUCCESS
 }

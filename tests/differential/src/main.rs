@@ -37,13 +37,23 @@ fn keep(seed: u64, plan: &[u8]) -> String {
     kept.map_or_else(|error| error.to_string(), |()| name)
 }
 
+/// How many plans, and the first one's seed; nothing if an argument is wrong.
+fn arguments() -> Option<(u64, u64)> {
+    let words: Vec<String> = std::env::args().skip(1).collect();
+    let (count, first): (u64, u64) = match &words[..] {
+        [] => (100_000, 0),
+        [count] => (count.parse().ok()?, 0),
+        [count, first] => (count.parse().ok()?, first.parse().ok()?),
+        _ => return None,
+    };
+    count.checked_add(first).map(|_| (count, first))
+}
+
 fn main() -> ExitCode {
-    let arguments: Vec<u64> = std::env::args()
-        .skip(1)
-        .map(|word| word.parse().expect("usage: differential [PLANS [SEED]]"))
-        .collect();
-    let count = arguments.first().copied().unwrap_or(100_000);
-    let first = arguments.get(1).copied().unwrap_or(0);
+    let Some((count, first)) = arguments() else {
+        eprintln!("usage: tests/differential/run [PLANS [SEED]], both of them numbers");
+        return ExitCode::from(2);
+    };
     let began = Instant::now();
     let mut bench = Bench::new(&mut Random::new(1));
     let mut tally = Tally::default();
