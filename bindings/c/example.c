@@ -4,22 +4,27 @@
  *   rt staticlib capi
  *   cc -std=c99 -o example bindings/c/example.c target/staticlib/libcapi.a
  *   ./example < plan
+ *
+ * The exit status is 0 for an accepted plan, 1 for a refused one, 2 if reading or writing failed.
  */
 #include <stdio.h>
 
 #include "register.h"
 
-static uint8_t plan[34438];     /* one byte more than any header implies */
-static uint8_t answers[255 * REGISTER_ANSWER];
+static uint8_t plan[REGISTER_LONGEST_INPUT];
+static uint8_t answers[REGISTER_ANSWER * REGISTER_MOST_READS];
 static uint8_t workspace[REGISTER_WORKSPACE];
 
-static void print_answer(const uint8_t *answer)
+static int answer(size_t read, enum register_answer_field field)
 {
-    uint64_t bits = 0;
-    for (int i = 0; i < REGISTER_ANSWER; i++)
-        bits = bits << 8 | answer[i];
-    printf("begin %d reader %d value %d number %d count %d\n", (int)(bits >> 33), (int)(bits >> 30 & 7),
-           (int)(bits >> 14 & 0xffff), (int)(bits >> 6 & 0xff), (int)(bits >> 1 & 0x1f));
+    return (int)register_answer(answers, sizeof answers, read, field);
+}
+
+static void print_answer(size_t read)
+{
+    printf("begin %d reader %d value %d number %d count %d\n",
+           answer(read, REGISTER_BEGIN), answer(read, REGISTER_READER), answer(read, REGISTER_VALUE),
+           answer(read, REGISTER_NUMBER), answer(read, REGISTER_COUNT));
 }
 
 static void print_server(size_t length, size_t server, size_t tick)
@@ -30,27 +35,42 @@ static void print_server(size_t length, size_t server, size_t tick)
     if (seen >= REGISTER_REFUSED)
         return;
     printf("server %d %s", (int)server, words[seen % 4]);
-    for (size_t i = 0; i < seen / 4; i++)
-        printf(" (%d, %d)", pairs[3 * i] << 8 | pairs[3 * i + 1], pairs[3 * i + 2]);
+    for (const uint8_t *pair = pairs; pair < pairs + REGISTER_PAIR * (seen / 4); pair += REGISTER_PAIR)
+        printf(" (%d, %d)", pair[0] << 8 | pair[1], pair[2]);
     printf("\n");
 }
 
-int main(void)
+/* Prints what there is to say of the plan; 1 if it is refused, else 0. */
+static int rehearse(size_t length)
 {
-    size_t length = fread(plan, 1, sizeof plan, stdin);
     size_t reads = register_play(plan, length, answers, sizeof answers, workspace, sizeof workspace);
     if (reads >= REGISTER_REFUSED) {
         printf("refused %d\n", (int)(reads - REGISTER_REFUSED));
-        return 0;
+        return 1;
     }
     printf("reads %d\n", (int)reads);
-    for (size_t i = 0; i < reads; i++)
-        print_answer(answers + REGISTER_ANSWER * i);
-    size_t servers = plan[0] >> 3;
-    size_t ticks = (size_t)(plan[2] & 15) << 4 | plan[3] >> 4;
+    for (size_t read = 0; read < reads; read++)
+        print_answer(read);
+    size_t servers = register_header(plan, length, REGISTER_SERVERS);
+    size_t ticks = register_header(plan, length, REGISTER_TICKS);
     for (size_t server = 0; server < servers; server++)
         print_server(length, server, ticks - 1);
     size_t regular = register_judge(plan, length, answers, REGISTER_ANSWER * reads);
     printf("regular: %s\n", regular == 1 ? "yes" : "no");
     return 0;
+}
+
+int main(void)
+{
+    size_t length = fread(plan, 1, sizeof plan, stdin);
+    if (ferror(stdin)) {
+        perror("example: the plan could not be read");
+        return 2;
+    }
+    int refused = rehearse(length);
+    if (fflush(stdout) != 0 || ferror(stdout)) {
+        perror("example: the output could not be written");
+        return 2;
+    }
+    return refused;
 }

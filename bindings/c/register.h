@@ -1,13 +1,19 @@
-/* A replicated register under moving faults, rehearsed from a packed plan.
+/* A replicated register under mobile Byzantine faults, rehearsed from a packed plan.
  *
- * Link with target/staticlib/libcapi.a, which `rt staticlib capi` writes.  The plan, the answers
- * and the numbers of the refusals are those of document 01; docs/ describe them.
+ * Link with target/staticlib/libcapi.a, which `rt staticlib capi` writes.  docs/FORMATS.md has the
+ * bytes of plans and answers and the numbers of the refusals.
  *
- * All four functions take any bytes and any lengths.  A pointer must be valid for its length
- * and not null, also where the length is 0; lent bytes that are written must overlap nothing else
- * in the same call.  Nothing is kept between calls and nothing is allocated.
- * A result of REGISTER_REFUSED or more is a refusal: REGISTER_REFUSED plus its number.  A refusal
- * leaves all lent bytes as they were.
+ * All functions take any bytes and any lengths.  A pointer must be valid for its length and not
+ * null, also where the length is 0; lent bytes that are written must overlap nothing else in the
+ * same call.
+ *
+ * Of check, play, look and judge a result of REGISTER_REFUSED or more is a refusal:
+ * REGISTER_REFUSED plus its number.  A refusal leaves all lent bytes as they were.
+ *
+ * Stack: play and look take under 30 KB, the other functions under 3 KB (measured with the longest
+ * plan, on x86-64).  Nothing is allocated.
+ * Threads: there is no global state and nothing is kept between calls.  Calls may run at once if
+ * none writes to bytes that another one uses.
  */
 #ifndef REGISTER_H
 #define REGISTER_H
@@ -19,40 +25,46 @@
 extern "C" {
 #endif
 
-/* Bytes of workspace that play and look ask for.  They are zero after a call that was not refused. */
-#define REGISTER_WORKSPACE 60000
+/* Bytes of the longest plan that check accepts. */
+#define REGISTER_LONGEST_PLAN 34362
 
-/* Bytes of one answer.  A plan has at most 255 operations. */
+/* Bytes of a plan worth reading: one more than any header implies.  What follows them changes
+ * nothing, as the plan is refused for its header or its length by then. */
+#define REGISTER_LONGEST_INPUT 34438
+
+/* The most reads of a plan that check accepts: REGISTER_ANSWER * REGISTER_MOST_READS bytes hold the
+ * answers of any plan. */
+#define REGISTER_MOST_READS 168
+
+/* Bytes of one answer. */
 #define REGISTER_ANSWER 5
 
-/* Bytes of the stamped values that look shows: three, of three bytes each. */
+/* Bytes of workspace that play and look ask for.  They are zero after a call that was not refused,
+ * and later ones unchanged. */
+#define REGISTER_WORKSPACE 60000
+
+/* Bytes of one stamped value that look writes, and of the three that a server keeps at most. */
+#define REGISTER_PAIR 3
 #define REGISTER_PAIRS 9
 
-/* What a refusal's number is added to: no other result is as large. */
+/* What a refusal's number is added to: no other result of these four functions is as large. */
 #define REGISTER_REFUSED 256
 
+/* Where several apply it is the lowest. */
 enum register_refusal {
     REGISTER_PLAN_SHORT = 1,        /* plan under 8 bytes */
     REGISTER_HEADER = 2,            /* a header field outside its range */
     REGISTER_TOO_FEW_SERVERS = 3,   /* fewer than the faults ask for */
     REGISTER_PLAN_LENGTH = 4,       /* length other than the header implies */
-    REGISTER_PLACEMENT = 5,
-    REGISTER_OPERATION = 6,
-    REGISTER_FORGERY = 7,
+    REGISTER_PLACEMENT = 5,         /* too many servers, or one that isn't there */
+    REGISTER_OPERATION = 6,         /* order, party, value, overlap or end */
+    REGISTER_FORGERY = 7,           /* order, tick, sender or receiver */
     REGISTER_DELAY = 8,             /* a delay or a final bit */
-    REGISTER_ANSWERS_SHORT = 9,     /* under 5 bytes for each read */
-    REGISTER_WORKSPACE_SHORT = 10,
-    REGISTER_OUT_OF_RANGE = 11,     /* no such server or tick */
-    REGISTER_ANSWERS_LENGTH = 12,   /* length other than 5 times the reads */
-    REGISTER_OTHER_READ = 13,       /* begin, reader or zero bit isn't that of the read */
-    REGISTER_PAIRS_SHORT = 100      /* look only: under 9 bytes for the stamped values */
-};
-
-/* The state of a server, as the low two bits of what look returns. */
-enum register_condition {
-    REGISTER_FAULTY = 0,    /* document 01: held */
-    REGISTER_CURED = 1,     /* curing */
-    REGISTER_CORRECT = 2    /* sound */
+    REGISTER_ANSWERS_SHORT = 9,     /* play: under 5 bytes for each read */
+    REGISTER_WORKSPACE_SHORT = 10,  /* play, look: under 60,000 bytes */
+    REGISTER_OUT_OF_RANGE = 11,     /* look: no such server or tick */
+    REGISTER_ANSWERS_LENGTH = 12,   /* judge: length other than 5 times the reads */
+    REGISTER_OTHER_READ = 13        /* judge: begin, reader or zero bit isn't that of the read */
 };
 
 /* Checks a plan.  Returns its number of reads. */
@@ -64,9 +76,17 @@ size_t register_play(const uint8_t *plan, size_t plan_length,
                      uint8_t *answers, size_t answers_length,
                      uint8_t *workspace, size_t workspace_length);
 
+/* The state of a server, as the low two bits of what look returns. */
+enum register_condition {
+    REGISTER_FAULTY = 0,    /* taken over; shows nothing */
+    REGISTER_CURED = 1,     /* reset after a fault, and learning again */
+    REGISTER_CORRECT = 2
+};
+
 /* Looks at a server after a tick.  Returns its condition plus 4 times the number of stamped values
- * that it keeps.  They stand at the start of pairs, highest first, in three bytes each: the value's
- * high byte, its low byte, its number; later bytes of pairs stay.  A faulty server shows none. */
+ * that it keeps, 0 to 3.  As many of them as fit whole stand at the start of pairs, highest first,
+ * in three bytes each: the value's high byte, its low byte, its number; later bytes of pairs stay.
+ * pairs_length may be anything; REGISTER_PAIRS has room for all. */
 size_t register_look(const uint8_t *plan, size_t plan_length,
                      uint8_t *workspace, size_t workspace_length,
                      size_t server, size_t tick,
@@ -75,6 +95,42 @@ size_t register_look(const uint8_t *plan, size_t plan_length,
 /* Judges answers.  Returns 1 if each is one that a regular register may give, else 0. */
 size_t register_judge(const uint8_t *plan, size_t plan_length,
                       const uint8_t *answers, size_t answers_length);
+
+/* The fields of an answer. */
+enum register_answer_field {
+    REGISTER_BEGIN = 0,     /* the tick in which the read begins; it ends 2δ ticks later */
+    REGISTER_READER = 1,    /* the reader, counted from 1 */
+    REGISTER_VALUE = 2,     /* the value read */
+    REGISTER_NUMBER = 3,    /* its number: 0 for the initial value, 1 for the first one written */
+    REGISTER_COUNT = 4      /* how many servers named it to the reader */
+};
+
+/* Reads a field of answer i, counted from 0.  Returns 0 where the bytes end before answer i does,
+ * and for any other field.  Nothing is checked. */
+size_t register_answer(const uint8_t *answers, size_t answers_length, size_t i, size_t field);
+
+/* The numbers in a plan's header. */
+enum register_header_field {
+    REGISTER_SERVERS = 0,       /* n */
+    REGISTER_FAULTS = 1,        /* f: the most servers that are faulty at a time */
+    REGISTER_DELTA = 2,         /* δ: the longest delay */
+    REGISTER_PERIOD = 3,        /* Δ: the ticks from one movement of the faults to the next */
+    REGISTER_READERS = 4,       /* s */
+    REGISTER_TICKS = 5,         /* H */
+    REGISTER_INITIAL = 6,       /* the initial value */
+    REGISTER_OPERATIONS = 7,    /* how many operations the plan has */
+    REGISTER_FORGERIES = 8      /* how many forged messages it has */
+};
+
+/* Reads a number of a plan's header.  Returns 0 for a plan under 8 bytes, and for any other field.
+ * Nothing is checked: the numbers of an accepted plan are in their ranges. */
+size_t register_header(const uint8_t *plan, size_t plan_length, size_t field);
+
+/* The limits above as the library has them. */
+size_t register_most_bytes(void);       /* REGISTER_LONGEST_PLAN */
+size_t register_most_reads(void);       /* REGISTER_MOST_READS */
+size_t register_answer_bytes(void);     /* REGISTER_ANSWER */
+size_t register_workspace_bytes(void);  /* REGISTER_WORKSPACE */
 
 #ifdef __cplusplus
 }
