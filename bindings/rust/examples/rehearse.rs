@@ -1,39 +1,57 @@
 //! Reads a plan on standard input and prints each read's answer, the servers after the plan's last
 //! tick, and whether the answers are those of a regular register.
+//!
+//! The exit status is 0 for an accepted plan, 1 for a refused one, 2 if reading or writing failed.
 
-use std::io::{self, Read};
+use std::io::{self, Read, Write};
+use std::process::ExitCode;
 
-use register::{check, judge, look, play, Refusal, ANSWER_BYTES, WORKSPACE_BYTES};
+use register::{
+    answers, judge, look, play, Plan, Refusal, ANSWER_BYTES, LONGEST_INPUT, WORKSPACE_BYTES,
+};
 
-fn print_answer(answer: &[u8]) {
-    let bits = answer.iter().fold(0, |bits, &byte| bits << 8 | u64::from(byte));
-    let (begin, reader) = (bits >> 33, bits >> 30 & 7);
-    let (value, number, count) = (bits >> 14 & 0xffff, bits >> 6 & 0xff, bits >> 1 & 31);
-    println!("begin {begin} reader {reader} value {value} number {number} count {count}");
-}
-
-fn rehearse(plan: &[u8]) -> Result<(), Refusal> {
-    let mut answers = vec![0; ANSWER_BYTES * check(plan)?];
+/// What there is to say of the plan.
+fn rehearse(bytes: &[u8]) -> Result<String, Refusal> {
+    let plan = Plan::of(bytes)?;
+    let mut lent = vec![0; ANSWER_BYTES * plan.reads()];
     let mut workspace = vec![0; WORKSPACE_BYTES];
-    println!("reads {}", play(plan, &mut answers, &mut workspace)?);
-    answers.chunks(ANSWER_BYTES).for_each(print_answer);
-    let servers = usize::from(plan[0] >> 3);
-    let ticks = usize::from(plan[2] & 15) << 4 | usize::from(plan[3] >> 4);
-    for server in 0..servers {
-        let seen = look(plan, &mut workspace, server, ticks - 1)?;
-        print!("server {server} {}", format!("{:?}", seen.condition).to_lowercase());
-        seen.kept().iter().for_each(|kept| print!(" ({}, {})", kept.value, kept.number));
-        println!();
+    let mut text = format!("reads {}\n", play(bytes, &mut lent, &mut workspace)?);
+    for answer in answers(&lent) {
+        text += &format!(
+            "begin {} reader {} value {} number {} count {}\n",
+            answer.begin, answer.reader, answer.value, answer.number, answer.count
+        );
     }
-    println!("regular: {}", if judge(plan, &answers)? { "yes" } else { "no" });
-    Ok(())
+    for server in 0..plan.servers() {
+        let seen = look(bytes, &mut workspace, server, plan.ticks() - 1)?;
+        text += &format!("server {server} {}", seen.condition);
+        for kept in seen.kept() {
+            text += &format!(" ({}, {})", kept.value, kept.number);
+        }
+        text += "\n";
+    }
+    let regular = if judge(bytes, &lent)? { "yes" } else { "no" };
+    Ok(text + "regular: " + regular + "\n")
 }
 
-fn main() -> io::Result<()> {
+/// Whether the plan on standard input was accepted.
+fn run() -> io::Result<bool> {
     let mut plan = Vec::new();
-    io::stdin().read_to_end(&mut plan)?;
-    if let Err(refusal) = rehearse(&plan) {
-        println!("{refusal}");
+    io::stdin().take(LONGEST_INPUT as u64).read_to_end(&mut plan)?;
+    let result = rehearse(&plan);
+    let accepted = result.is_ok();
+    let text = result.unwrap_or_else(|refusal| format!("{refusal}\n"));
+    io::stdout().write_all(text.as_bytes())?;
+    Ok(accepted)
+}
+
+fn main() -> ExitCode {
+    match run() {
+        Ok(true) => ExitCode::SUCCESS,
+        Ok(false) => ExitCode::from(1),
+        Err(error) => {
+            eprintln!("rehearse: {error}");
+            ExitCode::from(2)
+        }
     }
-    Ok(())
 }

@@ -1,162 +1,83 @@
-//! A replicated register under moving faults, rehearsed from a packed plan: a safe wrapper of the
-//! proved library. The plan's and the answers' bytes are those of document 01.
+//! A replicated register under mobile Byzantine faults, rehearsed from a packed plan: a safe
+//! wrapper of the proved library. `docs/FORMATS.md` has the bytes of plans and answers.
 //!
-//! ```no_run
-//! let plan = std::fs::read("plan").unwrap();
-//! let mut workspace = vec![0; register::WORKSPACE_BYTES];
-//! let mut answers = vec![0; register::ANSWER_BYTES * register::check(&plan).unwrap()];
-//! register::play(&plan, &mut answers, &mut workspace).unwrap();
-//! assert_eq!(register::judge(&plan, &answers), Ok(true));
 //! ```
+//! use register::{answers, check, judge, play, Plan, ANSWER_BYTES, WORKSPACE_BYTES};
+//!
+//! let bytes = include_bytes!("../../../examples/takeover.plan");
+//! let plan = Plan::of(bytes)?;
+//! let mut lent = vec![0; ANSWER_BYTES * plan.reads()];
+//! let mut workspace = vec![0; WORKSPACE_BYTES];
+//! play(bytes, &mut lent, &mut workspace)?;
+//! for answer in answers(&lent) {
+//!     println!("reader {} gets {}", answer.reader, answer.value);
+//! }
+//! assert!(judge(bytes, &lent)?);
+//! assert_eq!(check(&bytes[..7]).unwrap_err().to_string(), "refused 1: the plan has under 8 bytes");
+//! # Ok::<(), register::Refusal>(())
+//! ```
+//!
+//! Every function takes any bytes of any length and never panics. A refused call changes no lent
+//! byte. The library keeps nothing between calls and allocates nothing; calls may run at once on
+//! several threads. [`play`] and [`look`] take under 30 KB of stack, the other functions under 3 KB.
 
-pub mod raw;
+#![warn(missing_docs)]
 
-/// Bytes of workspace that [`play`] and [`look`] ask for; they are zero after a success.
-pub const WORKSPACE_BYTES: usize = 60_000;
+mod answer;
+mod limits;
+mod plan;
+mod raw;
+mod refusal;
+mod seen;
 
-/// Bytes of one answer.
-pub const ANSWER_BYTES: usize = 5;
+pub use answer::{answers, Answer};
+pub use limits::{
+    ANSWER_BYTES, LONGEST_INPUT, LONGEST_PLAN, MOST_READS, PAIRS_BYTES, PAIR_BYTES, WORKSPACE_BYTES,
+};
+pub use plan::Plan;
+pub use refusal::Refusal;
+pub use seen::{Condition, Seen, Stamped};
 
-/// Why a call was refused, with document 01's number. A refusal changes no lent byte.
-#[derive(Clone, Copy, Debug, PartialEq, Eq)]
-pub enum Refusal {
-    /// The plan has under 8 bytes.
-    PlanShort = 1,
-    /// A header field is outside its range.
-    Header = 2,
-    /// There are fewer servers than the faults ask for.
-    TooFewServers = 3,
-    /// The plan's length is other than its header implies.
-    PlanLength = 4,
-    Placement = 5,
-    Operation = 6,
-    Forgery = 7,
-    /// A delay or a final bit.
-    Delay = 8,
-    /// The buffer has under 5 bytes for each read.
-    AnswersShort = 9,
-    /// The workspace has under 60,000 bytes.
-    WorkspaceShort = 10,
-    /// The plan has no such server or tick.
-    OutOfRange = 11,
-    /// The answers' length is other than 5 times the reads.
-    AnswersLength = 12,
-    /// An answer's begin, reader or zero bit isn't that of its read.
-    OtherRead = 13,
-}
-
-impl Refusal {
-    pub fn number(self) -> usize {
-        self as usize
-    }
-
-    fn of(number: usize) -> Self {
-        use Refusal::*;
-        let all = [
-            PlanShort,
-            Header,
-            TooFewServers,
-            PlanLength,
-            Placement,
-            Operation,
-            Forgery,
-            Delay,
-            AnswersShort,
-            WorkspaceShort,
-            OutOfRange,
-            AnswersLength,
-            OtherRead,
-        ];
-        let known = all.into_iter().find(|refusal| refusal.number() == number);
-        known.unwrap_or_else(|| panic!("the library has no refusal {number}"))
-    }
-}
-
-impl std::fmt::Display for Refusal {
-    fn fmt(&self, f: &mut std::fmt::Formatter) -> std::fmt::Result {
-        write!(f, "refused {}", self.number())
-    }
-}
-
-impl std::error::Error for Refusal {}
-
-/// The state of a server.
-#[derive(Clone, Copy, Debug, PartialEq, Eq)]
-pub enum Condition {
-    /// Document 01: held.
-    Faulty,
-    /// Curing.
-    Cured,
-    /// Sound.
-    Correct,
-}
-
-/// A value with its sequence number.
-#[derive(Clone, Copy, Debug, Default, PartialEq, Eq)]
-pub struct Stamped {
-    pub value: u16,
-    pub number: u8,
-}
-
-/// What a look shows.
-#[derive(Clone, Copy, Debug, PartialEq, Eq)]
-pub struct Seen {
-    pub condition: Condition,
-    count: usize,
-    kept: [Stamped; 3],
-}
-
-impl Seen {
-    /// The stamped values that the server keeps, highest first; a faulty server shows none.
-    pub fn kept(&self) -> &[Stamped] {
-        &self.kept[..self.count]
-    }
-}
-
-/// What a refusal's number is added to: no other result is as large.
-const REFUSED: usize = 256;
-
-fn number_or_refusal(result: usize) -> Result<usize, Refusal> {
-    if result < REFUSED {
-        Ok(result)
-    } else {
-        Err(Refusal::of(result - REFUSED))
-    }
-}
-
-/// The number of reads of a plan.
+/// Checks a plan: the number of its reads.
 pub fn check(plan: &[u8]) -> Result<usize, Refusal> {
-    number_or_refusal(raw::check(plan))
+    refusal::number_or_refusal(raw::check(plan))
 }
 
-/// Plays a plan; the answer to read i is in the five bytes from 5 times i on. The number of reads.
+/// Plays a plan: the number of its reads. The answer to read `i` stands in the [`ANSWER_BYTES`]
+/// bytes from `ANSWER_BYTES * i` on, and later bytes of `answers` are unchanged ([`answers`] reads
+/// them). The first [`WORKSPACE_BYTES`] bytes of the workspace are zero, the rest unchanged.
 pub fn play(plan: &[u8], answers: &mut [u8], workspace: &mut [u8]) -> Result<usize, Refusal> {
-    number_or_refusal(raw::play(plan, answers, workspace))
+    refusal::number_or_refusal(raw::play(plan, answers, workspace))
 }
 
-/// Looks at a server after a tick.
+/// Looks at a server after a tick. The workspace is as after [`play`].
 pub fn look(
     plan: &[u8],
     workspace: &mut [u8],
     server: usize,
     tick: usize,
 ) -> Result<Seen, Refusal> {
-    let mut pairs = [0; 9];
-    let result = number_or_refusal(raw::look(plan, workspace, server, tick, &mut pairs))?;
-    let condition = match result % 4 {
-        0 => Condition::Faulty,
-        1 => Condition::Cured,
-        2 => Condition::Correct,
-        other => panic!("the library has no condition {other}"),
-    };
-    let mut seen = Seen { condition, count: result / 4, kept: Default::default() };
-    for (kept, packed) in seen.kept.iter_mut().zip(pairs.chunks_exact(3)).take(seen.count) {
-        *kept = Stamped { value: u16::from_be_bytes([packed[0], packed[1]]), number: packed[2] };
-    }
-    Ok(seen)
+    let mut pairs = [0; PAIRS_BYTES];
+    let (condition, count) = look_into(plan, workspace, server, tick, &mut pairs)?;
+    Ok(Seen::of(condition, count, pairs))
 }
 
-/// Whether every answer is one that a regular register may give.
+/// Looks at a server after a tick, with a buffer of the caller's for what it keeps: the condition,
+/// and how many stamped values there are. As many of them as fit whole stand at the start of
+/// `pairs`, highest first, in [`PAIR_BYTES`] bytes each: the value's high byte, its low byte, the
+/// number. Later bytes of `pairs` are unchanged.
+pub fn look_into(
+    plan: &[u8],
+    workspace: &mut [u8],
+    server: usize,
+    tick: usize,
+    pairs: &mut [u8],
+) -> Result<(Condition, usize), Refusal> {
+    let result = raw::look(plan, workspace, server, tick, pairs);
+    refusal::number_or_refusal(result).map(seen::condition_and_count)
+}
+
+/// Judges answers to a plan's reads: whether each is one that a regular register may give.
 pub fn judge(plan: &[u8], answers: &[u8]) -> Result<bool, Refusal> {
-    number_or_refusal(raw::judge(plan, answers)).map(|yes| yes == 1)
+    refusal::number_or_refusal(raw::judge(plan, answers)).map(|yes| yes == 1)
 }

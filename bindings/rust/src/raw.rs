@@ -2,6 +2,30 @@
 //! what they mean. A slice is valid for its length and never null, and a slice lent for writing
 //! overlaps no other: that is all the library asks.
 
+/// A field of an answer, as the library numbers them.
+#[derive(Clone, Copy)]
+pub enum AnswerField {
+    Begin,
+    Reader,
+    Value,
+    Number,
+    Count,
+}
+
+/// A field of a plan's header, as the library numbers them.
+#[derive(Clone, Copy)]
+pub enum HeaderField {
+    Servers,
+    Faulty,
+    Delta,
+    Period,
+    Readers,
+    Ticks,
+    Initial,
+    Operations,
+    Forgeries,
+}
+
 mod library {
     extern "C" {
         pub fn register_check(plan: *const u8, plan_length: usize) -> usize;
@@ -29,6 +53,13 @@ mod library {
             answers: *const u8,
             answers_length: usize,
         ) -> usize;
+        pub fn register_answer(
+            answers: *const u8,
+            answers_length: usize,
+            index: usize,
+            field: usize,
+        ) -> usize;
+        pub fn register_header(plan: *const u8, plan_length: usize, field: usize) -> usize;
     }
 }
 
@@ -80,4 +111,14 @@ pub fn look(
 pub fn judge(plan: &[u8], answers: &[u8]) -> usize {
     // SAFETY: the pointers and lengths are slices'.
     unsafe { library::register_judge(plan.as_ptr(), plan.len(), answers.as_ptr(), answers.len()) }
+}
+
+pub fn answer(answers: &[u8], index: usize, field: AnswerField) -> usize {
+    // SAFETY: the pointer and length are a slice's.
+    unsafe { library::register_answer(answers.as_ptr(), answers.len(), index, field as usize) }
+}
+
+pub fn header(plan: &[u8], field: HeaderField) -> usize {
+    // SAFETY: the pointer and length are a slice's.
+    unsafe { library::register_header(plan.as_ptr(), plan.len(), field as usize) }
 }

@@ -1,0 +1,77 @@
+//! An accepted plan, and the numbers in its header.
+
+use crate::raw::{self, HeaderField};
+use crate::{check, Refusal};
+
+/// A view of an accepted plan's bytes: the numbers of its header, read by the library.
+#[derive(Clone, Copy, Debug, PartialEq, Eq, Hash)]
+pub struct Plan<'a> {
+    bytes: &'a [u8],
+    reads: usize,
+}
+
+impl<'a> Plan<'a> {
+    /// The plan that these bytes are, if [`check`] accepts them.
+    pub fn of(bytes: &'a [u8]) -> Result<Self, Refusal> {
+        Ok(Plan { bytes, reads: check(bytes)? })
+    }
+
+    /// The plan's bytes.
+    pub fn bytes(&self) -> &'a [u8] {
+        self.bytes
+    }
+
+    /// The number of reads, and so of answers.
+    pub fn reads(&self) -> usize {
+        self.reads
+    }
+
+    /// n, the number of servers, 1 to 16.
+    pub fn servers(&self) -> usize {
+        self.field(HeaderField::Servers)
+    }
+
+    /// f, the most servers that are faulty at a time, 0 to 3.
+    pub fn faulty(&self) -> usize {
+        self.field(HeaderField::Faulty)
+    }
+
+    /// δ, the longest delay of a message, in ticks: a write lasts δ, a read 2δ.
+    pub fn delta(&self) -> usize {
+        self.field(HeaderField::Delta)
+    }
+
+    /// Δ, the ticks from one movement of the faults to the next.
+    pub fn period(&self) -> usize {
+        self.field(HeaderField::Period)
+    }
+
+    /// s, the number of readers, 1 to 4.
+    pub fn readers(&self) -> usize {
+        self.field(HeaderField::Readers)
+    }
+
+    /// H, the number of ticks, 1 to 128.
+    pub fn ticks(&self) -> usize {
+        self.field(HeaderField::Ticks)
+    }
+
+    /// The initial value, which has number 0.
+    pub fn initial(&self) -> u16 {
+        self.field(HeaderField::Initial) as u16
+    }
+
+    /// The number of operations, writes and reads together.
+    pub fn operations(&self) -> usize {
+        self.field(HeaderField::Operations)
+    }
+
+    /// The number of forged messages.
+    pub fn forgeries(&self) -> usize {
+        self.field(HeaderField::Forgeries)
+    }
+
+    fn field(&self, field: HeaderField) -> usize {
+        raw::header(self.bytes, field)
+    }
+}

@@ -1,0 +1,107 @@
+//! Refusals and their numbers.
+
+use std::error::Error;
+use std::fmt;
+
+/// Why a call was refused; where several apply it is the one of the lowest number. A refusal changes
+/// no lent byte.
+#[derive(Clone, Copy, Debug, PartialEq, Eq, Hash)]
+pub enum Refusal {
+    /// The plan has under 8 bytes.
+    PlanShort = 1,
+    /// A header field is outside its range.
+    Header = 2,
+    /// There are fewer servers than the faults ask for.
+    TooFewServers = 3,
+    /// The plan's length is other than its header implies.
+    PlanLength = 4,
+    /// A placement has too many servers, or one that isn't there.
+    Placement = 5,
+    /// An operation is out of order or range, overlaps another of its party, or doesn't end in time.
+    Operation = 6,
+    /// A forged message is out of order or range, or its sender or receiver may not have it.
+    Forgery = 7,
+    /// A delay is out of range, or a final bit is set.
+    Delay = 8,
+    /// The buffer for answers has under 5 bytes for each read.
+    AnswersShort = 9,
+    /// The workspace has under 60,000 bytes.
+    WorkspaceShort = 10,
+    /// The plan has no such server or tick.
+    OutOfRange = 11,
+    /// The answers' length is other than 5 bytes for each read.
+    AnswersLength = 12,
+    /// An answer's begin, reader or zero bit isn't that of its read.
+    OtherRead = 13,
+}
+
+impl Refusal {
+    /// Every refusal, by number: the first is number 1.
+    pub const ALL: [Refusal; 13] = [
+        Refusal::PlanShort,
+        Refusal::Header,
+        Refusal::TooFewServers,
+        Refusal::PlanLength,
+        Refusal::Placement,
+        Refusal::Operation,
+        Refusal::Forgery,
+        Refusal::Delay,
+        Refusal::AnswersShort,
+        Refusal::WorkspaceShort,
+        Refusal::OutOfRange,
+        Refusal::AnswersLength,
+        Refusal::OtherRead,
+    ];
+
+    /// The published number, 1 to 13.
+    pub fn number(self) -> usize {
+        self as usize
+    }
+
+    /// What was wrong, in words.
+    pub fn meaning(self) -> &'static str {
+        match self {
+            Refusal::PlanShort => "the plan has under 8 bytes",
+            Refusal::Header => "a header field is outside its range",
+            Refusal::TooFewServers => "there are fewer servers than the faults ask for",
+            Refusal::PlanLength => "the plan's length is other than its header implies",
+            Refusal::Placement => "a placement has too many servers, or one that isn't there",
+            Refusal::Operation => {
+                "an operation is out of order or range, overlaps another of its party, or doesn't end in time"
+            }
+            Refusal::Forgery => {
+                "a forged message is out of order or range, or its sender or receiver may not have it"
+            }
+            Refusal::Delay => "a delay is out of range, or a final bit is set",
+            Refusal::AnswersShort => "the buffer for answers has under 5 bytes for each read",
+            Refusal::WorkspaceShort => "the workspace has under 60,000 bytes",
+            Refusal::OutOfRange => "the plan has no such server or tick",
+            Refusal::AnswersLength => "the answers' length is other than 5 bytes for each read",
+            Refusal::OtherRead => "an answer's begin, reader or zero bit isn't that of its read",
+        }
+    }
+
+    fn of(number: usize) -> Self {
+        let known = Self::ALL.into_iter().find(|refusal| refusal.number() == number);
+        known.unwrap_or_else(|| unreachable!("the library has no refusal {number}"))
+    }
+}
+
+impl fmt::Display for Refusal {
+    fn fmt(&self, f: &mut fmt::Formatter) -> fmt::Result {
+        write!(f, "refused {}: {}", self.number(), self.meaning())
+    }
+}
+
+impl Error for Refusal {}
+
+/// What a refusal's number is added to: no other result is as large.
+const REFUSED: usize = 256;
+
+pub(crate) fn number_or_refusal(result: usize) -> Result<usize, Refusal> {
+    if result < REFUSED {
+        Ok(result)
+    } else {
+        Err(Refusal::of(result - REFUSED))
+    }
+}
