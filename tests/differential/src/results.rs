@@ -1,9 +1,8 @@
 //! Results of both libraries in one form, to compare them.
 
-use plain::{Condition, Refused, Seen};
+use std::fmt::Debug;
 
-/// What a refusal's number is added to in register.h.
-pub const REFUSED: usize = 256;
+use plain::{Refused, Seen};
 
 pub trait Numbered {
     fn numbered(self) -> usize;
@@ -54,28 +53,17 @@ pub fn plain_words(result: Result<Seen, Refused>) -> String {
     }
 }
 
-pub fn packed(result: Result<Seen, Refused>) -> (usize, Vec<u8>) {
-    let seen = match result {
-        Err(Refused(number)) => return (REFUSED + usize::from(number), Vec::new()),
-        Ok(seen) => seen,
-    };
-    let condition = match seen.condition {
-        Condition::Faulty => 0,
-        Condition::Cured => 1,
-        Condition::Correct => 2,
-    };
+/// A condition and the number of stamped values kept, as both libraries name them.
+pub fn shown<C: Debug, R: Numbered>(result: Result<(C, usize), R>) -> String {
+    result.map_or_else(refused, |(condition, count)| format!("{condition:?} with {count}"))
+}
+
+/// The stamped values kept, as register.h packs them.
+pub fn packed(seen: Seen) -> Vec<u8> {
     let kept = seen.kept[..seen.count].iter();
     let bytes = kept.flat_map(|kept| {
         let [high, low] = kept.value().to_be_bytes();
         [high, low, kept.number()]
     });
-    (condition + 4 * seen.count, bytes.collect())
-}
-
-pub fn look_said(number: usize) -> String {
-    if number >= REFUSED {
-        return format!("refused {}", number - REFUSED);
-    }
-    let condition = ["faulty", "cured", "correct"][number % 4];
-    format!("{condition} with {}", number / 4)
+    bytes.collect()
 }

@@ -1,15 +1,15 @@
 //! One plan: every operation of both libraries, with lent bytes and arguments of all sorts.
 
 use plans::Random;
+use register::{PAIRS_BYTES, PAIR_BYTES};
 
 use crate::answers::changed;
 use crate::lent::Lent;
-use crate::results::{judged, look_said, packed, plain_words, said, words, REFUSED};
+use crate::results::{judged, packed, plain_words, said, shown, words};
 use crate::tally::Tally;
 
 const WORKSPACE: usize = plain::WORKSPACE_BYTES;
 const LONGEST_ANSWERS: usize = 5 * 300;
-const PAIRS_SHORT: usize = REFUSED + 100;
 
 /// Bytes that are lent again and again.
 pub struct Bench {
@@ -120,38 +120,37 @@ impl Bench {
         tally: &mut Tally,
     ) -> Result<(), String> {
         let workspace_length = workspace_length(random);
-        let pairs_length = match random.below(8) {
-            0 => random.below(9),
-            1 | 2 => random.between(10, 30),
-            _ => 9,
-        };
         let plain_workspace = &mut self.plain_workspace[..workspace_length];
         plain_workspace.copy_from_slice(self.workspace.before(workspace_length));
         let seen = plain::look(plan, plain_workspace, server, tick);
         let about =
             format!("look at server {server} after tick {tick}, workspace {workspace_length}");
+        let wanted = shown(seen.map(|seen| (seen.condition, seen.count)));
+        tally.count("look", &wanted);
 
         let got = register::look(plan, self.workspace.lend(workspace_length), server, tick);
         same(&about, words(got), plain_words(seen))?;
-        holds(self.workspace.now_begins(plain_workspace), &format!("{about}: workspace differs"))?;
+        self.workspace_stands(&about, workspace_length, seen.is_err())?;
 
+        let pairs_length = random.below(2 * PAIRS_BYTES);
         let about = format!("{about}, {pairs_length} bytes for pairs");
         let got = {
             let workspace = self.workspace.lend(workspace_length);
             let pairs = self.pairs.lend(pairs_length);
-            register::raw::look(plan, workspace, server, tick, pairs)
+            register::look_into(plan, workspace, server, tick, pairs)
         };
-        let (wanted, wanted_pairs) =
-            if pairs_length < 9 { (PAIRS_SHORT, Vec::new()) } else { packed(seen) };
-        tally.count("look", &look_said(wanted));
-        same(&about, got, wanted)?;
-        holds(self.pairs.now_begins(&wanted_pairs), &format!("{about}: pairs differ"))?;
-        let workspace_stands = if wanted >= REFUSED {
-            self.workspace.is_unchanged(workspace_length)
-        } else {
-            self.workspace.now_begins(plain_workspace)
-        };
-        holds(workspace_stands, &format!("{about}: workspace differs"))
+        same(&about, shown(got), wanted)?;
+        let mut pairs = seen.map_or(Vec::new(), packed);
+        pairs.truncate(pairs_length / PAIR_BYTES * PAIR_BYTES);
+        holds(self.pairs.now_begins(&pairs), &format!("{about}: pairs differ"))?;
+        self.workspace_stands(&about, workspace_length, seen.is_err())
+    }
+
+    /// Whether the library's workspace is now as the plain one's, and unchanged by a refusal.
+    fn workspace_stands(&self, about: &str, length: usize, refused: bool) -> Result<(), String> {
+        let stands = self.workspace.now_begins(&self.plain_workspace[..length])
+            && (!refused || self.workspace.is_unchanged(length));
+        holds(stands, &format!("{about}: workspace differs"))
     }
 
     fn judge_many(
