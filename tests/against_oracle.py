@@ -1,12 +1,20 @@
 #!/usr/bin/env python3
-"""against_oracle.py ORACLE [--seeds A B] COMMAND [ARGUMENT ..]
+"""against_oracle.py FOLDER [--plans N] [--seed S]
 
-Compares a program that answers requests (bench/plain/examples/requests.rs says their form) with
-the rehearsal program of other authorship in the folder ORACLE: over its vectors and over four
-generated plans for each seed (small or not, damaged or not).  For each plan: what the program
-prints, Play with lent bytes of several lengths, looks in and out of range, every look of a small
-plan, and Judge of true, changed and malformed answers.  Prints what differs and the counts."""
+Compares the proved library, through its Rust wrapper (tests/requests), and the program `simulate` with
+the rehearsal program of other authorship in FOLDER: on its vectors and on N plans that it generates
+(2,000 if not said), four for each seed from S on (0 if not said): small or not, damaged or not.
 
+For each plan: Check and the header's numbers; the text that the program prints, also as the wrapper
+decodes the answers; Play with lent bytes of several lengths; Looks in and out of range, with pair
+buffers of every length, and of a small plan every Look; Judge of right, altered and malformed answers.
+Results and every lent byte are compared.
+
+Builds what it needs with `rt` and `cargo`; LIB_DIR names a folder with another libcapi.a to compare.
+Prints what differs, then one line with the counts; the exit status is 1 if anything differs."""
+
+import argparse
+import collections
 import os
 import random
 import struct
@@ -15,205 +23,242 @@ import sys
 
 sys.dont_write_bytecode = True
 
+TOP = os.path.dirname(os.path.dirname(os.path.abspath(__file__)))
+REQUESTS = os.path.join(TOP, "tests", "requests")
+SIMULATE = os.path.join(TOP, "target", "bin", "simulate")
+
+ANSWER = 5
 WORKSPACE = 60_000
+WORKSPACES = (0, WORKSPACE - 1, WORKSPACE, WORKSPACE + 9)
+PAIR_BUFFERS = range(12)
+FAR = (2 ** 32, 2 ** 64 - 1)
+# Servers times ticks of a plan that is looked at everywhere, at most: all that are generated small.
+LOOKED_AT = 16 * 24
+# Requests that are answered by one run of the library.
+TOGETHER = 5_000
+MOST_SHOWN = 20
 
 
 def lent(length):
     return bytearray(i % 251 + 1 for i in range(length))
 
 
-LENT_WORKSPACE = {length: bytes(lent(length)) for length in (0, WORKSPACE - 1, WORKSPACE, WORKSPACE + 9)}
+LENT = {length: bytes(lent(length)) for length in WORKSPACES}
+CLEARED = {length: bytes(WORKSPACE) + LENT[length][WORKSPACE:] for length in WORKSPACES if length >= WORKSPACE}
 
 
-def checksum(data):
-    total = 1
-    for byte in data:
-        total = (total * 257 + byte) % 1_000_000_007
-    return total
+def state(workspace):
+    """A workspace after a call, in the words of tests/requests."""
+    now, length = bytes(workspace), len(workspace)
+    return "kept" if now == LENT[length] else "cleared" if now == CLEARED.get(length) else "spoilt"
 
 
-SUMS = {}
-
-
-def workspace_sum(data):
-    """The few workspaces that can be right are summed once."""
-    key = bytes(data)
-    if key not in SUMS:
-        SUMS[key] = checksum(key)
-    return SUMS[key]
+def hexed(data):
+    return "x" + bytes(data).hex()
 
 
 def string(data):
-    return struct.pack(">I", len(data)) + data
+    return numbers(len(data)) + data
 
 
 def numbers(*values):
-    return struct.pack(f">{len(values)}I", *values)
+    return struct.pack(f">{len(values)}Q", *values)
 
 
-class Requests:
-    """What the oracle answers, request by request."""
+class Comparison:
+    """Requests with the answers that the other program gives, and what came of them."""
 
-    def __init__(self, oracle, rng):
-        self.oracle, self.rng = oracle, rng
-        self.asked, self.wanted, self.about = [], [], []
+    def __init__(self, oracle, seed):
+        self.oracle, self.rng = oracle, random.Random(seed)
+        self.waiting = []
+        self.counts, self.refusals = collections.Counter(), collections.Counter()
+        self.different = 0
 
-    def add(self, name, record, wanted):
-        self.asked.append(record)
-        self.wanted.append(wanted)
-        self.about.append(name)
+    # What is asked.
 
-    def refused_or(self, result, say):
+    def ask(self, name, what, record, wanted, count=1):
+        self.counts[what] += count
+        if wanted.startswith("refused"):
+            self.refusals[int(wanted.split()[1])] += 1
+        self.waiting.append((f"{name}, {what}", record, wanted))
+
+    def said(self, result, say):
         return f"refused {result.number}" if isinstance(result, self.oracle.Refused) else say(result)
 
-    def seen(self, result):
-        condition, kept = result
-        number = {self.oracle.HELD: 0, self.oracle.CURING: 1, self.oracle.SOUND: 2}[condition]
-        return " ".join(map(str, [number, *(x for pair in kept for x in pair)]))
+    def check(self, name, plan):
+        header = [] if len(plan) < 8 else list(vars(self.oracle.unpack_header(plan)).values())[:-1]
+        said = self.said(self.oracle.check(plan), lambda reads: " ".join(map(str, ["reads", reads, *header])))
+        self.ask(name, "Check", b"c" + string(plan), said)
+
+    def text(self, name, plan):
+        wanted = self.oracle.program_output(plan)
+        self.ask(name, "text decoded", b"p" + string(plan), wanted.rstrip("\n").replace("\n", "|"))
+        self.counts["text printed"] += 1
+        printed = subprocess.run([SIMULATE], input=plan, capture_output=True).stdout
+        self.compare(f"{name}, text printed", printed.decode(), wanted)
 
     def play(self, name, plan, buffer, workspace):
-        answers, lent_workspace = lent(buffer), bytearray(LENT_WORKSPACE[workspace])
+        answers, lent_workspace = lent(buffer), bytearray(LENT[workspace])
         result = self.oracle.play(plan, answers, lent_workspace)
-        said = self.refused_or(result, lambda reads: f"reads {reads}")
-        self.add(name, b"b" + string(plan) + numbers(buffer, workspace),
-                 f"{said} {checksum(answers)} {workspace_sum(lent_workspace)}")
+        said = self.said(result, lambda reads: f"reads {reads}")
+        self.ask(name, "Play", b"b" + string(plan) + numbers(buffer, workspace),
+                 f"{said} {hexed(answers)} {state(lent_workspace)}")
+        return bytes(answers)
 
-    def look(self, name, plan, workspace, server, tick):
-        lent_workspace = bytearray(LENT_WORKSPACE[workspace])
+    def look(self, name, plan, workspace, server, tick, pair_buffers):
+        """As many whole pairs as fit stand at the start of a pair buffer; all else of it is as before."""
+        lent_workspace = bytearray(LENT[workspace])
         result = self.oracle.look(plan, lent_workspace, server, tick)
-        said = self.refused_or(result, self.seen)
-        self.add(name, b"l" + string(plan) + numbers(workspace, server, tick),
-                 f"{said} {workspace_sum(lent_workspace)}")
+        kept = [] if isinstance(result, self.oracle.Refused) else result[1]
+        packed = b"".join(struct.pack(">HB", *pair) for pair in kept)
+        said = self.said(result, lambda seen: f"seen {self.condition(seen)} {len(kept)}")
+        for length in pair_buffers:
+            fit = packed[:length // 3 * 3]
+            pairs = fit + lent(length)[len(fit):]
+            self.ask(name, "Look", b"l" + string(plan) + numbers(workspace, server, tick, length),
+                     f"{said} {hexed(pairs)} {state(lent_workspace)}")
 
-    def judge(self, name, plan, answers):
-        result = self.oracle.judge(plan, answers)
-        said = self.refused_or(result, lambda good: "yes" if good else "no")
-        self.add(name, b"j" + string(plan) + string(answers), said)
+    def condition(self, seen):
+        return [self.oracle.HELD, self.oracle.CURING, self.oracle.SOUND].index(seen[0])
 
-    def every_look(self, name, plan):
-        header = self.oracle.unpack_header(plan)
-        cluster = self.oracle.Hall(self.oracle.unpack(plan))
-        text = ""
+    def every_look(self, name, plan, header):
+        self.counts["looked at everywhere"] += 1
+        cluster, text = self.oracle.Hall(self.oracle.unpack(plan)), ""
         for tick in range(header.H):
             cluster.tick(tick)
             for server in range(header.n):
-                text += f"{tick} {server} {self.seen(cluster.look(server))}|"
-        self.add(name, b"t" + string(plan), text)
+                seen = cluster.look(server)
+                shown = [tick, server, self.condition(seen), *(x for pair in seen[1] for x in pair)]
+                text += " ".join(map(str, shown)) + "|"
+        self.ask(name, "Look", b"t" + string(plan), text, count=header.H * header.n)
 
-    def changed_answers(self, plan, answers):
-        """Answers with one field of one of them changed, most often to something near."""
-        taken_apart = self.oracle.unpack(plan)
-        rng, at = self.rng, rng_index(self.rng, len(answers) // 5)
-        fields = list(self.oracle.unpack_answer(answers[5 * at:5 * at + 5]))
+    def judge(self, name, plan, answers):
+        said = self.said(self.oracle.judge(plan, answers), lambda good: "yes" if good else "no")
+        self.counts[f"Judge {said}"] += said in ("yes", "no")
+        self.ask(name, "Judge", b"j" + string(plan) + string(answers), said)
+
+    def altered(self, plan, answers):
+        """Answers with one field of one of them altered, most often to something near."""
+        rng, count = self.rng, len(answers) // ANSWER
+        at = ANSWER * rng.choice([0, count - 1, rng.randrange(count)])
+        begin, reader, value, number, named, zero = self.oracle.unpack_answer(answers[at:at + ANSWER])
         what = rng.randrange(8)
         if what < 4:
-            pairs = [(0, taken_apart.header.start)] + [pair for _, _, pair in taken_apart.writes]
-            fields[3], fields[2] = rng.choice(pairs)
+            taken_apart = self.oracle.unpack(plan)
+            number, value = rng.choice([(0, taken_apart.header.start), *(pair for _, _, pair in taken_apart.writes)])
         elif what == 4:
-            fields[2] = rng.choice([fields[2] ^ 1, rng.randrange(65536)])
+            value = rng.choice([value ^ 1, rng.randrange(65536)])
         elif what == 5:
-            fields[3] = rng.choice([fields[3] ^ 1, rng.randrange(256)])
+            number = rng.choice([number ^ 1, rng.randrange(256)])
         elif what == 6:
-            fields[4] = rng.randrange(32)
+            named = rng.randrange(32)
         else:
-            where, top = rng.choice([(0, 128), (1, 8), (5, 2)])
-            fields[where] = rng.randrange(top)
-        return answers[:5 * at] + self.oracle.pack_answer(*fields) + answers[5 * at + 5:]
+            begin, reader, zero = rng.choice([(rng.randrange(128), reader, zero), (begin, rng.randrange(8), zero), (begin, reader, 1)])
+        return answers[:at] + self.oracle.pack_answer(begin, reader, value, number, named, zero) + answers[at + ANSWER:]
 
     def all_about(self, name, plan):
-        oracle, rng = self.oracle, self.rng
-        printed = oracle.program_output(plan)
-        self.add(name, b"p" + string(plan), printed.rstrip("\n").replace("\n", "|"))
-        reads = oracle.check(plan)
-        if isinstance(reads, oracle.Refused):
-            self.play(name, plan, rng.choice([0, 1, 300]), rng.choice([0, WORKSPACE]))
-            self.look(name, plan, rng.choice([0, WORKSPACE]), rng.randrange(20), rng.randrange(140))
-            self.judge(name, plan, bytes(rng.randrange(256) for _ in range(rng.randrange(12))))
-            return
-        header = oracle.unpack_header(plan)
-        buffer = rng.choice([5 * reads, 5 * reads + 7, max(0, 5 * reads - 1), 0])
-        self.play(name, plan, buffer, rng.choice(list(LENT_WORKSPACE)))
-        server = rng.choice([0, header.n - 1, header.n, 2 ** 32 - 1, rng.randrange(header.n)])
-        tick = rng.choice([0, header.H - 1, header.H, 2 ** 32 - 1, rng.randrange(header.H)])
-        self.look(name, plan, rng.choice(list(LENT_WORKSPACE)), server, tick)
-        if header.n * header.H <= 150:
-            self.every_look(name, plan)
-        answers = bytearray(5 * reads)
-        assert oracle.play(plan, answers, bytearray(WORKSPACE)) == reads
-        answers = bytes(answers)
+        self.check(name, plan)
+        self.text(name, plan)
+        reads = self.oracle.check(plan)
+        accepted = not isinstance(reads, self.oracle.Refused)
+        self.counts["accepted" if accepted else "refused"] += 1
+        if accepted:
+            self.about_accepted(name, plan, reads)
+        else:
+            self.about_refused(name, plan)
+        if len(self.waiting) >= TOGETHER:
+            self.settle()
+
+    def about_refused(self, name, plan):
+        rng = self.rng
+        self.play(name, plan, rng.choice([0, 1, 300]), rng.choice(WORKSPACES))
+        self.look(name, plan, rng.choice(WORKSPACES), rng.randrange(20), rng.randrange(140), [rng.choice(PAIR_BUFFERS)])
+        self.judge(name, plan, bytes(rng.randrange(256) for _ in range(rng.randrange(12))))
+
+    def about_accepted(self, name, plan, reads):
+        rng, exact, header = self.rng, ANSWER * reads, self.oracle.unpack_header(plan)
+        answers = self.play(name, plan, exact, WORKSPACE)
+        self.play(name, plan, rng.choice([exact, exact + 7, max(0, exact - 1), 0]), rng.choice(WORKSPACES))
+        self.look(name, plan, WORKSPACE, rng.randrange(header.n), rng.randrange(header.H), PAIR_BUFFERS)
+        out_of_range = rng.choice([(header.n, 0), (0, header.H), (header.n - 1, rng.choice(FAR)), (rng.choice(FAR), header.H - 1)])
+        self.look(name, plan, rng.choice(WORKSPACES), *out_of_range, [rng.choice(PAIR_BUFFERS)])
+        if header.n * header.H <= LOOKED_AT:
+            self.every_look(name, plan, header)
         self.judge(name, plan, answers)
-        self.judge(name, plan, rng.choice([answers[:-1], answers + b"\0", answers + bytes(5), b""]))
+        self.judge(name, plan, rng.choice([answers[:-1], answers + b"\0", answers + bytes(ANSWER), b""]))
         for _ in range(6 if reads else 0):
-            self.judge(name, plan, self.changed_answers(plan, answers))
+            self.judge(name, plan, self.altered(plan, answers))
+
+    # What is answered.
+
+    def settle(self):
+        asked = b"".join(record for _, record, _ in self.waiting)
+        program = os.path.join(REQUESTS, "target", "release", "requests")
+        got = subprocess.run([program], input=asked, stdout=subprocess.PIPE, check=True).stdout
+        lines = got.decode().splitlines()
+        assert len(lines) == len(self.waiting), (len(lines), len(self.waiting))
+        for (about, _, wanted), line in zip(self.waiting, lines):
+            self.compare(about, line, wanted)
+        self.waiting = []
+
+    def compare(self, about, got, wanted):
+        if got != wanted:
+            self.different += 1
+            if self.different <= MOST_SHOWN:
+                print(f"{about}: got {got[:300]!r}, wanted {wanted[:300]!r}")
+
+    def summary(self):
+        count = self.counts
+        asked = ", ".join(f"{what} {count[what]}" for what in ("Check", "Play", "Look", "Judge", "text printed", "text decoded"))
+        refused = ", ".join(f"{number}: {times}" for number, times in sorted(self.refusals.items()))
+        return (f"{count['accepted'] + count['refused']} plans, {count['accepted']} accepted and {count['refused']} refused; "
+                f"compared: {asked}; every Look of {count['looked at everywhere']} plans; "
+                f"Judge yes {count['Judge yes']}, no {count['Judge no']}; refusals {refused}; "
+                f"{self.different} different")
 
 
-def rng_index(rng, length):
-    return rng.choice([0, length - 1, rng.randrange(length)])
-
-
-def plans(oracle_folder, generate, low, high):
-    folder = os.path.join(oracle_folder, "vectors")
-    for name in sorted(os.listdir(folder)):
+def plans(folder, generate, count, seed):
+    vectors = os.path.join(folder, "vectors")
+    for name in sorted(os.listdir(vectors)):
         if name.endswith(".plan"):
-            with open(os.path.join(folder, name), "rb") as file:
+            with open(os.path.join(vectors, name), "rb") as file:
                 yield name, file.read()
-    for seed in range(low, high):
-        for small in (True, False):
-            for damage in (False, True):
-                name = f"seed {seed}{' small' if small else ''}{' damaged' if damage else ''}"
-                yield name, generate.generate(seed, damage=damage, small=small)
+    for i in range(count):
+        own, small, damage = seed + i // 4, i % 4 < 2, i % 2 == 1
+        name = f"seed {own}{' small' if small else ''}{' damaged' if damage else ''}"
+        yield name, generate.generate(own, damage=damage, small=small)
 
 
-def differences(requests, command):
-    got = subprocess.run(command, input=b"".join(requests.asked), capture_output=True, check=True).stdout
-    lines = got.decode().splitlines()
-    assert len(lines) == len(requests.wanted), (len(lines), len(requests.wanted))
-    count = 0
-    for name, wanted, line, record in zip(requests.about, requests.wanted, lines, requests.asked):
-        if wanted != line:
-            count += 1
-            print(f"{name}, request {record[:1]}: got {line[:300]}, wanted {wanted[:300]}")
-    return count
+def build():
+    """The library, what answers requests with it, and the program; what is built already is not built again."""
+    commands = [["cargo", "build", "--quiet", "--release", "--offline", "--manifest-path", os.path.join(REQUESTS, "Cargo.toml")],
+                ["rt", "check", "simulate"]]
+    if not os.environ.get("LIB_DIR"):
+        commands.insert(0, ["rt", "staticlib", "capi"])
+    for command in commands:
+        subprocess.run(command, cwd=TOP, stdout=subprocess.DEVNULL, check=True)
 
 
-def main(argv):
-    if len(argv) < 2:
-        sys.stderr.write(__doc__)
-        return 2
-    folder, argv = argv[0], argv[1:]
-    low, high = 0, 50
-    if argv[:1] == ["--seeds"]:
-        low, high = int(argv[1]), int(argv[2])
-        argv = argv[3:]
-    sys.path.insert(0, folder)
+def main():
+    first, rest = __doc__.split("\n\n", 1)
+    parser = argparse.ArgumentParser(usage=first, description=rest, formatter_class=argparse.RawDescriptionHelpFormatter)
+    parser.add_argument("folder", help="the other program's folder, with rehearsal.py, generate.py and vectors/")
+    parser.add_argument("--plans", type=int, default=2_000)
+    parser.add_argument("--seed", type=int, default=0)
+    arguments = parser.parse_args()
+    if not os.path.isfile(os.path.join(arguments.folder, "rehearsal.py")):
+        parser.error(f"{arguments.folder} has no rehearsal.py")
+    sys.path.insert(0, arguments.folder)
     import generate
     import rehearsal
-    rng = random.Random(low)
-    different = asked = played = 0
-    said = {}
-    requests = Requests(rehearsal, rng)
-
-    def settle():
-        nonlocal different, asked, requests
-        different += differences(requests, argv)
-        asked += len(requests.asked)
-        for record, wanted in zip(requests.asked, requests.wanted):
-            first = " ".join(wanted.split("|")[0].split()[:2]) if wanted.startswith("refused") else "answered"
-            if record[:1] == b"j" and not wanted.startswith("refused"):
-                first = wanted
-            said[first] = said.get(first, 0) + 1
-        requests = Requests(rehearsal, rng)
-
-    for name, plan in plans(folder, generate, low, high):
-        played += 1
-        requests.all_about(name, plan)
-        if len(requests.asked) >= 2000:
-            settle()
-    settle()
-    print(f"{played} plans, {asked} requests, {different} different;",
-          ", ".join(f"{what}: {count}" for what, count in sorted(said.items())))
-    return 1 if different else 0
+    build()
+    comparison = Comparison(rehearsal, arguments.seed)
+    for name, plan in plans(arguments.folder, generate, arguments.plans, arguments.seed):
+        comparison.all_about(name, plan)
+    comparison.settle()
+    print(comparison.summary())
+    return 1 if comparison.different else 0
 
 
 if __name__ == "__main__":
-    sys.exit(main(sys.argv[1:]))
+    sys.exit(main())

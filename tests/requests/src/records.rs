@@ -1,0 +1,33 @@
+//! Records taken from bytes, front to back.
+
+pub struct Records<'a>(&'a [u8]);
+
+impl<'a> Records<'a> {
+    pub fn of(bytes: &'a [u8]) -> Self {
+        Records(bytes)
+    }
+
+    pub fn is_empty(&self) -> bool {
+        self.0.is_empty()
+    }
+
+    pub fn letter(&mut self) -> Option<u8> {
+        self.bytes(1).map(|bytes| bytes[0])
+    }
+
+    pub fn number(&mut self) -> Option<usize> {
+        let bytes = self.bytes(8)?;
+        Some(bytes.iter().fold(0, |number, &byte| number << 8 | usize::from(byte)))
+    }
+
+    pub fn string(&mut self) -> Option<&'a [u8]> {
+        let length = self.number()?;
+        self.bytes(length)
+    }
+
+    fn bytes(&mut self, length: usize) -> Option<&'a [u8]> {
+        let (bytes, rest) = self.0.split_at_checked(length)?;
+        self.0 = rest;
+        Some(bytes)
+    }
+}
