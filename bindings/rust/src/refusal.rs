@@ -17,9 +17,10 @@ pub enum Refusal {
     PlanLength = 4,
     /// A placement has too many servers, or one that isn't there.
     Placement = 5,
-    /// An operation is out of order or range, overlaps another of its party, or doesn't end in time.
+    /// An operation is out of order, has a wrong party or value, overlaps another of its party or
+    /// ends too late.
     Operation = 6,
-    /// A forged message is out of order or range, or its sender or receiver may not have it.
+    /// A forged message is out of order or has a wrong tick, sender or receiver.
     Forgery = 7,
     /// A delay is out of range, or a final bit is set.
     Delay = 8,
@@ -67,10 +68,10 @@ impl Refusal {
             Refusal::PlanLength => "the plan's length is other than its header implies",
             Refusal::Placement => "a placement has too many servers, or one that isn't there",
             Refusal::Operation => {
-                "an operation is out of order or range, overlaps another of its party, or doesn't end in time"
+                "an operation is out of order, has a wrong party or value, overlaps another of its party or ends too late"
             }
             Refusal::Forgery => {
-                "a forged message is out of order or range, or its sender or receiver may not have it"
+                "a forged message is out of order or has a wrong tick, sender or receiver"
             }
             Refusal::Delay => "a delay is out of range, or a final bit is set",
             Refusal::AnswersShort => "the buffer for answers has under 5 bytes for each read",
