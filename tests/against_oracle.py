@@ -236,7 +236,9 @@ def build():
     if not os.environ.get("LIB_DIR"):
         commands.insert(0, ["rt", "staticlib", "capi"])
     for command in commands:
-        subprocess.run(command, cwd=TOP, stdout=subprocess.DEVNULL, check=True)
+        built = subprocess.run(command, cwd=TOP, stdout=subprocess.PIPE, stderr=subprocess.STDOUT)
+        if built.returncode != 0:
+            sys.exit(f"{' '.join(command)}:\n{built.stdout.decode()}")
 
 
 def main():
