@@ -1,4 +1,4 @@
-//! The cluster carried through its ticks, in document 01's five stages.
+//! The cluster carried through its ticks, in the five stages of docs/RULES.md.
 
 use crate::plan::{Plan, Stamped, MOST_READERS};
 use crate::server::{Server, Store};

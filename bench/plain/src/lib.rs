@@ -1,4 +1,4 @@
-//! Check, Play, Look and Judge of document 01 as an ordinary program: the yardstick for the
+//! Check, Play, Look and Judge of docs/RULES.md as an ordinary program: the yardstick for the
 //! proved library's speed, and the other side of its differential tests. It shares no code
 //! with the library and makes no use of facts proved there.
 
@@ -18,7 +18,7 @@ use plan::Plan;
 
 pub const WORKSPACE_BYTES: usize = 60_000;
 
-/// A refusal by document 01's number.
+/// A refusal by its published number.
 #[derive(Clone, Copy, Debug, PartialEq, Eq)]
 pub struct Refused(pub u8);
 

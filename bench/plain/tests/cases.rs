@@ -1,4 +1,4 @@
-//! The rehearsed cases of document 01.
+//! The rehearsed cases that the definitions are tried on.
 
 use plain::{check, judge, look, play, Condition, Refused, WORKSPACE_BYTES};
 use plans::{Operation, Parts};
