@@ -1,0 +1,10 @@
+-- What was read lies within the buffer.
+use mathlib.Core.List.{List}
+use Prim.Native.Nat.{ℕ}
+use Rattle.io.specs.Counts.{Counts}
+use Rattle.console.specs.declared.Taken.{Taken}
+use Rattle.console.specs.declared.Taken.the-variants.{Bytes, Failed}
+
+abbrev pub Within : Taken → List ℕ → Type 0
+Within (Bytes n) bytes = Counts n bytes
+Within Failed bytes = Unit {0}
