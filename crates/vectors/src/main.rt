@@ -1,133 +1,118 @@
-// Runs Check, Play, Judge and, where there are few, every Look over the plans of the file that the first argument names, and prints what
-// they return. The file is a run of records: four bytes of length, then the plan.
-fn say(word: &[u8], code: usize) {
-    io::write_all(1, word);
-    printing::outcome(code);
-}
+// Runs the operations over the plans of the file that the first argument names, and prints what they return; tests/make_vectors.py says
+// what the file holds and what is printed.
+mod lent;
+mod requests;
+mod shown;
 
-// What Judge says of the first `length` bytes.
-fn judge(plan: &[u8], answers: &[u8], length: usize) {
-    if answers.len() < length {
-        return;
-    }
-    let code = codes::of_judge(simulator::judge::judge(plan, &answers[..length]));
-    if code == 1 {
-        io::write_all(1, b"judge yes\n");
-        return;
-    }
-    if code == 0 {
-        io::write_all(1, b"judge no\n");
-        return;
-    }
-    say(b"judge ", code);
-}
+use libc::STDOUT_FILENO;
+use plan::header::Shape;
 
-// Pair i of those that Look shows: value, number.
-fn pair(pairs: &[u8], i: usize) {
-    if 3 <= i {
-        return;
-    }
-    if pairs.len() < 9 {
-        return;
-    }
-    let at = 24 * i;
-    io::write_all(1, b" ");
-    printing::number(bits::field(pairs, at, 16), b" ");
-    printing::number(bits::field(pairs, at + 16, 8), b"");
-}
+// The most bytes of an input in the file.
+const MOST_BYTES: usize = 100000;
 
-fn pairs_shown(pairs: &[u8], count: usize) {
-    let mut i: usize = 0;
-    while i < count {
-        pair(pairs, i);
-        i += 1;
-    }
-    io::write_all(1, b"\n");
-}
+// No more inputs than these are in the file.
+const MOST_INPUTS: u64 = 10000;
 
-fn look(plan: &[u8], work: &mut [u8], tick: usize, server: usize) {
-    let mut pairs = [0u8; 9];
-    let code = codes::look(plan, work, server, tick, &mut pairs);
-    io::write_all(1, b"look ");
-    printing::number(tick as u64, b" ");
-    printing::number(server as u64, b" ");
-    if codes::REFUSED <= code {
-        printing::outcome(code);
+// A plan with more servers times ticks is not looked at everywhere.
+const MOST_LOOKS: usize = 120;
+
+// A plan's length, and how many requests follow it.
+const HEAD_BYTES: usize = 6;
+
+// Every server after every tick, if they are not too many.
+fn looks(plan: &[u8]) {
+    if plan.len() < Shape::HEADER_BYTES {
         return;
     }
-    printing::number((code % 4) as u64, b"");
-    pairs_shown(&pairs, code / 4);
-}
-
-// Every server after every tick, if they are at most 120.
-fn looks(plan: &[u8], work: &mut [u8]) {
-    if plan.len() < 8 {
-        return;
-    }
-    let n = bits::field(plan, 0, 5) as usize;
-    let ticks = bits::field(plan, 20, 8) as usize;
+    let shape = Shape::read(plan);
+    let n = shape.n as usize;
+    let ticks = shape.ticks as usize;
     if n == 0 {
         return;
     }
     let all = n * ticks;
-    if 120 < all {
+    if MOST_LOOKS < all {
         return;
     }
     let mut i: usize = 0;
     while i < all {
-        look(plan, work, i / n, i % n);
+        look(plan, i / n, i % n);
         i += 1;
     }
 }
 
-// The plan in the first `length` bytes.
-fn run(bytes: &[u8], length: usize, index: u64) {
-    if bytes.len() < length {
-        return;
-    }
-    let plan = &bytes[..length];
-    io::write_all(1, b"plan ");
-    printing::number(index, b"\n");
-    say(b"check ", codes::of_check(plan::check(plan)));
-    let mut answers = [0u8; 1275];
-    let mut work = [0u8; 60000];
-    let code = codes::of_play(simulator::play::play(plan, &mut answers, &mut work));
-    say(b"play ", code);
-    if codes::REFUSED <= code {
-        judge(plan, &answers, 0);
-        return;
-    }
-    printing::lines(plan, &answers, code);
-    judge(plan, &answers, 5 * code);
-    looks(plan, &mut work);
+fn look(plan: &[u8], tick: usize, server: usize) {
+    let mut pairs = [0u8; lent::PAIRS];
+    let mut work = [0u8; lent::WORKSPACE];
+    let code = codes::look(plan, &mut work, server, tick, &mut pairs);
+    shown::word(b"look ");
+    shown::number(tick as u64, b" ");
+    shown::number(server as u64, b" ");
+    shown::seen(code, &pairs);
+    shown::word(b"\n");
 }
 
-// Reads the first `length` bytes, and answers whether they were all there.
-fn fill(fd: i32, bytes: &mut [u8], length: usize) -> bool {
-    if bytes.len() < length {
+// Check, the program's text, Play's answers, Judge and Look of a plan; what Play answered.
+fn run(plan: &[u8], index: u64) -> [u8; lent::ANSWERS] {
+    shown::word(b"plan ");
+    shown::number(index, b"\ncheck ");
+    shown::outcome(codes::of_check(plan::check(plan)));
+    shown::word(b"\n");
+    console::print_text(STDOUT_FILENO, plan);
+    let mut answers = [0u8; lent::ANSWERS];
+    let mut work = [0u8; lent::WORKSPACE];
+    let code = codes::of_play(simulator::play::play(plan, &mut answers, &mut work));
+    if codes::REFUSED <= code {
+        return answers;
+    }
+    shown::word(b"answers");
+    shown::answers(&answers, code);
+    shown::word(b"\n");
+    looks(plan);
+    answers
+}
+
+// The next request. False: it is not there.
+fn ask(fd: i32, plan: &[u8], answers: [u8; lent::ANSWERS]) -> bool {
+    let mut request = [0u8; requests::BYTES];
+    if io::read_full(fd, &mut request) < requests::BYTES {
         return false;
     }
-    io::read_full(fd, &mut bytes[..length]) == length
+    requests::run(plan, answers, request);
+    true
 }
 
-// Runs the next record. False: there is none.
+fn ask_all(fd: i32, plan: &[u8], answers: [u8; lent::ANSWERS], count: usize) {
+    let mut i: usize = 0;
+    while i < count {
+        if !ask(fd, plan, answers) {
+            return;
+        }
+        i += 1;
+    }
+}
+
+// Runs the next plan and its requests. False: there is none.
 fn next(fd: i32, index: u64) -> bool {
-    let mut head = [0u8; 4];
-    if io::read_full(fd, &mut head) < 4 {
+    let mut head = [0u8; HEAD_BYTES];
+    if io::read_full(fd, &mut head) < HEAD_BYTES {
         return false;
     }
     let length = bits::field(&head, 0, 32) as usize;
-    let mut plan = [0u8; 100000];
-    if !fill(fd, &mut plan, length) {
+    let count = bits::field(&head, 32, 16) as usize;
+    let mut bytes = [0u8; MOST_BYTES];
+    if io::read_full(fd, lent::first_mut(&mut bytes, length)) < length {
         return false;
     }
-    run(&plan, length, index);
+    let plan = lent::first(&bytes, length);
+    let answers = run(plan, index);
+    ask_all(fd, plan, answers, count);
     true
 }
 
 fn every(fd: i32) {
     let mut index: u64 = 0;
-    while index < 10000 {
+    while index < MOST_INPUTS {
         if !next(fd, index) {
             return;
         }

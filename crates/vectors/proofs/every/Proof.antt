@@ -1,4 +1,4 @@
--- `every` is safe and ends: the index runs up to 10,000.
+-- `every` is safe and ends: the index runs up to the most inputs.
 use Prim.Native.Nat.{_-_, _≤_}
 use borrow.Author.Needs.{needs}
 use Rattle.vectors.proofs.every.Statement.{statement}

@@ -1,32 +1,33 @@
--- `looks` is safe and ends: i runs up to the number of looks, and the workspace keeps its length.
-use mathlib.Core.Path.{_≡_}
+-- `looks` is safe and ends: i runs up to the number of looks.
 use Prim.Native.Nat.{_-_, _≤_, _<_}
 use native.Mathlib.Nat.{mul-le-mul, lt-of-le-of-lt}
-use lib.ListN.{length}
 use borrow.Author.Needs.{needs}
 use Rattle.vectors.proofs.looks.Statement.{statement}
 use Rattle.vectors.proofs.looks.Tie as tie
 
 abbrev Inv-loop : tie.InvT-loop
-Inv-loop plan work₀ n ticks all i₀ work i = (i ≤ all) × (all ≤ 120) × (0 < n) × (length work ≡ length work₀)
+Inv-loop plan n ticks all i₀ i = (i ≤ all) × (all ≤ 120) × (0 < n)
 
 abbrev μ-loop : tie.MeasureT-loop
-μ-loop plan work₀ n ticks all i₀ work i = all - i
+μ-loop plan n ticks all i₀ i = all - i
 
 returns : tie.Need-returns Inv-loop μ-loop
 returns c = search needs
 
-field-requires : tie.Need-field-requires Inv-loop μ-loop
-field-requires c κs = search needs
+read-requires : tie.Need-read-requires Inv-loop μ-loop
+read-requires c κs = search needs
 
-field-requires-2 : tie.Need-field-requires-2 Inv-loop μ-loop
-field-requires-2 c κs = search needs
+cast-n : tie.Need-cast-n Inv-loop μ-loop
+cast-n c = search needs
+
+cast-ticks : tie.Need-cast-ticks Inv-loop μ-loop
+cast-ticks c = search needs
 
 returns-2 : tie.Need-returns-2 Inv-loop μ-loop
 returns-2 c = search needs
 
 mul-all : tie.Need-mul-all Inv-loop μ-loop
-mul-all c = record { fits = lt-of-le-of-lt (mul-le-mul {n₂ = 31} {m₂ = 255} (search needs) (search needs)) (search needs) }
+mul-all c = record { fits = lt-of-le-of-lt (mul-le-mul {n₂ = 255} {m₂ = 255} (search needs) (search needs)) (search needs) }
 
 returns-3 : tie.Need-returns-3 Inv-loop μ-loop
 returns-3 c = search needs
@@ -52,9 +53,6 @@ loop-less c = search needs
 loop-again : tie.Need-loop-again Inv-loop μ-loop
 loop-again c = search needs
 
-same-length : tie.Need-same-length Inv-loop μ-loop
-same-length c = search needs
-
 returns-4 : tie.Need-returns-4 Inv-loop μ-loop
 returns-4 c = search needs
 
@@ -65,8 +63,9 @@ looks-spec =
     Inv-loop
     μ-loop
     returns
-    field-requires
-    field-requires-2
+    read-requires
+    cast-n
+    cast-ticks
     returns-2
     mul-all
     returns-3
@@ -77,5 +76,4 @@ looks-spec =
     add-i
     loop-less
     loop-again
-    same-length
     returns-4)

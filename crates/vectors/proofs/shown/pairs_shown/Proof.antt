@@ -1,14 +1,14 @@
 -- `pairs_shown` is safe and ends: i runs up to the count.
 use Prim.Native.Nat.{_-_, _≤_}
 use borrow.Author.Needs.{needs}
-use Rattle.vectors.proofs.pairs_shown.Statement.{statement}
-use Rattle.vectors.proofs.pairs_shown.Tie as tie
+use Rattle.vectors.proofs.shown.pairs_shown.Statement.{statement}
+use Rattle.vectors.proofs.shown.pairs_shown.Tie as tie
 
 abbrev Inv-loop : tie.InvT-loop
-Inv-loop pairs count i₀ t4 i = i ≤ count
+Inv-loop pairs count i₀ i = i ≤ count
 
 abbrev μ-loop : tie.MeasureT-loop
-μ-loop pairs count i₀ t4 i = count - i
+μ-loop pairs count i₀ i = count - i
 
 loop-holds : tie.Need-loop-holds Inv-loop μ-loop
 loop-holds c = search needs
@@ -25,26 +25,10 @@ loop-less c = search needs
 loop-again : tie.Need-loop-again Inv-loop μ-loop
 loop-again c = search needs
 
-slice-aggregate-write-all : tie.Need-slice-aggregate-write-all Inv-loop μ-loop
-slice-aggregate-write-all c = search needs
-
-write-all-requires : tie.Need-write-all-requires Inv-loop μ-loop
-write-all-requires c κs = search needs
-
 returns : tie.Need-returns Inv-loop μ-loop
 returns c = search needs
 
 pub pairs-shown-spec : {M : Type 1} → statement M
 pairs-shown-spec =
     tie.close
-    (tie.spec
-    Inv-loop
-    μ-loop
-    loop-holds
-    pair-requires
-    add-i
-    loop-less
-    loop-again
-    slice-aggregate-write-all
-    write-all-requires
-    returns)
+    (tie.spec Inv-loop μ-loop loop-holds pair-requires add-i loop-less loop-again returns)

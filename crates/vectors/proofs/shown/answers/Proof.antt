@@ -1,14 +1,14 @@
--- `lines` is safe and ends: i runs up to m.
+-- `answers` is safe and ends: i runs up to the count.
 use Prim.Native.Nat.{_-_, _≤_}
 use borrow.Author.Needs.{needs}
-use Rattle.printing.proofs.lines.Statement.{statement}
-use Rattle.printing.proofs.lines.Tie as tie
+use Rattle.vectors.proofs.shown.answers.Statement.{statement}
+use Rattle.vectors.proofs.shown.answers.Tie as tie
 
 abbrev Inv-loop : tie.InvT-loop
-Inv-loop plan answers m i₀ i = i ≤ m
+Inv-loop bytes count i₀ i = i ≤ count
 
 abbrev μ-loop : tie.MeasureT-loop
-μ-loop plan answers m i₀ i = m - i
+μ-loop bytes count i₀ i = count - i
 
 loop-holds : tie.Need-loop-holds Inv-loop μ-loop
 loop-holds c = search needs
@@ -28,7 +28,7 @@ loop-again c = search needs
 returns : tie.Need-returns Inv-loop μ-loop
 returns c = search needs
 
-pub lines-spec : {M : Type 1} → statement M
-lines-spec =
+pub answers-spec : {M : Type 1} → statement M
+answers-spec =
     tie.close
     (tie.spec Inv-loop μ-loop loop-holds answer-requires add-i loop-less loop-again returns)
