@@ -163,12 +163,14 @@ pub longest-accepted : checkOf 16 longestPlan ≡ result mostReads
 longest-accepted =
     rw (← reads-are)
     (accepts 16 longestPlan (record {
-      long = rw parts.length-longest tt;
-      header = rw (header-is, passes.in-range) tt;
+      playable = record {
+        long = rw parts.length-longest tt;
+        header = rw (header-is, passes.in-range) tt;
+        size = rw (header-is, parts.length-longest, passes.as-many-moves) tt;
+        placements = rw (header-is, placements-stand) tt;
+        operations = rw (header-is, operations-stand) tt;
+        forgeries = rw (header-is, forgeries-stand) tt;
+        delays = rw (header-is, delays-stand, final-bits-zero) tt;
+      };
       servers = rw (header-is, passes.enough) tt;
-      size = rw (header-is, parts.length-longest, passes.as-many-moves) tt;
-      placements = rw (header-is, placements-stand) tt;
-      operations = rw (header-is, operations-stand) tt;
-      forgeries = rw (header-is, forgeries-stand) tt;
-      delays = rw (header-is, delays-stand, final-bits-zero) tt;
     }))

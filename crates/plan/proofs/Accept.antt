@@ -1,4 +1,4 @@
--- What Check accepts: the eight tests as facts, both ways, and the header's ranges as inequalities.
+-- What Check accepts: the eight tests as facts, both ways; a plan that can be played has the header's ranges as inequalities.
 -- It stands on the definitions of Check.
 use mathlib.Core.Path.{_≡_}
 use mathlib.Core.Bool.{Bool, _&&_}
@@ -13,20 +13,15 @@ use Rattle.register.proofs.Good.{Enough}
 use Rattle.plan.specs.Header.{Header, headerOf, headerBits, bitLength, kIn}
 use Rattle.plan.specs.Packed.{planOf}
 use Rattle.plan.specs.Check.{Outcome, result, unless, checkOf, bytesFor, headerInRange, enoughServers, placementsStand, operationsStand, forgeriesStand, delaysStand, finalBitsZero}
+use Rattle.plan.specs.Playable.{Playable}
 use Rattle.plan.specs.Shape.{Ranged}
 use Rattle.plan.proofs.Tests.{passed}
 use Rattle.plan.proofs.Ranges.{ranged}
 
--- the tests 1 to 8, in order
+-- all eight tests: those that playing needs, and test 3
 pub record Accepted (w : ℕ) (s : List ℕ) : Type 0 where
-  pub long : T (leb (bytesFor (headerBits w)) (length s))
-  pub header : T (headerInRange (headerOf w s))
+  pub playable : Playable w s
   pub servers : T (enoughServers (headerOf w s))
-  pub size : T (eqb (length s) (bytesFor (bitLength w (headerOf w s))))
-  pub placements : T (placementsStand w s (headerOf w s))
-  pub operations : T (operationsStand w s (headerOf w s))
-  pub forgeries : T (forgeriesStand w s (headerOf w s))
-  pub delays : T (delaysStand w s (headerOf w s) && finalBitsZero w s (headerOf w s))
 
 -- a chain of eight tests
 chain : (a b c d e f g h : Bool) → ℕ → Outcome ℕ
@@ -63,14 +58,16 @@ module _ (w : ℕ) (s : List ℕ) where
       (eqb (length s) (bytesFor (bitLength w h))) (placementsStand w s h) (operationsStand w s h) (forgeriesStand w s h)
       (delaysStand w s h && finalBitsZero w s h) (length (planOf w s .reads)) m e in (
         record {
-          long = r .0 .0;
-          header = r .0 .1;
+          playable = record {
+            long = r .0 .0;
+            header = r .0 .1;
+            size = r .0 .3;
+            placements = r .1 .0;
+            operations = r .1 .1;
+            forgeries = r .1 .2;
+            delays = r .1 .3;
+          };
           servers = r .0 .2;
-          size = r .0 .3;
-          placements = r .1 .0;
-          operations = r .1 .1;
-          forgeries = r .1 .2;
-          delays = r .1 .3;
         },
         r .2,
       )
@@ -78,27 +75,33 @@ module _ (w : ℕ) (s : List ℕ) where
   pub accepted : (m : ℕ) → checkOf w s ≡ result m → Accepted w s
   accepted m e = facts m e .0
 
+  -- what is accepted can be played
+  pub playable : (m : ℕ) → checkOf w s ≡ result m → Playable w s
+  playable m e = accepted m e .playable
+
   -- what Check returns is the number of reads
   pub reads-counted : (m : ℕ) → checkOf w s ≡ result m → m ≡ length (planOf w s .reads)
   reads-counted m e = facts m e .1
 
   pub accepts : Accepted w s → checkOf w s ≡ result (length (planOf w s .reads))
   unfolding checkOf chain h
-  accepts A = chain-passes (leb (bytesFor (headerBits w)) (length s)) (headerInRange h) (enoughServers h)
+  accepts A =
+      let Y = A .playable in
+      chain-passes (leb (bytesFor (headerBits w)) (length s)) (headerInRange h) (enoughServers h)
       (eqb (length s) (bytesFor (bitLength w h))) (placementsStand w s h) (operationsStand w s h) (forgeriesStand w s h)
       (delaysStand w s h && finalBitsZero w s h) (length (planOf w s .reads))
-      (A .long) (A .header) (A .servers) (A .size) (A .placements) (A .operations) (A .forgeries) (A .delays)
+      (Y .long) (Y .header) (A .servers) (Y .size) (Y .placements) (Y .operations) (Y .forgeries) (Y .delays)
 
-module _ (w : ℕ) (s : List ℕ) (A : Accepted w s) where
+-- '3 n below (k+3)f+1'
+pub enough : (w : ℕ) (s : List ℕ) → Accepted w s → Enough (planOf w s)
+unfolding enoughServers planOf
+enough w s A = leb→le ((kIn (headerOf w s) + 3) * headerOf w s .f + 1) (headerOf w s .n) (A .servers)
+
+module _ (w : ℕ) (s : List ℕ) (A : Playable w s) where
   -- '2 a header field outside its range'
   pub in-range : Ranged (headerOf w s)
   unfolding headerOf
   in-range = ranged (headerOf w s) (T-eq (headerInRange (headerOf w s)) (A .header)) (omega (arith, field-lt s (28 + w) 8))
-
-  -- '3 n below (k+3)f+1'
-  pub enough : Enough (planOf w s)
-  unfolding enoughServers planOf
-  enough = leb→le ((kIn (headerOf w s) + 3) * headerOf w s .f + 1) (headerOf w s .n) (A .servers)
 
   -- '4 byte length other than the header implies'
   pub exact : length s ≡ bytesFor (bitLength w (headerOf w s))

@@ -1,4 +1,4 @@
--- The forgeries of an accepted plan: each is sent below H by a server that is faulty then, to another server or to a reader whose read is open.
+-- The forgeries of a plan that can be played: each is sent below H by a server that is faulty then, to another server or to a reader whose read is open.
 -- It stands on Accept.
 use mathlib.Core.Path.{_≡_}
 use mathlib.Core.Bool.{Bool, not, _&&_, _||_}
@@ -19,7 +19,7 @@ use Rattle.plan.specs.Packed.{planOf}
 use Rattle.plan.specs.Check.{readOpen, forgeryStands, forgeriesStand}
 use Rattle.plan.proofs.Tests.{all-at}
 use Rattle.plan.proofs.Stamped.{number-stamped}
-use Rattle.plan.proofs.Accept.{Accepted}
+use Rattle.plan.specs.Playable.{Playable}
 
 -- who is placed is a server
 pub placed-below : (w : ℕ) (s : List ℕ) (i b : ℕ) → T (planOf w s .placed i b) → b < headerOf w s .n
@@ -71,7 +71,7 @@ module _ (w : ℕ) (s : List ℕ) (g : Forgery) where
       let number = number-stamped w (fieldOf s (at + 16) w) (fieldOf s (at + 16 + w) 8) (field-lt s (at + 16) w) in
       rw e (field-lt s (at + 7) 4, field-lt s (at + 11) 5, rw number (field-lt s (at + 16 + w) 8))
 
-module _ (w : ℕ) (s : List ℕ) (A : Accepted w s) where
+module _ (w : ℕ) (s : List ℕ) (A : Playable w s) where
   -- a forgery is one of the listed ones, and passed its test
   forgery-test : (g : Forgery) → In g (planOf w s .forged)
       → (i : ℕ) × (i < headerOf w s .forgeries) × (g ≡ forgeryOf w s (headerOf w s) i) × T (forgeryStands w s (headerOf w s) i)

@@ -1,4 +1,4 @@
--- What Check accepts is good: every hypothesis of the register's theorem, from the eight tests.
+-- What can be played is good: every hypothesis of the register's theorem but the bound on n, from the tests of Check without 3.
 -- It stands on the facts of operations, reads and writes, and on the register's laws of counting.
 use mathlib.Core.Path.{_≡_, sym, ap, _∙_}
 use mathlib.Core.Bool.{false, not, _&&_}
@@ -19,17 +19,18 @@ use Rattle.register.proofs.Good.{Good}
 use Rattle.plan.specs.Header.{Header, headerOf, moves, parties}
 use Rattle.plan.specs.Parts.{operationOf, inPlacement, delayOf, isLink}
 use Rattle.plan.specs.Packed.{planOf}
+use Rattle.plan.specs.Playable.{Playable}
 use Rattle.plan.specs.Check.{placementStands, placementsStand, delayStands, delaysStand, finalBitsZero}
 use Rattle.plan.specs.Shape.{Ranged}
 use Rattle.plan.proofs.Tests.{all-at, in-getD}
 use Rattle.plan.proofs.Stamped.{stamped-rises}
-use Rattle.plan.proofs.Accept.{Accepted, in-range}
+use Rattle.plan.proofs.Accept.{in-range}
 use Rattle.plan.proofs.AcceptOperations.{value-lt}
 use Rattle.plan.proofs.AcceptForgeries.{placed-below, forger-placed}
 use Rattle.plan.proofs.AcceptReads.{reads-apart}
 use Rattle.plan.proofs.AcceptWrites.{write-operation, writes-apart}
 
-module _ (w : ℕ) (s : List ℕ) (A : Accepted w s) where
+module _ (w : ℕ) (s : List ℕ) (A : Playable w s) where
   H : Ranged (headerOf w s)
   H = in-range w s A
 

@@ -1,4 +1,4 @@
--- The operations of an accepted plan: each stands, they rise by tick and party, and those of one party are apart.
+-- The operations of a plan that can be played: each stands, they rise by tick and party, and those of one party are apart.
 -- It stands on Accept.
 use mathlib.Core.Path.{_≡_}
 use mathlib.Core.Bool.{Bool, not, _||_}
@@ -15,7 +15,7 @@ use Rattle.plan.specs.Header.{Header, headerOf, operationAt}
 use Rattle.plan.specs.Parts.{Operation, operationOf}
 use Rattle.plan.specs.Check.{endOf, operationRises, operationWaits, operationStands, operationsStand}
 use Rattle.plan.proofs.Tests.{all-at}
-use Rattle.plan.proofs.Accept.{Accepted}
+use Rattle.plan.specs.Playable.{Playable}
 
 -- 'a party is at most s', 'cue 16 (0 for a read)', 'every operation ends below H'
 pub record Stands (h : Header) (o : Operation) : Type 0 where
@@ -31,7 +31,7 @@ pub read-end : (h : Header) (o : Operation) → T (not (eqb (o .party) 0)) → e
 unfolding endOf
 read-end h o t = rw (F-eq (eqb (o .party) 0) t)
 
-module _ (w : ℕ) (s : List ℕ) (A : Accepted w s) where
+module _ (w : ℕ) (s : List ℕ) (A : Playable w s) where
   stands-test : (i : ℕ) → i < headerOf w s .operations → T (operationStands w s (headerOf w s) i)
   unfolding operationsStand
   stands-test i l = all-at (headerOf w s .operations) (operationStands w s (headerOf w s)) (A .operations) i l

@@ -1,4 +1,4 @@
--- The reads of an accepted plan: each is an operation of a reader and ends below H, those of one reader are apart, and they stand in order
+-- The reads of a plan that can be played: each is an operation of a reader and ends below H, those of one reader are apart, and they stand in order
 -- of begin, then reader. It stands on AcceptOperations.
 use mathlib.Core.Path.{_≡_, refl, sym, ap, _∙_}
 use mathlib.Core.Bool.{Bool, true, false, not, cond}
@@ -14,9 +14,10 @@ use Rattle.register.specs.Plan.{Read, readEnd}
 use Rattle.plan.specs.Header.{headerOf}
 use Rattle.plan.specs.Parts.{Operation, operationOf, operationsOf, readsFrom}
 use Rattle.plan.specs.Packed.{planOf}
+use Rattle.plan.specs.Playable.{Playable}
 use Rattle.plan.specs.Check.{endOf}
 use Rattle.plan.proofs.Tests.{getD-in}
-use Rattle.plan.proofs.Accept.{Accepted, in-range}
+use Rattle.plan.proofs.Accept.{in-range}
 use Rattle.plan.proofs.AcceptOperations.{read-end, stands, waits, rises, at-lt}
 
 -- the read that an operation says
@@ -107,7 +108,7 @@ pub record ReadStands (w : ℕ) (s : List ℕ) (r : Read) : Type 0 where
   pub begun-below : r .begun < 128
   pub ends : readEnd (planOf w s) r < headerOf w s .ticks
 
-module _ (w : ℕ) (s : List ℕ) (A : Accepted w s) where
+module _ (w : ℕ) (s : List ℕ) (A : Playable w s) where
   pub read-operation : (r : Read) → In r (planOf w s .reads) → ReadOf (operationOf w s (headerOf w s)) 0 (headerOf w s .operations) r
   unfolding planOf operationsOf
   read-operation r i = read-from (operationOf w s (headerOf w s)) 0 (headerOf w s .operations) (headerOf w s .operations) (omega arith) r i

@@ -1,4 +1,4 @@
--- The writes of an accepted plan: the j-th is numbered j + 1 and is an operation of the writer, each begins after the last one ended, and
+-- The writes of a plan that can be played: the j-th is numbered j + 1 and is an operation of the writer, each begins after the last one ended, and
 -- there are at most 64. It stands on AcceptOperations.
 use mathlib.Core.Path.{_≡_, refl, sym, _∙_}
 use mathlib.Core.Bool.{Bool, true, false, cond}
@@ -15,7 +15,8 @@ use Rattle.plan.specs.Parts.{Operation, operationOf, operationsOf, write
 use Rattle.plan.specs.Packed.{planOf}
 use Rattle.plan.proofs.Tests.{in-getD}
 use Rattle.plan.proofs.Stamped.{number-stamped}
-use Rattle.plan.proofs.Accept.{Accepted, in-range}
+use Rattle.plan.specs.Playable.{Playable}
+use Rattle.plan.proofs.Accept.{in-range}
 use Rattle.plan.proofs.AcceptOperations.{write-end, stands, waits, value-lt}
 
 -- v is the write of an operation, one of those from a on, below b, and has this number
@@ -94,7 +95,7 @@ module _ (w : ℕ) (op : ℕ → Operation) (d : Write) where
           omega (arith, up a (W .index) (W .index-lo) (W .index-hi) (eqb→eq (op a .party) 0 (rw q tt)) (W .by-writer), W .begun-same)
       go true q (suc i) (suc j) l h ih1 ih2 = ih1 i j (omega arith) (omega arith)
 
-module _ (w : ℕ) (s : List ℕ) (A : Accepted w s) where
+module _ (w : ℕ) (s : List ℕ) (A : Playable w s) where
   module _ (d : Write) where
     -- 'the desk's writes are 1, 2, 3 .. in order'
     pub write-operation : (j : ℕ) → j < length (planOf w s .writes)

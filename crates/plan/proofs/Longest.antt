@@ -20,8 +20,8 @@ use Rattle.plan.specs.Shape.{Ranged}
 use Rattle.plan.proofs.Laws.{and-both, or-true, all-at, all-from, table-few}
 use Rattle.register.proofs.Logic.{T-eq}
 use Rattle.register.proofs.Counting.{count-not}
-use Rattle.plan.proofs.Accept.{accepted, reads-counted}
-use Rattle.plan.proofs.Sizes.{accepted-sizes}
+use Rattle.plan.proofs.Accept.{playable, reads-counted}
+use Rattle.plan.proofs.Sizes.{playable-sizes}
 use Rattle.plan.proofs.Reading.{length-reads}
 use Rattle.plan.proofs.Waiting.{ended}
 
@@ -130,9 +130,10 @@ module _ (s : List ℕ) (h : Header) (r : Ranged h) (stand : operationsStand 16 
 pub longest : (s : List ℕ) (m : ℕ) → checkOf 16 s ≡ result m → length s ≤ mostBytes
 longest s m e =
     let h = headerOf 16 s in
-    let z = accepted-sizes s m e in
+    let A = playable 16 s m e in
+    let z = playable-sizes s A in
     let r = z .ranged in
-    let o = operations-few s h r (T-eq (operationsStand 16 s h) (accepted 16 s m e .operations)) in
+    let o = operations-few s h r (T-eq (operationsStand 16 s h) (A .operations)) in
     let t = table-few (h .ticks) (parties h) (omega arith) (omega arith) in
     omega arith
 
@@ -141,6 +142,7 @@ pub most-reads : (s : List ℕ) (m : ℕ) → checkOf 16 s ≡ result m → m �
 unfolding planOf operationsOf party
 most-reads s m e =
     let h = headerOf 16 s in
-    let stand = T-eq (operationsStand 16 s h) (accepted 16 s m e .operations) in
-    let few = reads-of-few s h (accepted-sizes s m e .ranged) stand in
+    let A = playable 16 s m e in
+    let stand = T-eq (operationsStand 16 s h) (A .operations) in
+    let few = reads-of-few s h (playable-sizes s A .ranged) stand in
     rw (reads-counted 16 s m e, length-reads (h .operations) (operationOf 16 s h)) few

@@ -1,4 +1,4 @@
--- What an accepted plan has of sizes: what the code's header functions require.
+-- What a plan that can be played has of sizes: what the code's header functions require.
 -- It stands on what Check accepts and on the ranges of the header.
 use mathlib.Core.Path.{_≡_}
 use mathlib.Core.List.{List}
@@ -8,11 +8,12 @@ use lib.ListN.{length}
 use Rattle.register.proofs.Logic.{T-eq}
 use Rattle.plan.specs.Header.{Header, headerOf, moves, parties, bitLength}
 use Rattle.plan.specs.Limits.{impliedBytes}
-use Rattle.plan.specs.Check.{result, checkOf, bytesFor, headerInRange}
+use Rattle.plan.specs.Check.{bytesFor, headerInRange}
+use Rattle.plan.specs.Playable.{Playable}
 use Rattle.plan.specs.Shape.{Ranged, Sized}
 use Rattle.plan.proofs.Laws.{moves-few, table-few}
 use Rattle.plan.proofs.Ranges.{ranged-header}
-use Rattle.plan.proofs.Accept.{accepted, exact}
+use Rattle.plan.proofs.Accept.{exact}
 
 few : (h : Header) → Ranged h → (moves h ≤ 128) × (bitLength 16 h ≤ 275494)
 unfolding moves
@@ -28,8 +29,7 @@ implied-few h r = omega (arith, few h r)
 pub sizes : (s : List ℕ) (h : Header) → Ranged h → length s ≡ bytesFor (bitLength 16 h) → Sized s h
 sizes s h r e = let z = few h r in record { ranged = r; size = e; moves-hi = z .0; bits-hi = z .1 }
 
-pub accepted-sizes : (s : List ℕ) (m : ℕ) → checkOf 16 s ≡ result m → Sized s (headerOf 16 s)
-accepted-sizes s m e =
-    let A = accepted 16 s m e in
+pub playable-sizes : (s : List ℕ) → Playable 16 s → Sized s (headerOf 16 s)
+playable-sizes s A =
     let h = headerOf 16 s in
     sizes s h (ranged-header s (T-eq (headerInRange h) (A .header))) (exact 16 s A)

@@ -3,6 +3,7 @@ pub mod Limits
 pub mod Parts
 pub mod Packed
 pub mod Check
+pub mod Playable
 pub mod Shape
 pub mod Steps
 pub mod Numbered

@@ -10,7 +10,8 @@ use Rattle.register.specs.Plan.{stamped}
 use Rattle.plan.specs.Header.{Header, headerOf}
 use Rattle.plan.specs.Packed.{planOf}
 use Rattle.plan.specs.Shape.{Ranged}
-use Rattle.plan.proofs.Accept.{Accepted, in-range}
+use Rattle.plan.specs.Playable.{Playable}
+use Rattle.plan.proofs.Accept.{in-range}
 use Rattle.plan.proofs.AcceptGood.{good}
 use Rattle.cluster.specs.declared.Server.{Server}
 use Rattle.cluster.specs.declared.Arrivals.{Arrivals}
@@ -22,7 +23,6 @@ use Rattle.cluster.proofs.StateLaws.{first-state, next-state}
 use Rattle.script.specs.declared.Script.{Script}
 use Rattle.script.specs.Script.{Kept}
 use Rattle.script.specs.Inputs.{Table, Arrive, Moves}
-use Rattle.script.proofs.Forging.{tests-passed}
 use Rattle.script.proofs.Placing.{table, placement-inside}
 use Rattle.script.proofs.Fitting.{script-knows, script-fits, script-sized}
 use Rattle.player.specs.Run.{Ready, Ran}
@@ -39,7 +39,7 @@ kept-ticked F c d work n h T = record { size = T .size; same = λ p l. T .others
 
 pub ready-kept : (s a b : List ℕ) (r : Script) → Kept a b → Ready s a r → Ready s b r
 ready-kept s a b r K R = record {
-  accepts = R .accepts;
+  playable = R .playable;
   room = omega (arith, K .size, R .room);
   before = R .before;
   after = R .after;
@@ -48,8 +48,8 @@ ready-kept s a b r K R = record {
 }
 
 module _ (s work : List ℕ) (r : Script) (R : Ready s work r) where
-  pub tests : Accepted 16 s
-  tests = tests-passed s (R .accepts)
+  pub tests : Playable 16 s
+  tests = R .playable
 
   pub range : Ranged (headerOf 16 s)
   range = in-range 16 s tests
@@ -86,7 +86,7 @@ module _ (s work : List ℕ) (r : Script) (R : Ready s work r) where
       record {
         kept = kept-same work;
         state = first-state (planOf 16 s) (pairAt (r .writes .known)) (r .writes .known .m) (r .shape .initial)
-            (script-knows s (R .before) (R .after) (R .accepts) r (R .scripted)) (ap (λ (v : ℕ). stamped 16 v 0) first) c work S;
+            (script-knows s (R .before) (R .after) (R .playable) r (R .scripted)) (ap (λ (v : ℕ). stamped 16 v 0) first) c work S;
       }
 
   -- tick t, over the workspace that the ticks before it left
@@ -112,7 +112,7 @@ module _ (s work : List ℕ) (r : Script) (R : Ready s work r) where
 
     pub sized : Sized s now t (r .rules) (r .writes .known) (r .links) window
     sized =
-        script-sized s (R .before) (R .after) (R .accepts) r (R .scripted) now kept t under arrivals movement window comes-here moves-here opens-here closes
+        script-sized s (R .before) (R .after) (R .playable) r (R .scripted) now kept t under arrivals movement window comes-here moves-here opens-here closes
         (omega (arith, R .kept .size, R .room))
 
     abbrev fed : Feed
@@ -132,6 +132,6 @@ module _ (s work : List ℕ) (r : Script) (R : Ready s work r) where
     ran-more d work₁ T = record {
       kept = kept-again work now work₁ (before .kept) (kept-ticked fed c d work₁ (r .rules .n) (few-ticks t below) T);
       state = next-state (planOf 16 s) (good 16 s tests) fed (headerOf 16 s .forgeries)
-          (script-fits s (R .before) (R .after) (R .accepts) r (R .scripted) now kept t under arrivals movement window comes-here moves-here opens-here closes)
-          (script-knows s (R .before) (R .after) (R .accepts) r (R .scripted)) c d work₁ T (before .state);
+          (script-fits s (R .before) (R .after) (R .playable) r (R .scripted) now kept t under arrivals movement window comes-here moves-here opens-here closes)
+          (script-knows s (R .before) (R .after) (R .playable) r (R .scripted)) c d work₁ T (before .state);
     }

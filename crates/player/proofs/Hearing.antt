@@ -61,7 +61,7 @@ module _ (s work : List ℕ) (x : Script) (O : Over s work x) (r : Read) (listed
   replies : Replies (planOf 16 s) g m r work s (x .links) window (headerOf 16 s .forgeries)
   replies =
       let R = O .ready in
-      script-replies s (R .before) (R .after) (R .accepts) x (R .scripted) work (R .kept) r listed window opens closes
+      script-replies s (R .before) (R .after) (R .playable) x (R .scripted) work (R .kept) r listed window opens closes
 
   heard : Heard (planOf 16 s) g m r work s (x .links) window (headerOf 16 s .forgeries)
   unfolding forgedReply isFor
@@ -111,7 +111,7 @@ module _ (s work : List ℕ) (x : Script) (O : Over s work x) (r : Read) (listed
   answer-is =
       let R = O .ready in
       answered (planOf 16 s) g m (headerOf 16 s .ticks) r work s (x .links) window (headerOf 16 s .forgeries)
-      (good 16 s (tests s work x R)) (script-knows s (R .before) (R .after) (R .accepts) x (R .scripted)) listed (omega (arith, stands .ends)) (O .state .rows) heard
+      (good 16 s (tests s work x R)) (script-knows s (R .before) (R .after) (R .playable) x (R .scripted)) listed (omega (arith, stands .ends)) (O .state .rows) heard
 
 -- the same as the code has it: from the parts of a script
 module _ (s work : List ℕ) (rules : Rules) (links : Links) (values : List ℕ) (m : ℕ) (starts : List ℕ) (Q : Parts s work rules links values m starts)

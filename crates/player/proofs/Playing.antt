@@ -9,10 +9,11 @@ use native.Mathlib.Omega.{arith}
 use lib.ListN.{length, getD}
 use Rattle.plan.specs.Header.{headerOf}
 use Rattle.plan.specs.Packed.{planOf}
+use Rattle.plan.specs.Playable.{Playable}
 use Rattle.cluster.specs.declared.Server.{Server}
 use Rattle.cluster.specs.Stored.{absent}
 use Rattle.script.specs.declared.Script.{Script}
-use Rattle.script.specs.Script.{Accepts, Scripted}
+use Rattle.script.specs.Script.{Scripted}
 use Rattle.answers.specs.Workspace.{workspaceSize, zeroed}
 use Rattle.player.specs.Run.{Ready, Ran}
 use Rattle.player.specs.Answering.{Over}
@@ -20,10 +21,10 @@ use Rattle.player.specs.Player.{Seen}
 use Rattle.player.proofs.Feeding.{kept-same, ready-kept, range, ticks-same}
 use Rattle.player.proofs.Buffers.{zeroed-same}
 
-module _ (s before after : List ℕ) (r : Script) (accepts : Accepts s) (room : workspaceSize ≤ length before) (scripted : Scripted s before after r) where
+module _ (s before after : List ℕ) (r : Script) (playable : Playable 16 s) (room : workspaceSize ≤ length before) (scripted : Scripted s before after r) where
   pub ready : Ready s after r
   ready = record {
-    accepts = accepts;
+    playable = playable;
     room = omega (arith, scripted .forged .filled .size);
     before = before;
     after = after;

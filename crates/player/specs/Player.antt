@@ -1,4 +1,4 @@
--- What playing and looking leave, for a plan that Check accepts.
+-- What playing and looking leave, for a plan that can be played.
 use mathlib.Core.Path.{_≡_}
 use mathlib.Core.List.{List, _++_}
 use Prim.Native.Nat.{ℕ, suc, _*_}

@@ -1,18 +1,19 @@
--- Playing the ticks of an accepted plan: what is needed, and the state that is reached.
+-- Playing the ticks of a plan that can be played: what is needed, and the state that is reached.
 use mathlib.Core.List.{List}
 use Prim.Native.Nat.{ℕ, _≤_}
 use lib.ListN.{length}
 use Rattle.plan.specs.Packed.{planOf}
+use Rattle.plan.specs.Playable.{Playable}
 use Rattle.cluster.specs.declared.Known.{Known}
 use Rattle.cluster.specs.declared.Server.{Server}
 use Rattle.cluster.specs.Inputs.{pairAt}
 use Rattle.cluster.specs.State.{State}
 use Rattle.script.specs.declared.Script.{Script}
-use Rattle.script.specs.Script.{Accepts, Scripted, Kept}
+use Rattle.script.specs.Script.{Scripted, Kept}
 
--- the script of an accepted plan, whose forged entries stand in the workspace
+-- the script of a plan that can be played, whose forged entries stand in the workspace
 pub record Ready (s work : List ℕ) (r : Script) : Type 0 where
-  pub accepts : Accepts s
+  pub playable : Playable 16 s
   pub room : 24576 ≤ length work
   -- the workspace before and after the script was read
   pub before : List ℕ

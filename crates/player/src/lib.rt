@@ -1,11 +1,11 @@
-// Playing a plan that Check accepts, in a workspace that is large enough.
+// Playing a plan that passes every test of Check but 3, in a workspace that is large enough.
 ghost use Prim.Native.Nat.{_*_, _≤_, _<_};
 ghost use lib.ListN.{length};
 ghost use Rattle.plan.specs.Header.{headerOf};
 ghost use Rattle.plan.specs.Packed.{planOf};
+ghost use Rattle.plan.specs.Playable.{Playable};
 ghost use Rattle.answers.specs.Answers.{answerSize};
 ghost use Rattle.answers.specs.Workspace.{workspaceSize};
-ghost use Rattle.script.specs.Script.{Accepts};
 ghost use Rattle.player.specs.Player.{Answered, Seen};
 use cluster::Server;
 
@@ -14,7 +14,7 @@ pub mod run;
 
 // Plays all ticks, writes the answers and zeroes the workspace.
 pub fn play(plan: &[u8], answers: &mut [u8], work: &mut [u8])
-    requires { ⌜ Accepts (now plan) × (answerSize 16 * length (planOf 16 (now plan) .reads) ≤ length (now answers)) × (workspaceSize ≤ length (now work)) ⌝ }
+    requires { ⌜ Playable 16 (now plan) × (answerSize 16 * length (planOf 16 (now plan) .reads) ≤ length (now answers)) × (workspaceSize ≤ length (now work)) ⌝ }
     ensures { λ _. ⌜ Answered (now (plan .entry)) (now (answers .entry)) (now (answers .exit)) (now (work .entry)) (now (work .exit)) ⌝ }
 {
     let script = script::read(plan, work);
@@ -26,7 +26,7 @@ pub fn play(plan: &[u8], answers: &mut [u8], work: &mut [u8])
 
 // A server after a tick; the workspace is zeroed.
 pub fn look(plan: &[u8], work: &mut [u8], server: usize, tick: u8) -> Server
-    requires { ⌜ Accepts (now plan) × (workspaceSize ≤ length (now work)) × (server < headerOf 16 (now plan) .n) × (tick < headerOf 16 (now plan) .ticks) ⌝ }
+    requires { ⌜ Playable 16 (now plan) × (workspaceSize ≤ length (now work)) × (server < headerOf 16 (now plan) .n) × (tick < headerOf 16 (now plan) .ticks) ⌝ }
     ensures { λ r. ⌜ Seen (now (plan .entry)) server tick r (now (work .entry)) (now (work .exit)) ⌝ }
 {
     let script = script::read(plan, work);

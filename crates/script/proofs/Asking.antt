@@ -19,7 +19,7 @@ use Rattle.plan.specs.Header.{headerOf}
 use Rattle.plan.specs.Parts.{isLink}
 use Rattle.plan.specs.Packed.{planOf}
 use Rattle.plan.proofs.Tests.{getD-in, in-getD}
-use Rattle.plan.proofs.Accept.{Accepted}
+use Rattle.plan.specs.Playable.{Playable}
 use Rattle.plan.proofs.AcceptReads.{read-stands, reads-apart, reads-rise}
 use Rattle.cluster.specs.declared.Links.{Links}
 use Rattle.script.specs.Operations.{noRead, ReadIn}
@@ -35,7 +35,7 @@ refuted : (b : Bool) → (T b → ⊥) → b ≡ false
 refuted true f = absurd (f tt)
 refuted false f = refl
 
-module _ (s : List ℕ) (A : Accepted 16 s) (begun reader : List ℕ) (q : ℕ) (Q : ReadIn (planOf 16 s .reads) begun reader q) where
+module _ (s : List ℕ) (A : Playable 16 s) (begun reader : List ℕ) (q : ℕ) (Q : ReadIn (planOf 16 s .reads) begun reader q) where
   -- read k of the tables
   abbrev readAt : ℕ → Read
   readAt k = record { begun = getD begun k 0; reader = getD reader k 0 }

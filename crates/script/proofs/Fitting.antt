@@ -19,7 +19,8 @@ use Rattle.register.specs.Reading.{sameRead}
 use Rattle.plan.specs.Header.{headerOf, parties}
 use Rattle.plan.specs.Parts.{inPlacement}
 use Rattle.plan.specs.Packed.{planOf}
-use Rattle.plan.proofs.Accept.{Accepted, in-range}
+use Rattle.plan.specs.Playable.{Playable}
+use Rattle.plan.proofs.Accept.{in-range}
 use Rattle.plan.proofs.AcceptReads.{read-stands}
 use Rattle.cluster.specs.declared.Arrivals.{Arrivals}
 use Rattle.cluster.specs.declared.Movement.{Movement}
@@ -31,11 +32,10 @@ use Rattle.cluster.proofs.BitLaws.{bit-shift}
 use Rattle.script.specs.declared.Script.{Script}
 use Rattle.script.specs.Inputs.{Arrive, Moves}
 use Rattle.script.specs.Forged.{Entry, Starts}
-use Rattle.script.specs.Script.{Accepts, messageOf, messageDelay, messageNumber, Scripted, Kept}
+use Rattle.script.specs.Script.{messageOf, messageDelay, messageNumber, Scripted, Kept}
 use Rattle.script.proofs.Arriving.{reach}
 use Rattle.script.proofs.Placing.{table, link-delay}
 use Rattle.script.proofs.Messages.{sender-below, other-link}
-use Rattle.script.proofs.Forging.{tests-passed}
 use Rattle.script.proofs.Knowing.{knows, wrote-last}
 use Rattle.script.proofs.Asking.{latest-is, asked-latest}
 use Rattle.script.proofs.Naming.{votes-named}
@@ -74,12 +74,8 @@ module _ (s after work values : List ℕ) (m : ℕ) (K : Kept after work) where
     };
   }
 
-module _ (s before after : List ℕ) (C : Accepts s) (r : Script) (R : Scripted s before after r) where
-  A : Accepted 16 s
-  A = tests-passed s C
-
+module _ (s before after : List ℕ) (A : Playable 16 s) (r : Script) (R : Scripted s before after r) where
   pub script-knows : Knows (planOf 16 s) (pairAt (r .writes .known)) (r .writes .known .m)
-  unfolding A
   script-knows = knows s A (r .writes .known) (r .writes .begun) (R .writes)
 
   module _ (work : List ℕ) (K : Kept after work) (t : ℕ) (below : t < headerOf 16 s .ticks) (arrivals : Arrivals) (movement : Movement) (window : Window)
@@ -93,34 +89,33 @@ module _ (s before after : List ℕ) (C : Accepts s) (r : Script) (R : Scripted 
     S = starts-kept s after work (r .writes .known .values) (r .writes .known .m) K (r .starts) (R .forged .started)
 
     faulty-placed : isMove (planOf 16 s) t ≡ true → (b : ℕ) → b < planOf 16 s .n → bit (15 - b) (movement .faulty) ≡ planOf 16 s .placed (t / planOf 16 s .period) b
-    unfolding isMove planOf inPlacement A
+    unfolding isMove planOf inPlacement
     faulty-placed e b l =
         let p = headerOf 16 s .period in
         let h : t / p * p < headerOf 16 s .ticks = omega (arith, div-mul-le-self t p) in
         rw (moves .faulty (moves .moving ∙ e), placed-bit s (64 + 16 * (t / p)) b (omega (arith, in-range 16 s A .n-hi)), lt-ltb (t / p * p) (headerOf 16 s .ticks) h, lt-ltb b (headerOf 16 s .n) l)
 
     delays : (u i b : ℕ) → u < t → i < planOf 16 s .n → b < planOf 16 s .n → (i ≡ b → ⊥) → delayAt s (r .links) u i b ≡ planOf 16 s .delay u i b
-    unfolding A planOf
+    unfolding planOf
     delays u i b lu li lb d =
         link-delay s A (r .links) (R .links) u i b (omega arith) (omega arith) (omega arith) (other-link (headerOf 16 s .n) i b li (λ z. d (sym z)) (λ z. omega arith))
 
     wrote : (b j : ℕ) → b < planOf 16 s .n → j < r .writes .known .m
         → member (pairAt (r .writes .known) j) (writesIn (planOf 16 s) t b) ≡ eqb j (getD (arrivals .wrote) b 0)
-    unfolding A planOf
+    unfolding planOf
     wrote b j lb lj =
         wrote-last s A (r .writes .known) (r .writes .begun) (R .writes) (r .links) (R .links) t below b lb (comes .latest) (comes .is-latest) j lj
         ∙ sym (ap (eqb j) (comes .wrote b lb))
 
     asks : (b : ℕ) (q : Read) → b < planOf 16 s .n → In q (planOf 16 s .reads) → q .begun < t → t ≤ readEnd (planOf 16 s) q
         → any (sameRead q) (readsIn (planOf 16 s) t b) ≡ bit (q .reader) (getD (arrivals .asks) b 0)
-    unfolding A planOf
+    unfolding planOf
     asks b q lb iq begun lasts =
         let Q = read-stands 16 s A q iq in
         asked-latest s A (r .reads .begun) (r .reads .reader) (r .reads .m) (R .reads) t q iq (r .links) (R .links) below b lb begun lasts
         ∙ sym (comes .asks b (q .reader) lb (Q .reader-lo) (omega (arith, Q .reader-hi, R .links .parties)))
 
     live : (q : Read) → In q (planOf 16 s .reads) → q .begun < t → t ≤ readEnd (planOf 16 s) q → bit (q .reader) (arrivals .live) ≡ not (eqb (suc (q .begun)) t)
-    unfolding A
     live q iq begun lasts =
         comes .live (q .reader) (read-stands 16 s A q iq .reader-below)
         ∙ ap (λ (v : ℕ). not (eqb v t)) (latest-is s A (r .reads .begun) (r .reads .reader) (r .reads .m) (R .reads) t q iq begun lasts)
@@ -129,7 +124,7 @@ module _ (s before after : List ℕ) (C : Accepts s) (r : Script) (R : Scripted 
     lasting q iq begun lasts = live q iq (omega arith) lasts ∙ ap not (ne-eqb (suc (q .begun)) t (λ z. omega arith))
 
     began : (q : Read) → In q (planOf 16 s .reads) → suc (q .begun) ≡ t → bit (q .reader) (arrivals .live) ≡ false
-    unfolding A planOf
+    unfolding planOf
     began q iq e = live q iq (omega arith) (omega (arith, in-range 16 s A .delta-lo)) ∙ ap not (eq-eqb (suc (q .begun)) t e)
 
     forged : (b i j : ℕ) → b < planOf 16 s .n → i < planOf 16 s .n → j < r .writes .known .m
@@ -137,15 +132,13 @@ module _ (s before after : List ℕ) (C : Accepts s) (r : Script) (R : Scripted 
     forged b i j lb li lj = votes-named s (r .writes .known) (R .writes .few) (R .writes .small) work E i j lj t b
 
     senders : (e : ℕ) → e < headerOf 16 s .forgeries → entryAt work e 3 < planOf 16 s .n
-    unfolding A planOf
+    unfolding planOf
     senders e l = rw (E e l .sender) (sender-below s A e l)
 
     few-ticks : t < 128
-    unfolding A
     few-ticks = omega (arith, in-range 16 s A .ticks-hi)
 
     earlier : (e : ℕ) → e < window .from → (entryAt work e 1 ≡ t → ⊥)
-    unfolding A
     earlier e l z =
         let v = r .writes .known .values in
         let m = r .writes .known .m in
@@ -156,7 +149,6 @@ module _ (s before after : List ℕ) (C : Accepts s) (r : Script) (R : Scripted 
         omega (arith, sent-earlier s A work v m E (r .starts) S u lu e f, arrives-after s A work v m E (r .starts) S e le .1)
 
     later : (e : ℕ) → window .to ≤ e → e < headerOf 16 s .forgeries → (entryAt work e 1 ≡ t → ⊥)
-    unfolding A
     later e l h z =
         let v = r .writes .known .values in
         let m = r .writes .known .m in
@@ -167,7 +159,7 @@ module _ (s before after : List ℕ) (C : Accepts s) (r : Script) (R : Scripted 
         )
 
     pub script-fits : Fits (planOf 16 s) t s work (r .rules) (r .writes .known) (r .links) arrivals movement window (headerOf 16 s .forgeries)
-    unfolding A planOf isMove
+    unfolding planOf isMove
     script-fits = record {
       n = R .rules .n;
       delta = R .rules .delta;
@@ -189,7 +181,6 @@ module _ (s before after : List ℕ) (C : Accepts s) (r : Script) (R : Scripted 
     }
 
     pub script-sized : 24576 ≤ length after → Sized s work t (r .rules) (r .writes .known) (r .links) window
-    unfolding A
     script-sized room =
         let v = r .writes .known .values in
         let m = r .writes .known .m in

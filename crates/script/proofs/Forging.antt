@@ -13,21 +13,19 @@ use Rattle.plan.specs.declared.header.Shape.{Shape}
 use Rattle.plan.specs.Header.{headerOf, operationAt}
 use Rattle.plan.specs.Shape.{Ranged, shape}
 use Rattle.plan.proofs.Stamped.{value-stamped, number-stamped}
-use Rattle.plan.proofs.Accept.{Accepted, accepted, in-range}
+use Rattle.plan.specs.Playable.{Playable}
+use Rattle.plan.proofs.Accept.{in-range}
 use Rattle.cluster.specs.declared.Links.{Links}
 use Rattle.cluster.specs.Layout.{delayAt}
 use Rattle.script.specs.Forged.{forgedBits, delayOf, Fillable, Entry, Filled, Starts}
-use Rattle.script.specs.Script.{Accepts, LinksOf, messageOf, messageDelay, messageNumber, Forged}
+use Rattle.script.specs.Script.{LinksOf, messageOf, messageDelay, messageNumber, Forged}
 use Rattle.script.specs.Forged as F
 use Rattle.script.proofs.Entries.{reach-same}
 use Rattle.script.proofs.Placing.{bits-inside, link-delay}
 use Rattle.script.proofs.Messages.{sent-below, sender-below, on-link, message-reach, part-message}
 
-pub tests-passed : (s : List ℕ) → Accepts s → Accepted 16 s
-tests-passed s c = accepted 16 s (c .reads) (c .accepted)
-
-pub shape-ranged : (s : List ℕ) → Accepts s → (x : Shape) → shape x ≡ headerOf 16 s → Ranged (shape x)
-shape-ranged s c x e = rw e (in-range 16 s (tests-passed s c))
+pub shape-ranged : (s : List ℕ) → Playable 16 s → (x : Shape) → shape x ≡ headerOf 16 s → Ranged (shape x)
+shape-ranged s c x e = rw e (in-range 16 s c)
 
 pub links-same : (s : List ℕ) (x : Shape) (links : Links) → shape x ≡ headerOf 16 s → LinksOf (shape x) links → LinksOf (headerOf 16 s) links
 links-same s x links e L = rw e at L
@@ -35,7 +33,7 @@ links-same s x links e L = rw e at L
 entry-same : (work : List ℕ) (e : ℕ) (g g′ : Forgery) (d d′ k k′ : ℕ) → g ≡ g′ → d ≡ d′ → k ≡ k′ → Entry work e g d k → Entry work e g′ d′ k′
 entry-same work e g g′ d d′ k k′ p q r E = rw (← p, ← q, ← r) E
 
-module _ (s : List ℕ) (A : Accepted 16 s) (at count : ℕ) (starts-at : at ≡ operationAt 16 (headerOf 16 s) (headerOf 16 s .operations))
+module _ (s : List ℕ) (A : Playable 16 s) (at count : ℕ) (starts-at : at ≡ operationAt 16 (headerOf 16 s) (headerOf 16 s .operations))
     (counted : count ≡ headerOf 16 s .forgeries) where
   abbrev part : List ℕ
   part = take (length s - at / 8) (drop (at / 8) s)

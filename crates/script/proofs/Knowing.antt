@@ -19,7 +19,8 @@ use Rattle.plan.specs.Parts.{isLink}
 use Rattle.plan.specs.Packed.{planOf}
 use Rattle.plan.proofs.Tests.{getD-in, in-getD}
 use Rattle.plan.proofs.Stamped.{number-stamped}
-use Rattle.plan.proofs.Accept.{Accepted, in-range}
+use Rattle.plan.specs.Playable.{Playable}
+use Rattle.plan.proofs.Accept.{in-range}
 use Rattle.plan.proofs.AcceptWrites.{writes-apart}
 use Rattle.plan.proofs.AcceptGood.{delay-range}
 use Rattle.cluster.specs.declared.Known.{Known}
@@ -39,7 +40,7 @@ taken : (j l : ℕ) (c : Bool) → j < 255 → T (eqb j (cond c l 255)) → (j �
 taken j l true h t = (eqb→eq j l t, tt)
 taken j l false h t = absurd (omega (arith, eqb→eq j 255 t))
 
-module _ (s : List ℕ) (A : Accepted 16 s) (known : Known) (begun : List ℕ)
+module _ (s : List ℕ) (A : Playable 16 s) (known : Known) (begun : List ℕ)
     (W : Written (planOf 16 s .writes) (headerOf 16 s .initial) (known .values) begun (known .m)) where
   write-numbered : (w : Write) → In w (planOf 16 s .writes) → (j : ℕ) × (1 ≤ j) × (j < known .m) × (w .pair ≡ pairAt known j) × (w .begun ≡ getD begun j 0)
   write-numbered w h =

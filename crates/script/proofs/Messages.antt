@@ -18,7 +18,7 @@ use Rattle.plan.specs.Parts.{forgeryOf, isLink}
 use Rattle.plan.specs.Packed.{planOf}
 use Rattle.plan.specs.Check.{forgeryRises, forgeryStands, forgeriesStand}
 use Rattle.plan.proofs.Tests.{all-at}
-use Rattle.plan.proofs.Accept.{Accepted}
+use Rattle.plan.specs.Playable.{Playable}
 use Rattle.plan.proofs.AcceptReads.{read-stands}
 use Rattle.plan.proofs.AcceptForgeries.{ForgedVote, ForgedReply, placed-below, forger-placed, forged-below, forged-to}
 use Rattle.cluster.specs.declared.Links.{Links}
@@ -39,7 +39,7 @@ pub other-link : (n i b : ℕ) → i < n → (b ≡ i → ⊥) → (b ≡ n → 
 unfolding isLink
 other-link n i b l d e = rw (lt-ltb i n l, ne-eqb i b (λ z. d (sym z)), ne-eqb b n e) tt
 
-module _ (s : List ℕ) (A : Accepted 16 s) where
+module _ (s : List ℕ) (A : Playable 16 s) where
   servers : planOf 16 s .n ≡ headerOf 16 s .n
   unfolding planOf
   servers = refl

@@ -14,7 +14,8 @@ use Rattle.plan.specs.Header.{headerOf, moves, parties, bitLength}
 use Rattle.plan.specs.Parts.{operationOf, operationsOf, delayOf, isLink, writesFrom, readsFrom}
 use Rattle.plan.specs.Packed.{planOf}
 use Rattle.plan.proofs.Laws.{moves-few}
-use Rattle.plan.proofs.Accept.{Accepted, in-range, exact}
+use Rattle.plan.specs.Playable.{Playable}
+use Rattle.plan.proofs.Accept.{in-range, exact}
 use Rattle.plan.proofs.AcceptWrites.{few-writes}
 use Rattle.cluster.specs.declared.Links.{Links}
 use Rattle.cluster.specs.Layout.{linkBit, delayAt}
@@ -22,7 +23,7 @@ use Rattle.script.specs.Operations.{opAt, Room}
 use Rattle.script.specs.Inputs.{Table}
 use Rattle.script.specs.Script.{LinksOf}
 
-module _ (s : List ℕ) (A : Accepted 16 s) where
+module _ (s : List ℕ) (A : Playable 16 s) where
   -- all the plan's bits are there
   pub bits-inside : bitLength 16 (headerOf 16 s) ≤ 8 * length s
   bits-inside = omega (arith, exact 16 s A)

@@ -14,7 +14,8 @@ use Rattle.register.specs.Reading.{forgedTo}
 use Rattle.plan.specs.Header.{headerOf}
 use Rattle.plan.specs.Packed.{planOf}
 use Rattle.plan.proofs.Tests.{getD-in}
-use Rattle.plan.proofs.Accept.{Accepted, in-range}
+use Rattle.plan.specs.Playable.{Playable}
+use Rattle.plan.proofs.Accept.{in-range}
 use Rattle.plan.proofs.AcceptReads.{ReadStands, read-stands}
 use Rattle.cluster.specs.declared.Links.{Links}
 use Rattle.cluster.specs.declared.Window.{Window}
@@ -24,11 +25,10 @@ use Rattle.script.specs.declared.Script.{Script}
 use Rattle.script.specs.Operations.{noRead}
 use Rattle.script.specs.Inputs.{Reach}
 use Rattle.script.specs.Forged.{Entry, Starts}
-use Rattle.script.specs.Script.{Accepts, messageOf, messageDelay, messageNumber, Scripted, Kept}
+use Rattle.script.specs.Script.{messageOf, messageDelay, messageNumber, Scripted, Kept}
 use Rattle.script.proofs.Arriving.{reach}
 use Rattle.script.proofs.Placing.{table, link-delay}
 use Rattle.script.proofs.Messages.{sender-below, other-link}
-use Rattle.script.proofs.Forging.{tests-passed}
 use Rattle.script.proofs.Naming.{replies-named}
 use Rattle.script.proofs.Windows.{arrives-after, start-few, sent-earlier, sent-later, starts-rise}
 use Rattle.script.proofs.Fitting.{entries-kept, starts-kept}
@@ -52,15 +52,11 @@ pub record Replies (P : Plan) (g : ℕ → ℕ) (m : ℕ) (q : Read) (work plan 
   pub earlier : (e : ℕ) → e < window .from → entryAt work e 0 < q .begun
   pub later : (e : ℕ) → window .to ≤ e → e < nf → readEnd P q < entryAt work e 1
 
-module _ (s before after : List ℕ) (C : Accepts s) (r : Script) (R : Scripted s before after r) where
-  A : Accepted 16 s
-  A = tests-passed s C
-
+module _ (s before after : List ℕ) (A : Playable 16 s) (r : Script) (R : Scripted s before after r) where
   pub reads-counted : r .reads .m ≡ length (planOf 16 s .reads)
   reads-counted = R .reads .count
 
   pub script-reads : (k : ℕ) → k < r .reads .m → ReadAt s r k
-  unfolding A
   script-reads k l =
       let e = R .reads .each k l in
       let i = rw e at (getD-in (planOf 16 s .reads) k noRead (omega (arith, R .reads .count))) in
@@ -75,7 +71,7 @@ module _ (s before after : List ℕ) (C : Accepts s) (r : Script) (R : Scripted 
     S = starts-kept s after work (r .writes .known .values) (r .writes .known .m) K (r .starts) (R .forged .started)
 
     pub script-replies : Replies (planOf 16 s) (pairAt (r .writes .known)) (r .writes .known .m) q work s (r .links) window (headerOf 16 s .forgeries)
-    unfolding A planOf
+    unfolding planOf
     script-replies =
         let v = r .writes .known .values in
         let m = r .writes .known .m in

@@ -10,16 +10,16 @@ use Rattle.plan.specs.declared.header.Shape.{Shape}
 use Rattle.plan.specs.Header.{Header, headerOf, moves}
 use Rattle.plan.specs.Parts.{writesFrom, readsFrom}
 use Rattle.plan.specs.Packed.{planOf}
+use Rattle.plan.specs.Playable.{Playable}
 use Rattle.plan.specs.Shape.{shape}
 use Rattle.script.specs.declared.Script.{Script}
 use Rattle.script.specs.Operations.{opAt, Room, Written, ReadIn}
-use Rattle.script.specs.Script.{Accepts, RulesOf, LinksOf, Forged, Scripted}
+use Rattle.script.specs.Script.{RulesOf, LinksOf, Forged, Scripted}
 use Rattle.script.proofs.Placing.{writes-there, reads-there, room}
-use Rattle.script.proofs.Forging.{tests-passed}
 
-module _ (s : List ℕ) (C : Accepts s) where
+module _ (s : List ℕ) (A : Playable 16 s) where
   pub header-there : 8 ≤ length s
-  header-there = leb→le 8 (length s) (tests-passed s C .long)
+  header-there = leb→le 8 (length s) (A .long)
 
   module _ (x : Shape) (same : shape x ≡ headerOf 16 s) (at : ℕ) (starts-at : at ≡ 64 + 16 * moves (shape x)) where
     first-bit : at ≡ 64 + 16 * moves (headerOf 16 s)
@@ -29,13 +29,13 @@ module _ (s : List ℕ) (C : Accepts s) where
     counted = ap (λ (h : Header). h .operations) same
 
     pub operations-room : Room s at (x .operations)
-    operations-room = rw (first-bit, counted) (room s (tests-passed s C))
+    operations-room = rw (first-bit, counted) (room s A)
 
     writes-same : writesFrom 16 1 (tab (x .operations) (opAt s at)) ≡ planOf 16 s .writes
-    writes-same = rw (first-bit, counted) (sym (writes-there s (tests-passed s C)))
+    writes-same = rw (first-bit, counted) (sym (writes-there s A))
 
     reads-same : readsFrom (tab (x .operations) (opAt s at)) ≡ planOf 16 s .reads
-    reads-same = rw (first-bit, counted) (sym (reads-there s (tests-passed s C)))
+    reads-same = rw (first-bit, counted) (sym (reads-there s A))
 
     pub scripted : (before after : List ℕ) (r : Script) → r .shape ≡ x → RulesOf (shape x) (r .rules) → LinksOf (shape x) (r .links)
         → Written (writesFrom 16 1 (tab (x .operations) (opAt s at))) (x .initial) (r .writes .known .values) (r .writes .begun) (r .writes .known .m)

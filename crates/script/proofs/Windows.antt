@@ -6,14 +6,14 @@ use native.Mathlib.Omega.{arith}
 use native.Mathlib.Decide.{decLe}
 use lib.ListN.{getD}
 use Rattle.plan.specs.Header.{headerOf}
-use Rattle.plan.proofs.Accept.{Accepted}
+use Rattle.plan.specs.Playable.{Playable}
 use Rattle.plan.proofs.AcceptGood.{delay-range}
 use Rattle.cluster.specs.Layout.{entryAt}
 use Rattle.script.specs.Forged.{Entry, Starts}
 use Rattle.script.specs.Script.{messageOf, messageDelay, messageNumber}
 use Rattle.script.proofs.Messages.{messages-rise}
 
-module _ (s : List ℕ) (A : Accepted 16 s) (work values : List ℕ) (m : ℕ)
+module _ (s : List ℕ) (A : Playable 16 s) (work values : List ℕ) (m : ℕ)
     (E : (e : ℕ) → e < headerOf 16 s .forgeries → Entry work e (messageOf s e) (messageDelay s e) (messageNumber s values m e))
     (starts : List ℕ) (S : Starts work (headerOf 16 s .forgeries) starts) where
   -- an entry arrives one to δ ticks after it was sent

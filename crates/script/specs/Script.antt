@@ -8,18 +8,12 @@ use Rattle.register.specs.Plan.{Forgery, valueOf, numberOf}
 use Rattle.plan.specs.Header.{Header, headerOf, forgeryAt, parties, kIn}
 use Rattle.plan.specs.Parts.{forgeryOf}
 use Rattle.plan.specs.Packed.{planOf}
-use Rattle.plan.specs.Check.{result, checkOf}
 use Rattle.plan.specs.Shape.{shape}
 use Rattle.cluster.specs.declared.Rules.{Rules}
 use Rattle.cluster.specs.declared.Links.{Links}
 use Rattle.script.specs.declared.Script.{Script}
 use Rattle.script.specs.Operations.{Written, ReadIn}
 use Rattle.script.specs.Forged.{numberIn, Filled, Starts}
-
--- Check accepts the plan
-pub record Accepts (s : List ℕ) : Type 0 where
-  pub reads : ℕ
-  pub accepted : checkOf 16 s ≡ result reads
 
 pub record RulesOf (h : Header) (r : Rules) : Type 0 where
   pub n : r .n ≡ h .n

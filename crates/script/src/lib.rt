@@ -1,10 +1,11 @@
-// A plan that Check accepts, decoded once for playing, and what each tick of the engine is fed.
+// A plan that can be played, decoded once for playing, and what each tick of the engine is fed.
 ghost use mathlib.Core.Path.{_≡_};
 ghost use Prim.Native.Nat.{_≤_};
 ghost use lib.ListN.{length};
 ghost use Rattle.plan.specs.Header.{headerOf};
+ghost use Rattle.plan.specs.Playable.{Playable};
 ghost use Rattle.plan.specs.Shape.{Ranged, shape};
-ghost use Rattle.script.specs.Script.{Accepts, RulesOf, LinksOf, Forged, Scripted};
+ghost use Rattle.script.specs.Script.{RulesOf, LinksOf, Forged, Scripted};
 use cluster::Links;
 use cluster::Rules;
 use operations::Reads;
@@ -49,7 +50,7 @@ fn links_of(header: Shape) -> Links
 
 // The forged entries, into the workspace, and where those of each tick start. The forged part is read from the byte that holds its first bit.
 fn forge(plan: &[u8], work: &mut [u8], header: Shape, links: Links, writes: Writes) -> [u16; 129]
-    requires { ⌜ Accepts (now plan) × (shape header ≡ headerOf 16 (now plan)) × LinksOf (shape header) links × (24576 ≤ length (now work)) × (writes .known .m ≤ 65) ⌝ }
+    requires { ⌜ Playable 16 (now plan) × (shape header ≡ headerOf 16 (now plan)) × LinksOf (shape header) links × (24576 ≤ length (now work)) × (writes .known .m ≤ 65) ⌝ }
     ensures { λ r. ⌜ Forged (now (plan .entry)) (now (work .entry)) (now (work .exit)) (writes .known .values) (writes .known .m) r ⌝ }
 {
     let at = header.forgeries_at();
@@ -72,7 +73,7 @@ fn forge(plan: &[u8], work: &mut [u8], header: Shape, links: Links, writes: Writ
 
 // Decodes an accepted plan.
 pub fn read(plan: &[u8], work: &mut [u8]) -> Script
-    requires { ⌜ Accepts (now plan) × (24576 ≤ length (now work)) ⌝ }
+    requires { ⌜ Playable 16 (now plan) × (24576 ≤ length (now work)) ⌝ }
     ensures { λ r. ⌜ Scripted (now (plan .entry)) (now (work .entry)) (now (work .exit)) r ⌝ }
 {
     let header = Shape::read(plan);

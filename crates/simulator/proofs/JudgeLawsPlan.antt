@@ -13,8 +13,9 @@ use Rattle.plan.specs.Parts.{writesFrom, readsFrom}
 use Rattle.plan.specs.Packed.{planOf}
 use Rattle.plan.specs.Shape.{shape, Ranged}
 use Rattle.plan.specs.Check.{checkOf, result}
+use Rattle.plan.specs.Playable.{Playable}
 use Rattle.plan.proofs.Laws.{all-same}
-use Rattle.plan.proofs.Accept.{Accepted, accepted, reads-counted, in-range}
+use Rattle.plan.proofs.Accept.{playable, reads-counted, in-range}
 use Rattle.plan.proofs.AcceptReads.{few-reads}
 use Rattle.plan.proofs.AcceptWrites.{writes-apart}
 use Rattle.script.specs.Operations.{opAt, noWrite, Written, ReadIn}
@@ -23,8 +24,8 @@ use Rattle.simulator.specs.Judge.{readOf, answerFits}
 use Rattle.simulator.specs.JudgeTables.{Tables, fitsRead}
 
 module _ (s : List ℕ) (m : ℕ) (e : checkOf 16 s ≡ result m) where
-  A : Accepted 16 s
-  A = accepted 16 s m e
+  A : Playable 16 s
+  A = playable 16 s m e
 
   pub few-answers : m ≤ 255
   few-answers = omega (arith, reads-counted 16 s m e, few-reads 16 s, in-range 16 s A .operations-hi)

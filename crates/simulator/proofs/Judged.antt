@@ -67,20 +67,20 @@ module _ (w : ℕ) (s : List ℕ) (A : Accepted w s) where
     where
       go : (p ≡ planOf w s .initial) ⊎ ((u : Write) × In u (planOf w s .writes) × (u .pair ≡ p)) → numberOf w p < 256
       go (inl q) = omega (arith, ap (numberOf w) q, initial-number w s)
-      go (inr (u, i, q)) = omega (arith, ap (numberOf w) q, number-hi w s A u i)
+      go (inr (u, i, q)) = omega (arith, ap (numberOf w) q, number-hi w s (A .playable) u i)
 
   -- the answer of a served read fits its fields
   pub fits : (r : Read) → In r (planOf w s .reads) → Served (planOf w s) r → Fits w r (answerOf (planOf w s) r)
   unfolding countIn planOf
   fits r i S =
       let P : Plan = planOf w s in
-      let R = read-stands w s A r i in
+      let R = read-stands w s (A .playable) r i in
       let most = count-le (λ b. has (notedBy P r) (answerOf P r .pair) b) (P .n) in
       record {
         begun-fits = R .begun-below;
         reader-fits = R .reader-below;
         number-fits = allowed-number r (answerOf P r .pair) (S .regular);
-        count-fits = omega (arith, S .counted, most, in-range w s A .n-hi);
+        count-fits = omega (arith, S .counted, most, in-range w s (A .playable) .n-hi);
       }
 
   -- Judge's yes to all answers, in three tests

@@ -18,5 +18,5 @@ use Rattle.simulator.proofs.Played.{play-writes}
 pub pointThree : (w : ℕ) → w % 8 ≡ 0 → (s : List ℕ) (m : ℕ) → checkOf w s ≡ result m → PointThree w s
 pointThree w whole s m e =
     let A : Accepted w s = accepted w s m e in
-    let all : (r : Read) → In r (planOf w s .reads) → Served (planOf w s) r = λ r i. served (planOf w s) (good w s A) (enough w s A) r i in
+    let all : (r : Read) → In r (planOf w s .reads) → Served (planOf w s) r = λ r i. served (planOf w s) (good w s (A .playable)) (enough w s A) r i in
     record { served = all; judged = λ answers workspace k h. rw (play-writes w s A answers workspace k h) (judge-yes w s A whole all) }

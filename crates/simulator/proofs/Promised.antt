@@ -7,7 +7,7 @@ use Prim.Native.Nat.{ℕ, _*_, _≤_}
 use native.Mathlib.Omega.{arith}
 use lib.ListN.{take}
 use Rattle.plan.specs.Check.{Outcome, refused, result, checkOf}
-use Rattle.plan.proofs.Accept.{accepted, reads-counted, in-range}
+use Rattle.plan.proofs.Accept.{playable, reads-counted, in-range}
 use Rattle.plan.proofs.AcceptReads.{few-reads}
 use Rattle.simulator.specs.Play.{Played, playAfter, playOf}
 use Rattle.simulator.specs.Judge.{judgeOf}
@@ -17,7 +17,7 @@ use Rattle.simulator.proofs.PointThree.{pointThree}
 
 -- an accepted plan has at most 255 reads
 pub reads-few : (s : List ℕ) (m : ℕ) → checkOf 16 s ≡ result m → m ≤ 255
-reads-few s m e = omega (arith, reads-counted 16 s m e, few-reads 16 s, in-range 16 s (accepted 16 s m e) .operations-hi)
+reads-few s m e = omega (arith, reads-counted 16 s m e, few-reads 16 s, in-range 16 s (playable 16 s m e) .operations-hi)
 
 -- who is not refused by Play is not refused by Check
 point-after : (s answers workspace : List ℕ) (k : ℕ) (o : Outcome ℕ) → checkOf 16 s ≡ o → playAfter 16 s answers workspace o .outcome ≡ result k → PointThree 16 s

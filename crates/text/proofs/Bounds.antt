@@ -15,7 +15,7 @@ use Rattle.register.specs.Plan.{Plan, Read, readEnd, valueOf, numberOf}
 use Rattle.register.specs.Reading.{answerOf}
 use Rattle.plan.specs.Packed.{planOf}
 use Rattle.plan.specs.Check.{Outcome, refused, result, checkOf}
-use Rattle.plan.proofs.Accept.{accepted, reads-counted, in-range}
+use Rattle.plan.proofs.Accept.{playable, reads-counted, in-range}
 use Rattle.plan.proofs.AcceptReads.{read-stands}
 use Rattle.plan.proofs.Longest.{most-reads}
 use Rattle.text.specs.Text.{lineWith, lineOf, linesFor, textAfter, textOf, mostLine, mostText, writtenOver}
@@ -34,7 +34,7 @@ module _ (s : List ℕ) (m : ℕ) (e : checkOf 16 s ≡ result m) where
   line-length : (r : Read) → In r (P .reads) → length (lineOf 16 P r) ≤ mostLine
   unfolding lineOf lineWith
   line-length r i =
-      let A = accepted 16 s m e in
+      let A = playable 16 s m e in
       let F = answer-fits s m e r i in
       let R = read-stands 16 s A r i in
       let a = answerOf P r in

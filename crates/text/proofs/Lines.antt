@@ -92,7 +92,7 @@ module _ (s : List ℕ) (m : ℕ) (e : checkOf 16 s ≡ result m) where
 
   -- Sizes that the code meets.
   pub header-there : 8 ≤ length s
-  header-there = leb→le 8 (length s) (accepted 16 s m e .long)
+  header-there = leb→le 8 (length s) (accepted 16 s m e .playable .long)
 
   -- how long a read lasts, from the header
   module _ (x : Shape) (same : shape x ≡ headerOf 16 s) where
@@ -101,7 +101,7 @@ module _ (s : List ℕ) (m : ℕ) (e : checkOf 16 s ≡ result m) where
     span-is = ap (λ (h : Header). 2 * h .delta) same
 
     pub span-few : 2 * x .delta ≤ 30
-    span-few = omega (arith, ap (λ (h : Header). h .delta) same, in-range 16 s (accepted 16 s m e) .delta-hi)
+    span-few = omega (arith, ap (λ (h : Header). h .delta) same, in-range 16 s (accepted 16 s m e .playable) .delta-hi)
 
     pub all-lines : (a : List ℕ) (i : ℕ) → a ≡ answersOf 16 s → i ≡ m → linesIn a (2 * x .delta) i ≡ linesFor 16 P (P .reads)
     all-lines a i is n = rw (is, span-is, n) lines-are

@@ -3,7 +3,7 @@ use mathlib.Core.Path.{ap, _∙_}
 use native.Mathlib.Omega.{arith}
 use borrow.Author.Needs.{needs}
 use Rattle.plan.specs.Header.{Header, operationAt}
-use Rattle.script.proofs.Forging.{tests-passed, shape-ranged, links-same, part-starts, fillable, forged}
+use Rattle.script.proofs.Forging.{shape-ranged, links-same, part-starts, fillable, forged}
 use Rattle.script.proofs.forge.Statement.{statement}
 use Rattle.script.proofs.forge.Tie as tie
 
@@ -16,13 +16,13 @@ cast-count c = search needs
 sub-fill : tie.Need-sub-fill
 sub-fill c =
     let s = c .before .before .before .before .before .before .before in
-    part-starts (s .args .plan .now) (tests-passed (s .args .plan .now) (s .pre .0)) (c .before .before .before .before .forgeries-at .result) (s .args .header .forgeries)
+    part-starts (s .args .plan .now) (s .pre .0) (c .before .before .before .before .forgeries-at .result) (s .args .header .forgeries)
     (c .before .before .before .before .forgeries-at .ensures .0 ∙ ap (λ (h : Header). operationAt 16 h (h .operations)) (s .pre .1)) (ap (λ (h : Header). h .forgeries) (s .pre .1))
 
 part-fill-start : tie.Need-part-fill-start
 part-fill-start c =
     let s = c .before .before .before .before .before .before .before in
-    let h = part-starts (s .args .plan .now) (tests-passed (s .args .plan .now) (s .pre .0)) (c .before .before .before .before .forgeries-at .result) (s .args .header .forgeries)
+    let h = part-starts (s .args .plan .now) (s .pre .0) (c .before .before .before .before .forgeries-at .result) (s .args .header .forgeries)
     (c .before .before .before .before .forgeries-at .ensures .0 ∙ ap (λ (h : Header). operationAt 16 h (h .operations)) (s .pre .1)) (ap (λ (h : Header). h .forgeries) (s .pre .1)) in
     search needs
 
@@ -32,7 +32,7 @@ part-fill-end c = search needs
 fill-requires : tie.Need-fill-requires
 fill-requires c κs =
     let s = c .before .before .before .before .before .before .before .before .before in
-    fillable (s .args .plan .now) (tests-passed (s .args .plan .now) (s .pre .0)) (c .before .before .before .before .before .before .forgeries-at .result) (s .args .header .forgeries)
+    fillable (s .args .plan .now) (s .pre .0) (c .before .before .before .before .before .before .forgeries-at .result) (s .args .header .forgeries)
     (c .before .before .before .before .before .before .forgeries-at .ensures .0 ∙ ap (λ (h : Header). operationAt 16 h (h .operations)) (s .pre .1)) (ap (λ (h : Header). h .forgeries) (s .pre .1))
     (s .args .links) (links-same (s .args .plan .now) (s .args .header) (s .args .links) (s .pre .1) (s .pre .2)) _ _ (s .pre .3) (s .pre .4)
 
@@ -48,7 +48,7 @@ returns : tie.Need-returns
 returns c =
     let s = c .before .before .before .before .before .before .before .before .before .before .before .before .before .before in
     let f = c .before .before .before .before .before .before .before .before .before .before .before .forgeries-at in
-    forged (s .args .plan .now) (tests-passed (s .args .plan .now) (s .pre .0)) (f .result) (s .args .header .forgeries)
+    forged (s .args .plan .now) (s .pre .0) (f .result) (s .args .header .forgeries)
     (f .ensures .0 ∙ ap (λ (h : Header). operationAt 16 h (h .operations)) (s .pre .1)) (ap (λ (h : Header). h .forgeries) (s .pre .1))
     (s .args .links) (links-same (s .args .plan .now) (s .args .header) (s .args .links) (s .pre .1) (s .pre .2)) _ _ _ _ _
     (c .before .before .before .before .fill .ensures) (c .starts .ensures)

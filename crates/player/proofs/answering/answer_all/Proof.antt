@@ -73,7 +73,7 @@ answer-read-requires c κs =
     let R = s .pre .0 .ready in (
       rw (part-from (5 * l .i) (l .answers), length-drop) (omega arith),
       record { shape = s .args .script .shape; begun = s .args .script .writes .begun; reads = s .args .script .reads; over = s .pre .0 },
-      script-reads _ _ _ (R .accepts) (s .args .script) (R .scripted) (l .i) (c .before .before .before .before .before .loop-test .taken) .listed,
+      script-reads _ _ _ (R .playable) (s .args .script) (R .scripted) (l .i) (c .before .before .before .before .before .loop-test .taken) .listed,
     )
 
 add-i : tie.Need-add-i Inv-loop μ-loop
@@ -92,7 +92,7 @@ loop-again c =
     let l = c .before .before .before .before .before .before .before .before .before .loop in
     let R = s .pre .0 .ready in
     let taken = c .before .before .before .before .before .before .before .before .loop-test .taken in
-    let S = script-reads _ _ _ (R .accepts) (s .args .script) (R .scripted) (l .i) taken in
+    let S = script-reads _ _ _ (R .playable) (s .args .script) (R .scripted) (l .i) taken in
     let more = answers-more (planOf 16 _) _ _ (l .answers) (l .i) noRead (omega (arith, taken, R .scripted .reads .count)) (l .inv .2) in
     (omega (arith, taken), search needs, rw (part-back (5 * l .i) (l .answers), c .before .before .answer-read .ensures, part-from (5 * l .i) (l .answers)) (rw (S .same) at more))
 

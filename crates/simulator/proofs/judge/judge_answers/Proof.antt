@@ -9,8 +9,9 @@ use borrow.Author.Tests.{ne-eqb, eq-eqb, not-true, not-false}
 use Rattle.register.specs.Lists.{allUpTo}
 use Rattle.plan.specs.Packed.{planOf}
 use Rattle.plan.specs.Check.{result}
+use Rattle.plan.specs.Playable.{Playable}
+use Rattle.plan.proofs.Accept.{playable}
 use Rattle.script.specs.Operations.{Room}
-use Rattle.script.specs.Script.{Accepts}
 use Rattle.script.proofs.Scripting.{header-there, operations-room}
 use Rattle.simulator.specs.Judge.{answerFits, answerAllowed, judgeAfter}
 use Rattle.simulator.proofs.JudgeLawsPlan as laws
@@ -30,8 +31,8 @@ operating c = c .before .before
 abbrev entry : tie.After-operations-at → tie.Start
 entry c = c .before .before .before .before .before
 
-accepts : (c : tie.Start) → Accepts (now (c .args .plan))
-accepts c = record { reads = c .args .count; accepted = c .pre }
+plays : (c : tie.Start) → Playable 16 (now (c .args .plan))
+plays c = playable 16 _ (c .args .count) (c .pre)
 
 -- both loops' results, by the definitions of Judge
 fits : (c : tie.After-all-fit) → let a = entry (operating (reading c)) .args in
@@ -63,7 +64,7 @@ has-room : (c : tie.After-operations-at) → Room (now (entry c .args .plan)) (c
 has-room c =
     let x = entry c in
     let h = c .before .read in
-    operations-room (now (x .args .plan)) (accepts x) (h .result) (h .ensures) (c .operations-at .result) (c .operations-at .ensures .0)
+    operations-room (now (x .args .plan)) (plays x) (h .result) (h .ensures) (c .operations-at .result) (c .operations-at .ensures .0)
 
 mul-if1 : tie.Need-mul-if1
 mul-if1 c = let x = c .before .before in omega (arith, laws.few-answers (now (x .args .plan)) (x .args .count) (x .pre))
@@ -73,7 +74,7 @@ unfolding judgeAfter
 returns c = rw (ne-eqb _ _ (c .if1 .taken))
 
 read-requires : tie.Need-read-requires
-read-requires c κs = let x = c .before .before .before in header-there (now (x .args .plan)) (accepts x)
+read-requires c κs = let x = c .before .before .before in header-there (now (x .args .plan)) (plays x)
 
 operations-at-requires : tie.Need-operations-at-requires
 operations-at-requires c κs =

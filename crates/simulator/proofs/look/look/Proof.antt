@@ -4,6 +4,7 @@ use native.Mathlib.Omega.{arith}
 use borrow.Author.Needs.{needs}
 use Rattle.plan.specs.Header.{Header}
 use Rattle.plan.specs.Numbered.{numbered}
+use Rattle.plan.proofs.Accept.{playable}
 use Rattle.script.proofs.Scripting.{header-there}
 use Rattle.simulator.proofs.Places.{places-fit}
 use Rattle.simulator.proofs.LookCases.{look-checked, look-ten, look-server, look-tick, look-done, shown}
@@ -29,7 +30,7 @@ returns : tie.Need-returns
 returns c = rw (c .refusal2 .ensures) (look-ten _ _ _ _ _ (sym (c .before .before .before .before .before .check .ensures) ∙ ap numbered (c .before .before .before .checked2 .given .1)) (c .before .if1 .taken))
 
 read-requires : tie.Need-read-requires
-read-requires c κs = header-there _ (record { reads = _; accepted = sym (c .before .before .before .before .check .ensures) ∙ ap numbered (c .before .before .checked2 .given .1) })
+read-requires c κs = header-there _ (playable 16 _ _ (sym (c .before .before .before .before .check .ensures) ∙ ap numbered (c .before .before .checked2 .given .1)))
 
 cast-if2 : tie.Need-cast-if2
 cast-if2 c = search needs
@@ -61,7 +62,7 @@ look-requires : tie.Need-look-requires
 look-requires c κs =
     let n = ap (λ (h : Header). h .n) (c .before .before .before .before .before .read .ensures) in
     let t = ap (λ (h : Header). h .ticks) (c .before .before .before .before .before .read .ensures) in
-    (record { reads = _; accepted = sym (c .before .before .before .before .before .before .before .before .before .before .check .ensures) ∙ ap numbered (c .before .before .before .before .before .before .before .before .checked2 .given .1) }, c .before .before .before .before .before .before .if1 .left, omega (arith, n, c .before .before .before .if2 .left), omega (arith, t, c .before .if3 .left))
+    (playable 16 _ _ (sym (c .before .before .before .before .before .before .before .before .before .before .check .ensures) ∙ ap numbered (c .before .before .before .before .before .before .before .before .checked2 .given .1)), c .before .before .before .before .before .before .if1 .left, omega (arith, n, c .before .before .before .if2 .left), omega (arith, t, c .before .if3 .left))
 
 condition-requires : tie.Need-condition-requires
 condition-requires c κs = search needs

@@ -3,7 +3,7 @@ use mathlib.Core.Path.{sym, ap, _∙_}
 use native.Mathlib.Omega.{arith}
 use borrow.Author.Needs.{needs}
 use Rattle.plan.specs.Numbered.{numbered}
-use Rattle.plan.proofs.Accept.{reads-counted}
+use Rattle.plan.proofs.Accept.{playable, reads-counted}
 use Rattle.simulator.proofs.Promised.{reads-few, promised}
 use Rattle.simulator.proofs.PlayCases.{play-checked, play-nine, play-ten, play-done}
 use Rattle.simulator.proofs.play.play.Statement.{statement}
@@ -34,7 +34,7 @@ returns-2 c =
 play-requires : tie.Need-play-requires
 play-requires c κs =
     let e = sym (c .before .before .before .before .before .before .before .check .ensures) ∙ ap numbered (c .before .before .before .before .before .checked2 .given .1) in
-    (record { reads = _; accepted = e }, omega (arith, reads-counted 16 _ _ e, c .before .before .before .if1 .left), c .before .before .if2 .left)
+    (playable 16 _ _ e, omega (arith, reads-counted 16 _ _ e, c .before .before .before .if1 .left), c .before .before .if2 .left)
 
 returns-3 : tie.Need-returns-3
 returns-3 c =
