@@ -1,6 +1,7 @@
 //! Bit fields, most significant bit first.
 
 /// The field of `width` bits (at most 57) that begins at bit `at`; bits past the end are zero.
+#[inline]
 pub fn field(bytes: &[u8], at: usize, width: usize) -> u64 {
     let first = at / 8;
     let word = match bytes.get(first..first + 8) {

@@ -4,10 +4,10 @@
 
 #![forbid(unsafe_code)]
 
-mod bits;
+pub mod bits;
 mod cluster;
-mod judge;
-mod plan;
+pub mod judge;
+pub mod plan;
 mod server;
 
 pub use plan::Stamped;
@@ -21,6 +21,8 @@ pub const WORKSPACE_BYTES: usize = 60_000;
 /// A refusal by its published number.
 #[derive(Clone, Copy, Debug, PartialEq, Eq)]
 pub struct Refused(pub u8);
+
+pub type Outcome<T> = Result<T, Refused>;
 
 #[derive(Clone, Copy, Debug, PartialEq, Eq)]
 pub enum Condition {
@@ -38,12 +40,12 @@ pub struct Seen {
 }
 
 /// The number of reads.
-pub fn check(plan: &[u8]) -> Result<usize, Refused> {
+pub fn check(plan: &[u8]) -> Outcome<usize> {
     Ok(Plan::unpack(plan)?.reads.len())
 }
 
 /// The number of reads; the answers stand at the start of the buffer.
-pub fn play(plan: &[u8], answers: &mut [u8], workspace: &mut [u8]) -> Result<usize, Refused> {
+pub fn play(plan: &[u8], answers: &mut [u8], workspace: &mut [u8]) -> Outcome<usize> {
     let plan = Plan::unpack(plan)?;
     if answers.len() < ANSWER_BYTES * plan.reads.len() {
         return Err(Refused(9));
@@ -62,12 +64,7 @@ pub fn play(plan: &[u8], answers: &mut [u8], workspace: &mut [u8]) -> Result<usi
 }
 
 /// A server after a tick.
-pub fn look(
-    plan: &[u8],
-    workspace: &mut [u8],
-    server: usize,
-    tick: usize,
-) -> Result<Seen, Refused> {
+pub fn look(plan: &[u8], workspace: &mut [u8], server: usize, tick: usize) -> Outcome<Seen> {
     let plan = Plan::unpack(plan)?;
     let workspace = workspace.get_mut(..WORKSPACE_BYTES).ok_or(Refused(10))?;
     if server >= plan.header.servers || tick >= plan.header.ticks {
@@ -85,7 +82,7 @@ pub fn look(
 }
 
 /// Whether every answer is one that a regular register may give.
-pub fn judge(plan: &[u8], answers: &[u8]) -> Result<bool, Refused> {
+pub fn judge(plan: &[u8], answers: &[u8]) -> Outcome<bool> {
     let plan = Plan::unpack(plan)?;
     if answers.len() != ANSWER_BYTES * plan.reads.len() {
         return Err(Refused(12));

@@ -3,14 +3,17 @@
 use crate::bits::{field, Fields};
 use crate::Refused;
 
-const MOST_SERVERS: usize = 16;
+pub const MOST_SERVERS: usize = 16;
 pub const MOST_READERS: usize = 4;
+pub const MOST_TICKS: usize = 128;
+pub const MOST_OPERATIONS: usize = 255;
+const MOST_FORGERIES: usize = 1024;
 
-const HEADER_BYTES: usize = 8;
-const PLACEMENT_BITS: usize = 16;
-const OPERATION_BITS: usize = 26;
-const FORGERY_BITS: usize = 40;
-const DELAY_BITS: usize = 4;
+pub const HEADER_BYTES: usize = 8;
+pub const PLACEMENT_BITS: usize = 16;
+pub const OPERATION_BITS: usize = 26;
+pub const FORGERY_BITS: usize = 40;
+pub const DELAY_BITS: usize = 4;
 
 /// A value and its sequence number, as one number: in the order of the numbers, then the values.
 #[derive(Clone, Copy, Debug, Default, PartialEq, Eq, PartialOrd, Ord)]
@@ -30,6 +33,7 @@ impl Stamped {
     }
 }
 
+#[derive(Clone, Copy)]
 pub struct Header {
     pub servers: usize,
     pub faulty: usize,
@@ -38,11 +42,26 @@ pub struct Header {
     pub readers: usize,
     pub ticks: usize,
     pub initial: u16,
-    operations: usize,
-    forgeries: usize,
+    pub operations: usize,
+    pub forgeries: usize,
 }
 
 impl Header {
+    /// The header, or the first of the refusals that it and the plan's length can give.
+    pub fn of(bytes: &[u8]) -> Result<Self, Refused> {
+        if bytes.len() < HEADER_BYTES {
+            return Err(Refused(1));
+        }
+        let header = Header::unpack(bytes)?;
+        if header.servers < (header.k() + 3) * header.faulty + 1 {
+            return Err(Refused(3));
+        }
+        if bytes.len() != header.final_bits_at().div_ceil(8) {
+            return Err(Refused(4));
+        }
+        Ok(header)
+    }
+
     fn unpack(bytes: &[u8]) -> Result<Self, Refused> {
         let mut fields = Fields::new(bytes, 0);
         let mut next = |width| fields.take(width) as usize;
@@ -62,8 +81,8 @@ impl Header {
             && header.delta >= 1
             && header.period >= header.delta
             && (1..=MOST_READERS).contains(&header.readers)
-            && (1..=128).contains(&header.ticks)
-            && header.forgeries <= 1024
+            && (1..=MOST_TICKS).contains(&header.ticks)
+            && header.forgeries <= MOST_FORGERIES
             && zero == 0;
         if in_range {
             Ok(header)
@@ -90,7 +109,7 @@ impl Header {
         ((self.k() + 1) * self.faulty + 1) as u32
     }
 
-    fn movements(&self) -> usize {
+    pub fn movements(&self) -> usize {
         self.ticks.div_ceil(self.period)
     }
 
@@ -112,15 +131,15 @@ impl Header {
         }
     }
 
-    fn operations_at(&self) -> usize {
+    pub fn operations_at(&self) -> usize {
         8 * HEADER_BYTES + PLACEMENT_BITS * self.movements()
     }
 
-    fn forgeries_at(&self) -> usize {
+    pub fn forgeries_at(&self) -> usize {
         self.operations_at() + OPERATION_BITS * self.operations
     }
 
-    fn delays_at(&self) -> usize {
+    pub fn delays_at(&self) -> usize {
         self.forgeries_at() + FORGERY_BITS * self.forgeries
     }
 
@@ -167,16 +186,7 @@ pub struct Plan<'a> {
 impl<'a> Plan<'a> {
     /// Takes the plan apart, or gives the first refusal that applies.
     pub fn unpack(bytes: &'a [u8]) -> Result<Self, Refused> {
-        if bytes.len() < HEADER_BYTES {
-            return Err(Refused(1));
-        }
-        let header = Header::unpack(bytes)?;
-        if header.servers < (header.k() + 3) * header.faulty + 1 {
-            return Err(Refused(3));
-        }
-        if bytes.len() != header.final_bits_at().div_ceil(8) {
-            return Err(Refused(4));
-        }
+        let header = Header::of(bytes)?;
         let placements = unpack_placements(bytes, &header).ok_or(Refused(5))?;
         let (writes, reads) = unpack_operations(bytes, &header).ok_or(Refused(6))?;
         let forgeries = unpack_forgeries(bytes, &header, &placements, &reads).ok_or(Refused(7))?;
