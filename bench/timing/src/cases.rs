@@ -6,22 +6,38 @@ use plans::{Forgery, Operation, Parts, Random};
 pub struct Shape {
     pub servers: usize,
     pub faulty: usize,
-    pub delta: usize,
-    pub period: usize,
+    /// δ and Δ.
+    pub bounds: (usize, usize),
     pub readers: usize,
     pub ticks: usize,
     pub forgeries: usize,
 }
 
-pub const FIVE_SERVERS: Shape =
-    Shape { servers: 5, faulty: 1, delta: 2, period: 4, readers: 1, ticks: 40, forgeries: 0 };
-pub const SLOW: Shape =
-    Shape { servers: 16, faulty: 3, delta: 15, period: 15, readers: 4, ticks: 128, forgeries: 0 };
-pub const LARGEST: Shape =
-    Shape { servers: 16, faulty: 3, delta: 1, period: 1, readers: 4, ticks: 128, forgeries: 1024 };
+const SIXTEEN: Shape =
+    Shape { servers: 16, faulty: 3, bounds: (1, 1), readers: 4, ticks: 128, forgeries: 0 };
+const SLOW: Shape = Shape { bounds: (15, 15), ..SIXTEEN };
+/// No accepted plan is longer.
+pub const LONGEST: Shape = Shape { forgeries: 1024, ..SIXTEEN };
 /// What growth is measured from.
-pub const MIDDLE: Shape =
-    Shape { servers: 16, faulty: 3, delta: 4, period: 6, readers: 2, ticks: 128, forgeries: 512 };
+pub const MIDDLE: Shape = Shape { bounds: (4, 6), readers: 2, forgeries: 512, ..SIXTEEN };
+
+pub const NAMED: [(&str, Shape); 9] = [
+    (
+        "5 servers, 40 ticks",
+        Shape { servers: 5, faulty: 1, bounds: (2, 4), readers: 1, ticks: 40, forgeries: 0 },
+    ),
+    ("16 servers, δ=Δ=15", SLOW),
+    ("16 servers, δ=Δ=15, 1,024 forgeries", Shape { forgeries: 1024, ..SLOW }),
+    ("16 servers, δ=Δ=1", SIXTEEN),
+    ("the longest: 16 servers, δ=Δ=1, 1,024 forgeries", LONGEST),
+    ("16 servers, δ=4, Δ=6", Shape { forgeries: 0, ..MIDDLE }),
+    ("6 servers, δ=4, Δ=6, 512 forgeries", Shape { servers: 6, faulty: 1, ..MIDDLE }),
+    ("16 servers, δ=15, Δ=63", Shape { bounds: (15, 63), ..SIXTEEN }),
+    (
+        "1 server, 8 ticks",
+        Shape { servers: 1, faulty: 0, bounds: (1, 1), readers: 1, ticks: 8, forgeries: 0 },
+    ),
+];
 
 /// The packed plan: each party begins as soon as it may, the agents move on in turn at every
 /// movement, delays are random, forgeries stand all over the ticks.
@@ -29,8 +45,8 @@ pub fn plan(shape: Shape) -> Vec<u8> {
     let mut parts = Parts {
         servers: shape.servers,
         faulty: shape.faulty,
-        delta: shape.delta,
-        period: shape.period,
+        delta: shape.bounds.0,
+        period: shape.bounds.1,
         readers: shape.readers,
         ticks: shape.ticks,
         initial: 7,

@@ -1,5 +1,6 @@
-//! timing [ROUNDS]: prints, as tables, the times of Check, Play, Look and Judge of the library and
-//! of the plain one, in one run and on the same bytes, how they grow, and the stack of Play.
+//! timing [ROUNDS]: prints, as tables, the times of Check, Play, Look and Judge of the library, of
+//! the plain one and of the rival, in one run and on the same bytes, how they grow, and the stack
+//! of Play.
 
 mod cases;
 mod measure;
@@ -8,96 +9,85 @@ mod stack;
 
 use std::process::ExitCode;
 
-use cases::{Shape, FIVE_SERVERS, LARGEST, MIDDLE, SLOW};
+use cases::{Shape, LONGEST, MIDDLE, NAMED};
+use measure::Times;
+use operations::Measured;
 
-fn microseconds(nanoseconds: f64) -> String {
-    format!("{:.1}", nanoseconds / 1000.0)
+fn microseconds(times: Times) -> String {
+    format!("{:.1}", times.median / 1000.0)
+}
+
+/// The cells of the three, a dash for a program without the operation.
+fn cells(measured: Measured, cell: impl Fn(Times) -> String) -> [String; 3] {
+    let rival = measured.rival.map_or("-".to_string(), &cell);
+    [cell(measured.library), cell(measured.plain), rival]
 }
 
 fn print_operations(rounds: usize) {
-    println!("Time of one call in microseconds: the median of {rounds} samples, library and plain in turn.");
-    println!(
-        "Spread: the middle half of the samples, in hundredths of the median, library / plain.\n"
-    );
-    println!("| plan | bytes | operation | library | plain | ratio | spread |");
-    println!("|---|---:|---|---:|---:|---:|---:|");
-    let many = |shape: Shape| Shape { forgeries: 1024, ..shape };
-    let none = |shape: Shape| Shape { forgeries: 0, ..shape };
-    let named = [
-        ("5 servers, 40 ticks, no forgeries", FIVE_SERVERS),
-        ("16 servers, 128 ticks, δ=Δ=15, no forgeries", SLOW),
-        ("16 servers, 128 ticks, δ=Δ=15, 1,024 forgeries", many(SLOW)),
-        ("16 servers, 128 ticks, δ=Δ=1, no forgeries", none(LARGEST)),
-        ("16 servers, 128 ticks, δ=Δ=1, 1,024 forgeries", LARGEST),
-    ];
-    for (name, shape) in named {
+    println!("Time of one call in microseconds: the median of {rounds} samples, the three in turn; 128 ticks where none are named.");
+    println!("Spread: the middle half of the samples, in hundredths of the median.\n");
+    println!("| plan | bytes | operation | library | plain | rival | library/plain | library/rival | spread |");
+    println!("|---|---:|---|---:|---:|---:|---:|---:|---:|");
+    for (name, shape) in NAMED {
         let plan = cases::plan(shape);
         for operation in operations::ALL {
-            let (library, plain) = operations::times(operation, &plan, rounds);
+            let measured = operations::times(operation, &plan, rounds);
+            let ratio = |other: Times| format!("{:.2}", measured.library.median / other.median);
+            let [_, to_plain, to_rival] = cells(measured, ratio);
             println!(
-                "| {name} | {} | {operation} | {} | {} | {:.2} | {:.0} / {:.0} |",
+                "| {name} | {} | {operation} | {} | {to_plain} | {to_rival} | {} |",
                 plan.len(),
-                microseconds(library.median),
-                microseconds(plain.median),
-                library.median / plain.median,
-                library.spread(),
-                plain.spread(),
+                cells(measured, microseconds).join(" | "),
+                cells(measured, |times| format!("{:.0}", times.spread())).join(" / "),
             );
         }
     }
 }
 
 fn print_growth(rounds: usize) {
-    println!("\nGrowth, from 16 servers (f=3, δ=4, Δ=6), 2 readers, 128 ticks, 512 forgeries: library / plain in microseconds.\n");
+    println!("\nGrowth, from 16 servers (f=3, δ=4, Δ=6), 2 readers, 128 ticks, 512 forgeries: library / plain / rival in microseconds.\n");
     println!("| changed | Check | Play | Look | Judge |");
     println!("|---|---:|---:|---:|---:|");
-    let ticks = [16, 32, 64, 128];
-    let servers = [(6, 1), (8, 1), (11, 1), (16, 1)];
-    let forgeries = [0, 256, 512, 1024];
     let mut rows = Vec::new();
     // Few ticks have no room for 512 forgeries.
-    rows.extend(ticks.map(|ticks| {
+    rows.extend([16, 32, 64, 128].map(|ticks| {
         (format!("{ticks} ticks, no forgeries"), Shape { ticks, forgeries: 0, ..MIDDLE })
     }));
-    rows.extend(servers.map(|(servers, faulty)| {
-        (format!("{servers} servers, f={faulty}"), Shape { servers, faulty, ..MIDDLE })
+    rows.extend([6, 8, 11, 16].map(|servers| {
+        (format!("{servers} servers, f=1"), Shape { servers, faulty: 1, ..MIDDLE })
     }));
     rows.extend(
-        forgeries
+        [0, 256, 512, 1024]
             .map(|forgeries| (format!("{forgeries} forgeries"), Shape { forgeries, ..MIDDLE })),
     );
     for (name, shape) in rows {
         let plan = cases::plan(shape);
-        let cells = operations::ALL.map(|operation| {
-            let (library, plain) = operations::times(operation, &plan, rounds);
-            format!("{} / {}", microseconds(library.median), microseconds(plain.median))
+        let row = operations::ALL.map(|operation| {
+            cells(operations::times(operation, &plan, rounds), microseconds).join(" / ")
         });
-        println!("| {name} | {} |", cells.join(" | "));
+        println!("| {name} | {} |", row.join(" | "));
     }
 }
 
 fn print_stack() {
-    let (library, plain) = stack::taken();
-    println!("\nStack that Play of the largest plan takes, to about 1 KB:");
-    println!(
-        "library {:.0} KB, plain {:.0} KB (which also allocates).",
-        library as f64 / 1024.0,
-        plain as f64 / 1024.0
-    );
+    let taken =
+        stack::taken().map(|(name, bytes)| format!("{name} {:.0} KB", bytes as f64 / 1024.0));
+    println!("\nStack that Play of the longest plan takes, to about 1 KB:");
+    println!("{} (the last two also allocate).", taken.join(", "));
 }
 
 fn main() -> ExitCode {
     let words: Vec<String> = std::env::args().skip(1).collect();
     let words: Vec<&str> = words.iter().map(String::as_str).collect();
-    let largest = cases::plan(LARGEST);
-    assert_eq!(largest.len(), 34_362);
+    let longest = cases::plan(LONGEST);
+    assert_eq!(longest.len(), 34_362);
     let rounds = match words[..] {
         [] => Some(101),
         [rounds] => rounds.parse().ok(),
         // How this program calls itself.
         ["--stack", what, frames] => match frames.parse() {
             Ok(frames) => {
-                stack::attempt(what, frames, largest);
+                stack::attempt(what, frames, longest);
                 return ExitCode::SUCCESS;
             }
             Err(_) => None,

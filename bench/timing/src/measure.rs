@@ -1,4 +1,4 @@
-//! Times of one operation: the library and the plain one in turn, on the same bytes.
+//! Times of one operation: every program in turn, on the same bytes.
 
 use std::hint::black_box;
 use std::time::Instant;
@@ -27,32 +27,33 @@ impl Times {
     }
 }
 
-fn sample<T>(calls: usize, call: &mut impl FnMut() -> T) -> f64 {
+/// One program's call of the operation; what it gives as a number.
+pub type Call<'a> = &'a mut dyn FnMut() -> usize;
+
+fn sample(times: usize, call: Call) -> f64 {
     let began = Instant::now();
-    for _ in 0..calls {
+    for _ in 0..times {
         black_box(call());
     }
-    began.elapsed().as_nanos() as f64 / calls as f64
+    began.elapsed().as_nanos() as f64 / times as f64
 }
 
-fn calls_for<T>(call: &mut impl FnMut() -> T) -> usize {
+fn times_for(call: Call) -> usize {
     // The first call warms up.
     sample(1, call);
     (SAMPLE_NANOSECONDS / sample(3, call)).ceil().clamp(1.0, 100_000.0) as usize
 }
 
-/// Both must give the same; the library's times first.
-pub fn measure<T: PartialEq + std::fmt::Debug>(
-    rounds: usize,
-    mut library: impl FnMut() -> T,
-    mut plain: impl FnMut() -> T,
-) -> (Times, Times) {
-    assert_eq!(library(), plain(), "the two differ");
-    let (library_calls, plain_calls) = (calls_for(&mut library), calls_for(&mut plain));
-    let (mut library_samples, mut plain_samples) = (Vec::new(), Vec::new());
+/// All must give the same.
+pub fn measure<const N: usize>(rounds: usize, mut calls: [Call; N]) -> [Times; N] {
+    let given = calls.each_mut().map(|call| call());
+    assert!(given.iter().all(|&number| number == given[0]), "they differ: {given:?}");
+    let times = calls.each_mut().map(|call| times_for(call));
+    let mut samples = [(); N].map(|()| Vec::new());
     for _ in 0..rounds {
-        library_samples.push(sample(library_calls, &mut library));
-        plain_samples.push(sample(plain_calls, &mut plain));
+        for i in 0..N {
+            samples[i].push(sample(times[i], calls[i]));
+        }
     }
-    (Times::of(library_samples), Times::of(plain_samples))
+    samples.map(Times::of)
 }

@@ -4,6 +4,9 @@
 use std::hint::black_box;
 use std::process::{Command, Stdio};
 
+use plain::judge::ANSWER_BYTES;
+use plain::plan::MOST_OPERATIONS;
+
 /// The stack of the thread that tries.
 const STACK: usize = 4 << 20;
 /// What one frame of `beneath` fills, at least.
@@ -21,14 +24,15 @@ fn beneath(frames: usize, call: &mut dyn FnMut()) {
     black_box(&mut room);
 }
 
-/// Runs one of the libraries, or nothing, beneath so many frames. The lent bytes are elsewhere.
+/// Runs one of the programs, or nothing, beneath so many frames. The lent bytes are elsewhere.
 pub fn attempt(what: &str, frames: usize, plan: Vec<u8>) {
     let what = what.to_string();
-    let mut answers = vec![0; 5 * 255];
+    let mut answers = vec![0; ANSWER_BYTES * MOST_OPERATIONS];
     let mut workspace = vec![0; plain::WORKSPACE_BYTES];
     let mut call = move || match what.as_str() {
         "library" => drop(black_box(register::play(&plan, &mut answers, &mut workspace))),
         "plain" => drop(black_box(plain::play(&plan, &mut answers, &mut workspace))),
+        "rival" => drop(black_box(rival::play(&plan, &mut answers, &mut workspace))),
         _ => (),
     };
     let thread = std::thread::Builder::new().stack_size(STACK);
@@ -56,10 +60,10 @@ fn most_frames(what: &str) -> usize {
     low
 }
 
-/// Bytes of stack that Play of the largest plan takes, about: the library's and the plain one's.
-pub fn taken() -> (usize, usize) {
+/// About how many bytes of stack Play of the longest plan takes, by program.
+pub fn taken() -> [(&'static str, usize); 3] {
     let beside_nothing = most_frames("nothing");
     let frame = STACK / beside_nothing;
-    let bytes = |what| (beside_nothing - most_frames(what)) * frame;
-    (bytes("library"), bytes("plain"))
+    ["library", "plain", "rival"]
+        .map(|program| (program, (beside_nothing - most_frames(program)) * frame))
 }
