@@ -66,17 +66,14 @@ fn program(plan: &[u8]) -> String {
     };
     assert_eq!(check(plan), Ok(reads));
     let delta = usize::from(plan[0] & 1) << 3 | usize::from(plan[1] >> 5);
-    answers[..ANSWER_BYTES * reads].chunks(ANSWER_BYTES).fold(
-        format!("reads {reads}"),
-        |text, answer| {
-            let packed = answer.iter().fold(0, |sum, &byte| sum << 8 | u64::from(byte));
-            let (begin, reader) = (packed >> 33, packed >> 30 & 7);
-            let (value, number, count) =
-                (packed >> 14 & 0xffff, packed >> 6 & 0xff, packed >> 1 & 31);
-            let end = begin as usize + 2 * delta;
-            format!("{text}|{begin} {reader} {end} {value} {number} {count}")
-        },
-    )
+    let answers = answers[..ANSWER_BYTES * reads].chunks(ANSWER_BYTES);
+    answers.fold(format!("reads {reads}"), |text, answer| {
+        let packed = answer.iter().fold(0, |sum, &byte| sum << 8 | u64::from(byte));
+        let (begin, reader) = (packed >> 33, packed >> 30 & 7);
+        let (value, number, count) = (packed >> 14 & 0xffff, packed >> 6 & 0xff, packed >> 1 & 31);
+        let end = begin as usize + 2 * delta;
+        format!("{text}|{begin} {reader} {end} {value} {number} {count}")
+    })
 }
 
 fn trace(plan: &[u8]) -> String {

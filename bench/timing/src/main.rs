@@ -14,7 +14,12 @@ use measure::Times;
 use operations::Measured;
 
 fn microseconds(times: Times) -> String {
-    format!("{:.1}", times.median / 1000.0)
+    let median = times.median / 1000.0;
+    if median < 10.0 {
+        format!("{median:.2}")
+    } else {
+        format!("{median:.1}")
+    }
 }
 
 /// The cells of the three, a dash for a program without the operation.
