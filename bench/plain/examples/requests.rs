@@ -11,8 +11,6 @@
 
 use std::io::{self, Read, Write};
 
-use plain::judge::ANSWER_BYTES;
-use plain::plan::MOST_OPERATIONS;
 use plain::{check, judge, look, play, Condition, Refused, Seen, WORKSPACE_BYTES};
 
 struct Records<'a>(&'a [u8]);
@@ -59,15 +57,14 @@ fn seen(seen: Seen) -> String {
 }
 
 fn program(plan: &[u8]) -> String {
-    let mut answers = [0; ANSWER_BYTES * MOST_OPERATIONS];
+    let mut answers = [0; 5 * 255];
     let reads = match play(plan, &mut answers, &mut lent(WORKSPACE_BYTES)) {
         Err(refusal) => return refused(refusal),
         Ok(reads) => reads,
     };
     assert_eq!(check(plan), Ok(reads));
     let delta = usize::from(plan[0] & 1) << 3 | usize::from(plan[1] >> 5);
-    let answers = answers[..ANSWER_BYTES * reads].chunks(ANSWER_BYTES);
-    answers.fold(format!("reads {reads}"), |text, answer| {
+    answers[..5 * reads].chunks(5).fold(format!("reads {reads}"), |text, answer| {
         let packed = answer.iter().fold(0, |sum, &byte| sum << 8 | u64::from(byte));
         let (begin, reader) = (packed >> 33, packed >> 30 & 7);
         let (value, number, count) = (packed >> 14 & 0xffff, packed >> 6 & 0xff, packed >> 1 & 31);
