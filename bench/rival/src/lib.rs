@@ -1,4 +1,4 @@
-//! Check, Play and Look of document 01, as fast as safe Rust makes them: how near the proved
+//! Check, Play and Look of docs/RULES.md, as fast as safe Rust makes them: how near the proved
 //! library comes to that. Header, bit fields and the form of results are those of `plain`.
 //!
 //! Sets of servers are words of 16 bits, and what a party sends to all goes through in one step.
