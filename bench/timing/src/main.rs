@@ -13,6 +13,45 @@ use cases::{Shape, LONGEST, MIDDLE, NAMED};
 use measure::Times;
 use operations::Measured;
 
+/// Samples that are taken at one go. All rows have their turn before the next ones, so that
+/// a busy minute of the machine touches all of them.
+const AT_ONCE: usize = 20;
+
+struct Row {
+    name: String,
+    plan: Vec<u8>,
+    /// By operation.
+    measured: [Measured; 4],
+}
+
+impl Row {
+    fn new(name: String, shape: Shape) -> Self {
+        Row { name, plan: cases::plan(shape), measured: Default::default() }
+    }
+
+    fn add(&mut self, rounds: usize) {
+        for (operation, measured) in operations::ALL.iter().zip(&mut self.measured) {
+            measured.add(operation, &self.plan, rounds);
+        }
+    }
+}
+
+/// What growth is shown by: each part of a plan alone.
+fn growth() -> Vec<Row> {
+    let mut rows = Vec::new();
+    // Few ticks have no room for 512 forgeries.
+    rows.extend([16, 32, 64, 128].map(|ticks| {
+        Row::new(format!("{ticks} ticks, no forgeries"), Shape { ticks, forgeries: 0, ..MIDDLE })
+    }));
+    rows.extend([6, 8, 11, 16].map(|servers| {
+        Row::new(format!("{servers} servers, f=1"), Shape { servers, faulty: 1, ..MIDDLE })
+    }));
+    rows.extend([0, 256, 512, 1024].map(|forgeries| {
+        Row::new(format!("{forgeries} forgeries"), Shape { forgeries, ..MIDDLE })
+    }));
+    rows
+}
+
 fn microseconds(times: Times) -> String {
     let median = times.median / 1000.0;
     if median < 10.0 {
@@ -23,22 +62,21 @@ fn microseconds(times: Times) -> String {
 }
 
 /// The cells of the three, a dash for a program without the operation.
-fn cells(measured: Measured, cell: impl Fn(Times) -> String) -> [String; 3] {
-    let rival = measured.rival.map_or("-".to_string(), &cell);
-    [cell(measured.library), cell(measured.plain), rival]
+fn cells(measured: &Measured, cell: impl Fn(Times) -> String) -> [String; 3] {
+    [&measured.library, &measured.plain, &measured.rival]
+        .map(|samples| samples.times().map_or("-".to_string(), &cell))
 }
 
-fn print_operations(rounds: usize) {
+fn print_operations(rows: &[Row], rounds: usize) {
     println!("Time of one call in microseconds: the median of {rounds} samples, the three in turn; 128 ticks where none are named.");
     println!("Spread: the middle half of the samples, in hundredths of the median.\n");
     println!("| plan | bytes | operation | library | plain | rival | library/plain | library/rival | spread |");
     println!("|---|---:|---|---:|---:|---:|---:|---:|---:|");
-    for (name, shape) in NAMED {
-        let plan = cases::plan(shape);
-        for operation in operations::ALL {
-            let measured = operations::times(operation, &plan, rounds);
-            let ratio = |other: Times| format!("{:.2}", measured.library.median / other.median);
-            let [_, to_plain, to_rival] = cells(measured, ratio);
+    for Row { name, plan, measured } in rows {
+        for (operation, measured) in operations::ALL.iter().zip(measured) {
+            let library = measured.library.times().expect("samples were taken").median;
+            let [_, to_plain, to_rival] =
+                cells(measured, |other| format!("{:.2}", library / other.median));
             println!(
                 "| {name} | {} | {operation} | {} | {to_plain} | {to_rival} | {} |",
                 plan.len(),
@@ -49,27 +87,12 @@ fn print_operations(rounds: usize) {
     }
 }
 
-fn print_growth(rounds: usize) {
+fn print_growth(rows: &[Row]) {
     println!("\nGrowth, from 16 servers (f=3, δ=4, Δ=6), 2 readers, 128 ticks, 512 forgeries: library / plain / rival in microseconds.\n");
     println!("| changed | Check | Play | Look | Judge |");
     println!("|---|---:|---:|---:|---:|");
-    let mut rows = Vec::new();
-    // Few ticks have no room for 512 forgeries.
-    rows.extend([16, 32, 64, 128].map(|ticks| {
-        (format!("{ticks} ticks, no forgeries"), Shape { ticks, forgeries: 0, ..MIDDLE })
-    }));
-    rows.extend([6, 8, 11, 16].map(|servers| {
-        (format!("{servers} servers, f=1"), Shape { servers, faulty: 1, ..MIDDLE })
-    }));
-    rows.extend(
-        [0, 256, 512, 1024]
-            .map(|forgeries| (format!("{forgeries} forgeries"), Shape { forgeries, ..MIDDLE })),
-    );
-    for (name, shape) in rows {
-        let plan = cases::plan(shape);
-        let row = operations::ALL.map(|operation| {
-            cells(operations::times(operation, &plan, rounds), microseconds).join(" / ")
-        });
+    for Row { name, measured, .. } in rows {
+        let row = measured.each_ref().map(|measured| cells(measured, microseconds).join(" / "));
         println!("| {name} | {} |", row.join(" | "));
     }
 }
@@ -103,8 +126,14 @@ fn main() -> ExitCode {
         eprintln!("usage: bench/run [ROUNDS], a number from 1 on");
         return ExitCode::from(2);
     };
-    print_operations(rounds);
-    print_growth(rounds);
+    let mut named: Vec<Row> = NAMED.map(|(name, shape)| Row::new(name.to_string(), shape)).into();
+    let mut growth = growth();
+    for taken in (0..rounds).step_by(AT_ONCE) {
+        let rows = named.iter_mut().chain(&mut growth);
+        rows.for_each(|row| row.add(AT_ONCE.min(rounds - taken)));
+    }
+    print_operations(&named, rounds);
+    print_growth(&growth);
     print_stack();
     ExitCode::SUCCESS
 }

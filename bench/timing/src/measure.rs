@@ -6,7 +6,21 @@ use std::time::Instant;
 /// A sample lasts at least so long, so that the clock's steps don't show.
 const SAMPLE_NANOSECONDS: f64 = 50_000.0;
 
-/// Nanoseconds of one call: the median of all samples, and the middle half of them.
+/// Nanoseconds of one call, as often as it was measured.
+#[derive(Clone, Default)]
+pub struct Samples(Vec<f64>);
+
+impl Samples {
+    /// Nothing if none was taken.
+    pub fn times(&self) -> Option<Times> {
+        let mut rising = self.0.clone();
+        rising.sort_by(f64::total_cmp);
+        let at = |part: usize| rising[(rising.len() - 1) * part / 4];
+        (!rising.is_empty()).then(|| Times { median: at(2), low: at(1), high: at(3) })
+    }
+}
+
+/// The median of all samples, and the middle half of them.
 #[derive(Clone, Copy)]
 pub struct Times {
     pub median: f64,
@@ -15,12 +29,6 @@ pub struct Times {
 }
 
 impl Times {
-    fn of(mut samples: Vec<f64>) -> Self {
-        samples.sort_by(f64::total_cmp);
-        let at = |part: usize| samples[(samples.len() - 1) * part / 4];
-        Times { median: at(2), low: at(1), high: at(3) }
-    }
-
     /// How far the middle half of the samples reaches, in hundredths of the median.
     pub fn spread(self) -> f64 {
         100.0 * (self.high - self.low) / self.median
@@ -44,16 +52,14 @@ fn times_for(call: Call) -> usize {
     (SAMPLE_NANOSECONDS / sample(3, call)).ceil().clamp(1.0, 100_000.0) as usize
 }
 
-/// All must give the same.
-pub fn measure<const N: usize>(rounds: usize, mut calls: [Call; N]) -> [Times; N] {
+/// Adds so many samples of each program; all must give the same.
+pub fn measure<const N: usize>(rounds: usize, mut calls: [Call; N], samples: [&mut Samples; N]) {
     let given = calls.each_mut().map(|call| call());
     assert!(given.iter().all(|&number| number == given[0]), "they differ: {given:?}");
     let times = calls.each_mut().map(|call| times_for(call));
-    let mut samples = [(); N].map(|()| Vec::new());
     for _ in 0..rounds {
         for i in 0..N {
-            samples[i].push(sample(times[i], calls[i]));
+            samples[i].0.push(sample(times[i], calls[i]));
         }
     }
-    samples.map(Times::of)
 }

@@ -1,19 +1,15 @@
 //! The operations of the three programs, with equal results and lent bytes of their own.
 
-use crate::measure::{measure, Times};
+use crate::measure::{measure, Call, Samples};
 
 pub const ALL: [&str; 4] = ["Check", "Play", "Look", "Judge"];
 
-/// The rival has no Judge.
-#[derive(Clone, Copy)]
+/// The samples of the three; the rival has no Judge.
+#[derive(Clone, Default)]
 pub struct Measured {
-    pub library: Times,
-    pub plain: Times,
-    pub rival: Option<Times>,
-}
-
-fn of_three([library, plain, rival]: [Times; 3]) -> Measured {
-    Measured { library, plain, rival: Some(rival) }
+    pub library: Samples,
+    pub plain: Samples,
+    pub rival: Samples,
 }
 
 /// Bytes lent to one program.
@@ -27,61 +23,54 @@ fn lent<const N: usize>(plan: &[u8]) -> [Lent; N] {
     [(); N].map(|()| Lent { answers: vec![0; answers], workspace: vec![0; plain::WORKSPACE_BYTES] })
 }
 
-/// Look is after the last tick; Judge gets true answers.
-pub fn times(operation: &str, plan: &[u8], rounds: usize) -> Measured {
-    match operation {
-        "Check" => check(plan, rounds),
-        "Play" => play(plan, rounds),
-        "Look" => look(plan, rounds),
-        _ => judge(plan, rounds),
+impl Measured {
+    /// Adds so many samples. Look is after the last tick; Judge gets true answers.
+    pub fn add(&mut self, operation: &str, plan: &[u8], rounds: usize) {
+        match operation {
+            "Check" => self.check(plan, rounds),
+            "Play" => self.play(plan, rounds),
+            "Look" => self.look(plan, rounds),
+            _ => self.judge(plan, rounds),
+        }
     }
-}
 
-fn check(plan: &[u8], rounds: usize) -> Measured {
-    of_three(measure(
-        rounds,
-        [&mut || register::check(plan).unwrap(), &mut || plain::check(plan).unwrap(), &mut || {
-            rival::check(plan).unwrap()
-        }],
-    ))
-}
+    fn add_three(&mut self, rounds: usize, calls: [Call; 3]) {
+        let samples = [&mut self.library, &mut self.plain, &mut self.rival];
+        measure(rounds, calls, samples);
+    }
 
-fn play(plan: &[u8], rounds: usize) -> Measured {
-    let mut lent = lent(plan);
-    let [library, plain, rival] = &mut lent;
-    let times = measure(
-        rounds,
-        [
-            &mut || register::play(plan, &mut library.answers, &mut library.workspace).unwrap(),
-            &mut || plain::play(plan, &mut plain.answers, &mut plain.workspace).unwrap(),
-            &mut || rival::play(plan, &mut rival.answers, &mut rival.workspace).unwrap(),
-        ],
-    );
-    assert!(lent.iter().all(|given| given.answers == lent[0].answers), "answers differ");
-    of_three(times)
-}
+    fn check(&mut self, plan: &[u8], rounds: usize) {
+        let mut library = || register::check(plan).unwrap();
+        let mut plain = || plain::check(plan).unwrap();
+        let mut rival = || rival::check(plan).unwrap();
+        self.add_three(rounds, [&mut library, &mut plain, &mut rival]);
+    }
 
-fn look(plan: &[u8], rounds: usize) -> Measured {
-    let last = plain::plan::Header::of(plan).unwrap().ticks - 1;
-    let [mut library, mut plain, mut rival] = lent(plan);
-    of_three(measure(
-        rounds,
-        [
-            &mut || register::look(plan, &mut library.workspace, 0, last).unwrap().kept().len(),
-            &mut || plain::look(plan, &mut plain.workspace, 0, last).unwrap().count,
-            &mut || rival::look(plan, &mut rival.workspace, 0, last).unwrap().count,
-        ],
-    ))
-}
+    fn play(&mut self, plan: &[u8], rounds: usize) {
+        let mut lent = lent(plan);
+        let [a, b, c] = &mut lent;
+        let mut library = || register::play(plan, &mut a.answers, &mut a.workspace).unwrap();
+        let mut plain = || plain::play(plan, &mut b.answers, &mut b.workspace).unwrap();
+        let mut rival = || rival::play(plan, &mut c.answers, &mut c.workspace).unwrap();
+        self.add_three(rounds, [&mut library, &mut plain, &mut rival]);
+        assert!(lent.iter().all(|given| given.answers == lent[0].answers), "answers differ");
+    }
 
-fn judge(plan: &[u8], rounds: usize) -> Measured {
-    let [Lent { mut answers, mut workspace }] = lent(plan);
-    plain::play(plan, &mut answers, &mut workspace).unwrap();
-    let [library, plain] = measure(
-        rounds,
-        [&mut || usize::from(register::judge(plan, &answers).unwrap()), &mut || {
-            usize::from(plain::judge(plan, &answers).unwrap())
-        }],
-    );
-    Measured { library, plain, rival: None }
+    fn look(&mut self, plan: &[u8], rounds: usize) {
+        let last = plain::plan::Header::of(plan).unwrap().ticks - 1;
+        let [mut a, mut b, mut c] = lent(plan);
+        let mut library = || register::look(plan, &mut a.workspace, 0, last).unwrap().kept().len();
+        let mut plain = || plain::look(plan, &mut b.workspace, 0, last).unwrap().count;
+        let mut rival = || rival::look(plan, &mut c.workspace, 0, last).unwrap().count;
+        self.add_three(rounds, [&mut library, &mut plain, &mut rival]);
+    }
+
+    fn judge(&mut self, plan: &[u8], rounds: usize) {
+        let [Lent { mut answers, mut workspace }] = lent(plan);
+        plain::play(plan, &mut answers, &mut workspace).unwrap();
+        let mut library = || usize::from(register::judge(plan, &answers).unwrap());
+        let mut plain = || usize::from(plain::judge(plan, &answers).unwrap());
+        let samples = [&mut self.library, &mut self.plain];
+        measure(rounds, [&mut library, &mut plain], samples);
+    }
 }
