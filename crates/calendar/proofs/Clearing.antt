@@ -1,0 +1,108 @@
+-- What is left of a row's cells while they are emptied, and when the row is cleared; that nothing is left when all is zeroed.
+use mathlib.Core.Path.{_≡_, refl, _∙_}
+use mathlib.Core.Bool.{Bool, true, false, not, _&&_}
+use mathlib.Core.List.{List}
+use Prim.Native.Nat.{ℕ, _+_, _*_, _≤_, _<_, max}
+use native.Mathlib.Omega.{arith}
+use native.Mathlib.Decide.{ℕ-discrete}
+use lib.Dec.{eqb, ltb, leb}
+use lib.ListN.{length, getD}
+use borrow.Author.Tests.{lt-ltb, le-ltb, le-leb, leb-true, ltb-true, ltb-false, eq-eqb, ne-eqb}
+use Rattle.calendar.specs.Bits.{putWord}
+use Rattle.calendar.specs.Layout.{calendarSize, cellsAt, places, rows, cellWord, lowOf, highOf, sender}
+use Rattle.calendar.specs.View.{SamePast, Cleared, Empty, Zeroed}
+use Rattle.calendar.proofs.Laws.{and-none, bit-zero, put-length, put-byte, put-other, put-none, put-low, put-high, zeroed-word}
+use Rattle.calendar.proofs.Posting.{same-cell}
+
+-- the cells of the row with the pairs from `from` to before `to` are emptied
+pub record Emptied (a r : List ℕ) (row from to : ℕ) : Type 0 where
+  pub rest : SamePast a r
+  pub front : (k : ℕ) → k < 2 * cellsAt → getD r k 0 ≡ getD a k 0
+  pub cells : (x j i : ℕ) → x < rows → j < places → sender r x j i ≡ not (eqb x row && (leb from j && ltb j to)) && sender a x j i
+
+-- no number is from b on and below b
+no-number : (b y : ℕ) → leb b y && ltb y b ≡ false
+no-number b y = go (leb b y) refl
+  where
+    go : (c : Bool) → leb b y ≡ c → c && ltb y b ≡ false
+    go true e = le-ltb y b (leb-true b y e)
+    go false e = refl
+
+pub emptied-none : (a : List ℕ) (row from : ℕ) → Emptied a a row from from
+emptied-none a row from = record {
+  rest = record { size = refl; past = λ k l. refl };
+  front = λ k l. refl;
+  cells = λ x j i l m. rw (no-number from j, and-none (eqb x row));
+}
+
+-- one pair more is out
+out-more : (p : Bool) (from at y : ℕ) (s : Bool) → from ≤ at
+    → not (p && eqb y at) && (not (p && (leb from y && ltb y at)) && s) ≡ not (p && (leb from y && ltb y (at + 1))) && s
+out-more false from at y s h = refl
+out-more true from at y s h = go (ℕ-discrete y at)
+  where
+    same : (y ≡ at → ⊥) → ltb y (at + 1) ≡ ltb y at
+    same d = both (ltb y at) refl
+      where
+        less : y < at → y < at + 1
+        less l = omega arith
+
+        more : at ≤ y → (y ≡ at → ⊥) → at + 1 ≤ y
+        more l d = omega arith
+
+        both : (b : Bool) → ltb y at ≡ b → ltb y (at + 1) ≡ b
+        both true e = lt-ltb y (at + 1) (less (ltb-true y at e))
+        both false e = le-ltb y (at + 1) (more (ltb-false y at e) d)
+
+    go : Dec (y ≡ at) → not (eqb y at) && (not (leb from y && ltb y at) && s) ≡ not (leb from y && ltb y (at + 1)) && s
+    go (yes e) = rw (eq-eqb y at e, le-leb from y (omega arith), lt-ltb y (at + 1) (omega arith))
+    go (no d) = rw (ne-eqb y at d, same d)
+
+pub emptied-more : (a r : List ℕ) (row from at : ℕ) → row < rows → at < places → from ≤ at → calendarSize ≤ length r → Emptied a r row from at
+    → Emptied a (putWord r (cellWord row at) 0) row from (at + 1)
+emptied-more a r row from at hr ha hf size E = record {
+  rest = record {
+    size = put-length r (cellWord row at) 0 ∙ E .rest .size;
+    past = λ k l. put-byte r (cellWord row at) 0 k (λ e. omega arith) (λ e. omega arith) ∙ E .rest .past k l;
+  };
+  front = λ k l. put-byte r (cellWord row at) 0 k (λ e. omega arith) (λ e. omega arith) ∙ E .front k l;
+  cells = λ x j i l m. put-none r (cellWord row at) (cellWord x j) i (omega arith)
+      ∙ rw (same-cell x row j at l hr, E .cells x j i l m) (out-more (eqb x row) from at j (sender a x j i) hf);
+}
+
+-- the pairs from `from` on below the later of two numbers
+later : (from to y : ℕ) → leb from y && ltb y (max from to) ≡ leb from y && ltb y to
+later from to y = go (leb from y) refl
+  where
+    same : from ≤ y → (b : Bool) → ltb y to ≡ b → ltb y (max from to) ≡ b
+    same h true e = lt-ltb y (max from to) (omega (arith, ltb-true y to e))
+    same h false e = le-ltb y (max from to) (omega (arith, ltb-false y to e))
+
+    go : (b : Bool) → leb from y ≡ b → b && ltb y (max from to) ≡ b && ltb y to
+    go true e = same (leb-true from y e) (ltb y to) refl
+    go false e = refl
+
+pub cleared : (a r : List ℕ) (row : ℕ) → row < rows → calendarSize ≤ length r → Emptied a r row (lowOf a row) (max (lowOf a row) (highOf a row))
+    → Cleared a (putWord r row 0) row
+cleared a r row hr size E = record {
+  rest = record {
+    size = put-length r row 0 ∙ E .rest .size;
+    past = λ k l. put-byte r row 0 k (λ e. omega arith) (λ e. omega arith) ∙ E .rest .past k l;
+  };
+  cells = λ x j i l m. rw (put-other r row 0 (cellWord x j) (λ e. omega arith)) (E .cells x j i l m ∙ rw (later (lowOf a row) (highOf a row) j));
+  lowHere = put-low r row 0 (omega arith);
+  highHere = put-high r row 0 (omega arith);
+  low = λ x l d. put-byte r row 0 (2 * x) (λ e. d (omega arith)) (λ e. omega arith) ∙ E .front (2 * x) (omega arith);
+  high = λ x l d. put-byte r row 0 (2 * x + 1) (λ e. omega arith) (λ e. d (omega arith)) ∙ E .front (2 * x + 1) (omega arith);
+}
+
+-- everything up to the cells of pair m is zeroed
+pub started : (a r : List ℕ) (m to : ℕ) → m ≤ places → to ≡ 2 * (cellsAt + rows * m) → Zeroed a r 0 to → SamePast a r × Empty r m
+started a r m to h d Z = (
+  record { size = Z .size; past = λ k l. Z .above k (omega arith) },
+  record {
+    low = λ x l. Z .zero (2 * x) (omega arith) (omega arith);
+    high = λ x l. Z .zero (2 * x + 1) (omega arith) (omega arith);
+    cells = λ x j i l n. rw (zeroed-word a r 0 to (cellWord x j) (omega arith) (omega arith) Z) (bit-zero i);
+  },
+)

@@ -1,0 +1,181 @@
+-- General laws: tests, sets kept as the bits of a number, and words of two bytes after a store. They stand on the library's laws of binary digits.
+use mathlib.Core.Path.{_≡_, refl, sym, _∙_}
+use mathlib.Core.Bool.{Bool, true, false, not, _&&_, _||_}
+use mathlib.Core.List.{List}
+use Prim.Native.Nat.{ℕ, zero, suc, _+_, _*_, _/_, _%_, _^_, _≤_, _<_}
+use native.Mathlib.Nat.{one-mul, pow-suc, mod-eq-of-lt}
+use native.Mathlib.Omega.{arith}
+use lib.Pow.{pow-lt}
+use lib.Dec.{eqb, ltb, eqb·zero-suc, eqb·suc-zero, eqb·suc-suc}
+use lib.ListN.{length, getD, set, length-set}
+use lib.Seq.{getD-set-same, getD-set-other, lt-length-set}
+use lib.Bits.{bitOr, or-shr, or-mod}
+use borrow.Author.Tests.{lt-ltb, le-ltb, eqb-true, eqb-false, ltb-true, ltb-false}
+use Rattle.calendar.specs.Bits.{bit, wordOf, putWord}
+use Rattle.calendar.specs.View.{Zeroed}
+use native.Mathlib.Decide.{ℕ-discrete}
+
+-- ---- tests
+
+pub or-assoc : (a b c : Bool) → (a || b) || c ≡ a || (b || c)
+or-assoc true b c = refl
+or-assoc false b c = refl
+
+pub or-none : (a : Bool) → a ≡ a || false
+or-none true = refl
+or-none false = refl
+
+pub and-none : (a : Bool) → a && false ≡ false
+and-none true = refl
+and-none false = refl
+
+pub and-both : (a b : Bool) → a && b ≡ true → (a ≡ true) × (b ≡ true)
+and-both true b e = (refl, e)
+and-both false b e = (e, absurd (never e))
+  where
+    never : false ≡ true → ⊥
+    never e = let z : _≡_ {A = ℕ} 0 1 = cc in omega arith
+
+pub or-either : (C : Type 0) (a b : Bool) → a || b ≡ true → (a ≡ true → C) → (b ≡ true → C) → C
+or-either C true b e f g = f refl
+or-either C false b e f g = g e
+
+-- one number more
+pub ltb-more : (k i : ℕ) (h : Bool) → (ltb k i && h) || (eqb k i && h) ≡ ltb k (i + 1) && h
+ltb-more k i h = go (ltb k i) (eqb k i) refl refl
+  where
+    go : (a b : Bool) → ltb k i ≡ a → eqb k i ≡ b → (a && h) || (b && h) ≡ ltb k (i + 1) && h
+    go true true p q = absurd (omega (arith, ltb-true k i p, eqb-true k i q))
+    go true false p q = rw (lt-ltb k (i + 1) (omega (arith, ltb-true k i p))) (sym (or-none h))
+    go false true p q = rw (lt-ltb k (i + 1) (omega (arith, eqb-true k i q)))
+    go false false p q = rw (le-ltb k (i + 1) (more (ltb-false k i p) (eqb-false k i q)))
+      where
+        more : i ≤ k → (k ≡ i → ⊥) → i + 1 ≤ k
+        more l d = omega arith
+
+-- ---- sets
+
+digit-or : (x y : ℕ) → x < 2 → y < 2 → eqb (bitOr x y) 1 ≡ eqb x 1 || eqb y 1
+digit-or zero zero h g = refl
+digit-or zero (suc zero) h g = refl
+digit-or (suc zero) zero h g = refl
+digit-or (suc zero) (suc zero) h g = refl
+digit-or zero (suc (suc y)) h g = absurd (omega arith)
+digit-or (suc zero) (suc (suc y)) h g = absurd (omega arith)
+digit-or (suc (suc x)) y h g = absurd (omega arith)
+
+pub bit-or : (k a b : ℕ) → bit k (bitOr a b) ≡ bit k a || bit k b
+unfolding bit
+bit-or zero a b = rw (or-mod a b 1) (digit-or (a % 2) (b % 2) (omega arith) (omega arith))
+bit-or (suc k) a b = rw (or-shr a b 1) (bit-or k (a / 2) (b / 2))
+
+pub bit-zero : (k : ℕ) → bit k 0 ≡ false
+unfolding bit
+bit-zero zero = refl
+bit-zero (suc k) = bit-zero k
+
+-- the set of one number
+pub bit-pow : (k i : ℕ) → bit k (2 ^ i) ≡ eqb k i
+unfolding bit
+bit-pow zero zero = refl
+bit-pow zero (suc i) = let e : 2 ^ suc i % 2 ≡ 0 = omega (arith, pow-suc 2 i) in rw (e, eqb·zero-suc i)
+bit-pow (suc k) zero = bit-zero k ∙ sym (eqb·suc-zero k)
+bit-pow (suc k) (suc i) = let e : 2 ^ suc i / 2 ≡ 2 ^ i = omega (arith, pow-suc 2 i) in rw (e, eqb·suc-suc k i) (bit-pow k i)
+
+-- `1 << i` at 16 bits
+pub shifted : (i : ℕ) → i < 16 → 1 * 2 ^ i % 65536 ≡ 2 ^ i
+shifted i h = rw (one-mul (2 ^ i)) (mod-eq-of-lt (pow-lt h))
+
+-- ---- two bytes stored, one after the other
+
+module _ (s : List ℕ) (at x y : ℕ) where
+  pub two-length : length (set (set s at x) (at + 1) y) ≡ length s
+  two-length = simp length-set
+
+  pub two-other : (k : ℕ) → (k ≡ at → ⊥) → (k ≡ at + 1 → ⊥) → getD (set (set s at x) (at + 1) y) k 0 ≡ getD s k 0
+  two-other k h g = getD-set-other (set s at x) (at + 1) k y 0 g ∙ getD-set-other s at k x 0 h
+
+  pub two-first : at + 1 < length s → getD (set (set s at x) (at + 1) y) at 0 ≡ x
+  two-first h = getD-set-other (set s at x) (at + 1) at y 0 (λ e. omega arith) ∙ getD-set-same s at x 0 (omega arith)
+
+  pub two-second : at + 1 < length s → getD (set (set s at x) (at + 1) y) (at + 1) 0 ≡ y
+  two-second h = getD-set-same (set s at x) (at + 1) y 0 (lt-length-set s at x h)
+
+-- ---- words
+
+-- a word whose bytes stay
+pub word-same : (a r : List ℕ) (w : ℕ) → getD r (2 * w) 0 ≡ getD a (2 * w) 0 → getD r (2 * w + 1) 0 ≡ getD a (2 * w + 1) 0
+    → wordOf r w ≡ wordOf a w
+unfolding wordOf
+word-same a r w e d = rw (e, d)
+
+-- a word whose bytes are 0
+pub word-none : (r : List ℕ) (w : ℕ) → getD r (2 * w) 0 ≡ 0 → getD r (2 * w + 1) 0 ≡ 0 → wordOf r w ≡ 0
+unfolding wordOf
+word-none r w e d = rw (e, d)
+
+pub put-length : (s : List ℕ) (w x : ℕ) → length (putWord s w x) ≡ length s
+unfolding putWord
+put-length s w x = two-length s (2 * w) (x % 256) (x / 256)
+
+-- a byte of another word
+pub put-byte : (s : List ℕ) (w x k : ℕ) → (k ≡ 2 * w → ⊥) → (k ≡ 2 * w + 1 → ⊥) → getD (putWord s w x) k 0 ≡ getD s k 0
+unfolding putWord
+put-byte s w x k = two-other s (2 * w) (x % 256) (x / 256) k
+
+pub put-here : (s : List ℕ) (w x : ℕ) → 2 * w + 1 < length s → wordOf (putWord s w x) w ≡ x
+unfolding wordOf putWord
+put-here s w x h = rw (two-first s (2 * w) (x % 256) (x / 256) h, two-second s (2 * w) (x % 256) (x / 256) h) (omega arith)
+
+-- its two bytes
+pub put-low : (s : List ℕ) (w x : ℕ) → 2 * w + 1 < length s → getD (putWord s w x) (2 * w) 0 ≡ x % 256
+unfolding putWord
+put-low s w x h = two-first s (2 * w) (x % 256) (x / 256) h
+
+pub put-high : (s : List ℕ) (w x : ℕ) → 2 * w + 1 < length s → getD (putWord s w x) (2 * w + 1) 0 ≡ x / 256
+unfolding putWord
+put-high s w x h = two-second s (2 * w) (x % 256) (x / 256) h
+
+pub put-other : (s : List ℕ) (w x v : ℕ) → (v ≡ w → ⊥) → wordOf (putWord s w x) v ≡ wordOf s v
+put-other s w x v h =
+    word-same s (putWord s w x) v (put-byte s w x (2 * v) (λ e. h (omega arith)) (λ e. omega arith))
+    (put-byte s w x (2 * v + 1) (λ e. omega arith) (λ e. h (omega arith)))
+
+-- i is put into the set at word w
+pub put-member : (s : List ℕ) (w i v k : ℕ) → 2 * w + 1 < length s
+    → bit k (wordOf (putWord s w (bitOr (wordOf s w) (2 ^ i))) v) ≡ bit k (wordOf s v) || (eqb v w && eqb k i)
+put-member s w i v k h = go (eqb v w) refl
+  where
+    go : (b : Bool) → eqb v w ≡ b → bit k (wordOf (putWord s w (bitOr (wordOf s w) (2 ^ i))) v) ≡ bit k (wordOf s v) || (b && eqb k i)
+    go true e = rw (eqb-true v w e, put-here s w (bitOr (wordOf s w) (2 ^ i)) h, bit-or k (wordOf s w) (2 ^ i), bit-pow k i)
+    go false e = rw (put-other s w (bitOr (wordOf s w) (2 ^ i)) v (eqb-false v w e)) (or-none (bit k (wordOf s v)))
+
+-- word w is emptied
+pub put-none : (s : List ℕ) (w v k : ℕ) → 2 * w + 1 < length s → bit k (wordOf (putWord s w 0) v) ≡ not (eqb v w) && bit k (wordOf s v)
+put-none s w v k h = go (eqb v w) refl
+  where
+    go : (b : Bool) → eqb v w ≡ b → bit k (wordOf (putWord s w 0) v) ≡ not b && bit k (wordOf s v)
+    go true e = rw (eqb-true v w e, put-here s w 0 h) (bit-zero k)
+    go false e = rw (put-other s w 0 v (eqb-false v w e))
+
+-- ---- zeroed bytes
+
+pub zeroed-none : (a : List ℕ) (from : ℕ) → Zeroed a a from from
+zeroed-none a from = record { size = refl; zero = λ k l m. absurd (omega arith); below = λ k l. refl; above = λ k l. refl }
+
+pub zeroed-more : (a r : List ℕ) (from at : ℕ) → from ≤ at → at < length r → Zeroed a r from at → Zeroed a (set r at 0) from (at + 1)
+zeroed-more a r from at h g Z = record {
+  size = length-set r at 0 ∙ Z .size;
+  zero = λ k l m. here k l (ℕ-discrete k at) m;
+  below = λ k l. getD-set-other r at k 0 0 (λ e. omega arith) ∙ Z .below k l;
+  above = λ k l. getD-set-other r at k 0 0 (λ e. omega arith) ∙ Z .above k (omega arith);
+}
+  where
+    here : (k : ℕ) → from ≤ k → Dec (k ≡ at) → k < at + 1 → getD (set r at 0) k 0 ≡ 0
+    here k l (yes e) m = rw e (getD-set-same r at 0 0 g)
+    here k l (no d) m = getD-set-other r at k 0 0 d ∙ Z .zero k l (omega arith)
+
+module _ (a r : List ℕ) (from to v : ℕ) where
+  -- a word that is zeroed
+  pub zeroed-word : from ≤ 2 * v → 2 * v + 1 < to → Zeroed a r from to → wordOf r v ≡ 0
+  zeroed-word h g Z = word-none r v (Z .zero (2 * v) h (omega arith)) (Z .zero (2 * v + 1) (omega arith) g)

@@ -1,0 +1,6 @@
+pub mod Laws
+pub mod Posting
+pub mod Clearing
+pub mod Sendings
+pub mod Spans
+pub mod Uses

@@ -1,0 +1,388 @@
+-- What posting adds: one message, the pairs of a store, and both to all other servers.
+use mathlib.Core.Path.{_≡_, refl, sym, ap, _∙_}
+use mathlib.Core.Bool.{Bool, true, false, not, _&&_, _||_, cond}
+use mathlib.Core.List.{List, [], _∷_}
+use Prim.Native.Nat.{ℕ, zero, suc, _+_, _*_, _/_, _%_, _^_, _≤_, _<_}
+use native.Mathlib.Omega.{arith}
+use native.Mathlib.Decide.{ℕ-discrete}
+use native.Mathlib.Numerals.{add-one}
+use lib.Dec.{eqb, ltb}
+use lib.ListN.{length, getD, set, length-set}
+use lib.Seq.{getD-set-other, set-getD}
+use lib.Bits.{bitOr}
+use borrow.Author.Tests.{lt-ltb, le-ltb, eq-eqb, ne-eqb, eqb-true, eqb-false, ltb-true, ltb-false}
+use Rattle.calendar.specs.declared.Stamped.{Stamped}
+use Rattle.calendar.specs.declared.Sending.{Sending}
+use Rattle.calendar.specs.Bits.{wordOf, putWord}
+use Rattle.calendar.specs.Layout.{calendarSize, cellsAt, places, rows, receivers, cellWord, lowOf, highOf, sendersOf, sender, rowOf}
+use Rattle.calendar.specs.View.{Inside, Posted}
+use Rattle.calendar.specs.Posts.{Messages, inRow, heldIn, vacant, dueIn, toFirst, arrivalOf, lowWith, highWith, widened}
+use Rattle.calendar.proofs.Laws.{
+  or-assoc,
+  or-none,
+  and-none,
+  and-both,
+  or-either,
+  ltb-more,
+  two-length,
+  two-other,
+  two-first,
+  two-second,
+  word-same,
+  put-length,
+  put-byte,
+  put-member,
+}
+
+-- ---- the relation
+
+pub posted-eq : (a r : List ℕ) (f h : Messages) → Posted a r f → ((x j k : ℕ) → x < rows → j < places → f x j k ≡ h x j k) → Posted a r h
+posted-eq a r f h A e = record {
+  rest = A .rest;
+  cells = λ x j k l m. A .cells x j k l m ∙ rw (e x j k l m);
+  wider = A .wider;
+  grown = λ x j k l m q. A .grown x j k l m (e x j k l m ∙ q);
+  top = λ x m l u g. A .top x m l u (λ j k n q. g j k n (sym (e x j k l n) ∙ q));
+  bottom = λ x m l u g. A .bottom x m l u (λ j k n q. g j k n (sym (e x j k l n) ∙ q));
+  still = λ x l g. A .still x l (λ j k n. e x j k l n ∙ g j k n);
+}
+
+pub posted-trans : (a b c : List ℕ) (f h : Messages) → Posted a b f → Posted b c h → Posted a c (λ x j k. f x j k || h x j k)
+posted-trans a b c f h A B = record {
+  rest = record { size = B .rest .size ∙ A .rest .size; past = λ k l. B .rest .past k l ∙ A .rest .past k l };
+  cells = λ x j k l m. B .cells x j k l m ∙ rw (A .cells x j k l m) (or-assoc (sender a x j k) (f x j k) (h x j k));
+  wider = λ x j l i. B .wider x j l (A .wider x j l i);
+  grown = λ x j k l m q. or-either (Inside c x j) (f x j k) (h x j k) q (λ p. B .wider x j l (A .grown x j k l m p)) (λ p. B .grown x j k l m p);
+  top = λ x m l u g. B .top x m l (A .top x m l u (λ j k n q. g j k n (rw q))) (λ j k n q. g j k n (either (f x j k) (h x j k) q));
+  bottom = λ x m l u g. B .bottom x m l (A .bottom x m l u (λ j k n q. g j k n (rw q))) (λ j k n q. g j k n (either (f x j k) (h x j k) q));
+  still = λ x l g.
+      let p = A .still x l (λ j k n. neither (f x j k) (h x j k) (g j k n) .0) in
+      let q = B .still x l (λ j k n. neither (f x j k) (h x j k) (g j k n) .1) in
+      (q .0 ∙ p .0, q .1 ∙ p .1);
+}
+  where
+    neither : (p q : Bool) → p || q ≡ false → (p ≡ false) × (q ≡ false)
+    neither true q e = absurd (let z : _≡_ {A = ℕ} 0 1 = cc in omega arith)
+    neither false q e = (refl, e)
+
+    either : (p q : Bool) → q ≡ true → p || q ≡ true
+    either true q e = refl
+    either false q e = e
+
+pub posted-none : (a : List ℕ) (f : Messages) → ((x j k : ℕ) → x < rows → j < places → f x j k ≡ false) → Posted a a f
+posted-none a f e = record {
+  rest = record { size = refl; past = λ k l. refl };
+  cells = λ x j k l m. rw (e x j k l m) (or-none (sender a x j k));
+  wider = λ x j l i. i;
+  grown = λ x j k l m q. absurd (never (sym (e x j k l m) ∙ q));
+  top = λ x m l u g. u;
+  bottom = λ x m l u g h. u h;
+  still = λ x l g. (refl, refl);
+}
+  where
+    never : false ≡ true → ⊥
+    never e = let z : _≡_ {A = ℕ} 0 1 = cc in omega arith
+
+-- ---- the span with one pair more
+
+low-self : (low high j : ℕ) → lowWith low high j ≤ j
+low-self low high j = go (eqb high 0) (ltb j low) refl
+  where
+    go : (b c : Bool) → ltb j low ≡ c → cond b j (cond c j low) ≤ j
+    go true c e = omega arith
+    go false true e = omega arith
+    go false false e = omega (arith, ltb-false j low e)
+
+low-other : (low high j y : ℕ) → low ≤ y → y < high → lowWith low high j ≤ y
+low-other low high j y h g = go (eqb high 0) (ltb j low) refl refl
+  where
+    go : (b c : Bool) → eqb high 0 ≡ b → ltb j low ≡ c → cond b j (cond c j low) ≤ y
+    go true c e d = absurd (omega (arith, eqb-true high 0 e))
+    go false true e d = omega (arith, ltb-true j low d)
+    go false false e d = h
+
+high-self : (high j : ℕ) → j < highWith high j
+high-self high j = go (ltb j high) refl
+  where
+    go : (c : Bool) → ltb j high ≡ c → j < cond c high (j + 1)
+    go true e = ltb-true j high e
+    go false e = omega arith
+
+high-other : (high j : ℕ) → high ≤ highWith high j
+high-other high j = go (ltb j high) refl
+  where
+    go : (c : Bool) → ltb j high ≡ c → high ≤ cond c high (j + 1)
+    go true e = omega arith
+    go false e = omega (arith, ltb-false j high e)
+
+high-top : (high j m : ℕ) → high ≤ m → j < m → highWith high j ≤ m
+high-top high j m h g = go (ltb j high)
+  where
+    go : (c : Bool) → cond c high (j + 1) ≤ m
+    go true = h
+    go false = omega arith
+
+low-bottom : (low high j m : ℕ) → (0 < high → m ≤ low) → m ≤ j → m ≤ lowWith low high j
+low-bottom low high j m h g = go (eqb high 0) (ltb j low) refl
+  where
+    go : (b c : Bool) → eqb high 0 ≡ b → m ≤ cond b j (cond c j low)
+    go true c e = g
+    go false true e = g
+    go false false e = h (some (eqb-false high 0 e))
+      where
+        some : (high ≡ 0 → ⊥) → 0 < high
+        some d = omega arith
+
+-- ---- one message
+
+pub same-cell : (x row y j : ℕ) → x < rows → row < rows → eqb (cellWord x y) (cellWord row j) ≡ eqb x row && eqb y j
+same-cell x row y j hx hr = go (ℕ-discrete x row) (ℕ-discrete y j)
+  where
+    go : Dec (x ≡ row) → Dec (y ≡ j) → eqb (cellWord x y) (cellWord row j) ≡ eqb x row && eqb y j
+    go (yes p) (yes q) = rw (eq-eqb x row p, eq-eqb y j q, eq-eqb (cellWord x y) (cellWord row j) (omega arith))
+    go (yes p) (no q) = rw (eq-eqb x row p, ne-eqb y j q, ne-eqb (cellWord x y) (cellWord row j) (λ e. q (omega arith)))
+    go (no p) q = rw (ne-eqb x row p, ne-eqb (cellWord x y) (cellWord row j) (λ e. p (omega arith)))
+
+turn : (d a b c : Bool) → d || ((a && b) && c) ≡ d || (a && (c && b))
+turn d true true true = refl
+turn d true true false = refl
+turn d true false c = rw (and-none c)
+turn d false b c = refl
+
+module _ (s : List ℕ) (row j : ℕ) where
+  widened-length : length (widened s row j) ≡ length s
+  unfolding widened
+  widened-length = two-length s (2 * row) _ _
+
+  widened-byte : (k : ℕ) → (k ≡ 2 * row → ⊥) → (k ≡ 2 * row + 1 → ⊥) → getD (widened s row j) k 0 ≡ getD s k 0
+  unfolding widened
+  widened-byte k = two-other s (2 * row) _ _ k
+
+  widened-low : 2 * row + 1 < length s → lowOf (widened s row j) row ≡ lowWith (lowOf s row) (highOf s row) j
+  unfolding widened
+  widened-low h = two-first s (2 * row) _ _ h
+
+  widened-high : 2 * row + 1 < length s → highOf (widened s row j) row ≡ highWith (highOf s row) j
+  unfolding widened
+  widened-high h = two-second s (2 * row) _ _ h
+
+  widened-word : (v : ℕ) → (v ≡ row → ⊥) → wordOf (widened s row j) v ≡ wordOf s v
+  widened-word v h =
+      word-same s (widened s row j) v (widened-byte (2 * v) (λ e. h (omega arith)) (λ e. omega arith))
+      (widened-byte (2 * v + 1) (λ e. omega arith) (λ e. h (omega arith)))
+
+-- the bytes with the lowest pair stored
+unfoldable pub lowered : List ℕ → ℕ → ℕ → List ℕ
+lowered s row j = set s (2 * row) (lowWith (lowOf s row) (highOf s row) j)
+
+module _ (s : List ℕ) (row j : ℕ) where
+  -- storing what is there changes nothing
+  pub lowered-length : length (lowered s row j) ≡ length s
+  unfolding lowered
+  lowered-length = length-set s (2 * row) _
+
+  pub lowered-yes : (highOf s row ≡ 0 → ⊥) → j < lowOf s row → set s (2 * row) j ≡ lowered s row j
+  unfolding lowered
+  lowered-yes d h = rw (ne-eqb (highOf s row) 0 d, lt-ltb j (lowOf s row) h)
+
+  pub lowered-no : (highOf s row ≡ 0 → ⊥) → lowOf s row ≤ j → s ≡ lowered s row j
+  unfolding lowered
+  lowered-no d h = rw (ne-eqb (highOf s row) 0 d, le-ltb j (lowOf s row) h) (sym (set-getD s (2 * row) 0))
+
+  pub widened-first : highOf s row ≡ 0 → set (set s (2 * row) j) (2 * row + 1) (j + 1) ≡ widened s row j
+  unfolding widened
+  widened-first e = rw (eq-eqb (highOf s row) 0 e, le-ltb j (highOf s row) (omega arith))
+
+  pub widened-yes : highOf s row ≤ j → set (lowered s row j) (2 * row + 1) (j + 1) ≡ widened s row j
+  unfolding widened lowered
+  widened-yes h = rw (le-ltb j (highOf s row) h)
+
+  pub widened-no : j < highOf s row → lowered s row j ≡ widened s row j
+  unfolding widened lowered
+  widened-no h =
+      let x = lowWith (lowOf s row) (highOf s row) j in
+      let e = getD-set-other s (2 * row) (2 * row + 1) x 0 (λ e. omega arith) in
+      sym (rw (lt-ltb j (highOf s row) h) (ap (set (set s (2 * row) x) (2 * row + 1)) (sym e) ∙ set-getD (set s (2 * row) x) (2 * row + 1) 0))
+
+-- a cell with one sender more, not yet in the span
+unfoldable pub added : List ℕ → ℕ → ℕ → ℕ → List ℕ
+added a row j i = putWord a (cellWord row j) (bitOr (sendersOf a row j) (2 ^ i))
+
+module _ (a : List ℕ) (row j i : ℕ) (hr : row < rows) (hj : j < places) (size : calendarSize ≤ length a) where
+  added-byte : (k : ℕ) → k < 2 * cellsAt → getD (added a row j i) k 0 ≡ getD a k 0
+  unfolding added
+  added-byte k h = put-byte a (cellWord row j) _ k (λ e. omega arith) (λ e. omega arith)
+
+  added-long : 2 * row + 1 < length (added a row j i)
+  unfolding added
+  added-long = rw (put-length a (cellWord row j) (bitOr (sendersOf a row j) (2 ^ i))) (omega arith)
+
+  here-low : lowOf (widened (added a row j i) row j) row ≡ lowWith (lowOf a row) (highOf a row) j
+  here-low = widened-low (added a row j i) row j added-long ∙ rw (added-byte (2 * row) (omega arith), added-byte (2 * row + 1) (omega arith))
+
+  here-high : highOf (widened (added a row j i) row j) row ≡ highWith (highOf a row) j
+  here-high = widened-high (added a row j i) row j added-long ∙ rw (added-byte (2 * row + 1) (omega arith))
+
+  there : (k : ℕ) → k < 2 * cellsAt → (k ≡ 2 * row → ⊥) → (k ≡ 2 * row + 1 → ⊥) → getD (widened (added a row j i) row j) k 0 ≡ getD a k 0
+  there k l h g = widened-byte (added a row j i) row j k h g ∙ added-byte k l
+
+  here-wider : (x y : ℕ) → x < rows → Inside a x y → Inside (widened (added a row j i) row j) x y
+  here-wider x y l n = go (ℕ-discrete x row)
+    where
+      go : Dec (x ≡ row) → Inside (widened (added a row j i) row j) x y
+      go (yes e) = rw (e, here-low, here-high) (
+        low-other (lowOf a row) (highOf a row) j y (rw e at (n .0)) (rw e at (n .1)),
+        omega (arith, high-other (highOf a row) j, (rw e at (n .1))),
+      )
+      go (no d) = rw (there (2 * x) (omega arith) (λ e. d (omega arith)) (λ e. omega arith), there (2 * x + 1) (omega arith) (λ e. omega arith) (λ e. d (omega arith))) n
+
+  pub posted-one : Posted a (widened (added a row j i) row j) (inRow row i (λ y. eqb y j))
+  unfolding added
+  posted-one = record {
+    rest = record {
+      size = widened-length (added a row j i) row j ∙ put-length a (cellWord row j) _;
+      past = λ k l. widened-byte (added a row j i) row j k (λ e. omega arith) (λ e. omega arith)
+          ∙ put-byte a (cellWord row j) _ k (λ e. omega arith) (λ e. omega arith);
+    };
+    cells = λ x y k l m. rw (widened-word (added a row j i) row j (cellWord x y) (λ e. omega arith)) (put-member a (cellWord row j) i (cellWord x y) k (omega arith)
+        ∙ rw (same-cell x row y j l hr) (turn (sender a x y k) (eqb x row) (eqb y j) (eqb k i)));
+    wider = here-wider;
+    grown = λ x y k l m q.
+        let b = and-both (eqb x row) (eqb k i && eqb y j) q in
+        let e = eqb-true x row (b .0) in
+        let d = eqb-true y j (and-both (eqb k i) (eqb y j) (b .1) .1) in
+        rw (e, d, here-low, here-high) (low-self (lowOf a row) (highOf a row) j, high-self (highOf a row) j);
+    top = here-top;
+    bottom = here-bottom;
+    still = λ x l g. here-still x l (g j i hj);
+  }
+    where
+      here : (x : ℕ) → x ≡ row → inRow row i (λ z. eqb z j) x j i ≡ true
+      here x e = rw (eq-eqb x row e, eq-eqb i i refl, eq-eqb j j refl)
+
+      here-bottom : (x m : ℕ) → x < rows → (0 < highOf a x → m ≤ lowOf a x)
+          → ((y k : ℕ) → y < places → inRow row i (λ z. eqb z j) x y k ≡ true → m ≤ y)
+          → 0 < highOf (widened (added a row j i) row j) x → m ≤ lowOf (widened (added a row j i) row j) x
+      here-bottom x m l u g h = go (ℕ-discrete x row)
+        where
+          go : Dec (x ≡ row) → m ≤ lowOf (widened (added a row j i) row j) x
+          go (yes e) = rw (e, here-low) (low-bottom (lowOf a row) (highOf a row) j m (rw e at u) (g j i hj (here x e)))
+          go (no d) = rw (there (2 * x) (omega arith) (λ e. d (omega arith)) (λ e. omega arith))
+              (u (rw (there (2 * x + 1) (omega arith) (λ e. omega arith) (λ e. d (omega arith))) at h))
+
+      here-still : (x : ℕ) → x < rows → inRow row i (λ z. eqb z j) x j i ≡ false
+          → (lowOf (widened (added a row j i) row j) x ≡ lowOf a x) × (highOf (widened (added a row j i) row j) x ≡ highOf a x)
+      here-still x l g = (
+        there (2 * x) (omega arith) (λ e. d (omega arith)) (λ e. omega arith),
+        there (2 * x + 1) (omega arith) (λ e. omega arith) (λ e. d (omega arith)),
+      )
+        where
+          d : x ≡ row → ⊥
+          d e = let z : _≡_ {A = Bool} true false = sym (here x e) ∙ g in let y : _≡_ {A = ℕ} 0 1 = cc in omega arith
+
+      here-top : (x m : ℕ) → x < rows → highOf a x ≤ m → ((y k : ℕ) → y < places → inRow row i (λ z. eqb z j) x y k ≡ true → y < m)
+          → highOf (widened (added a row j i) row j) x ≤ m
+      here-top x m l u g = go (ℕ-discrete x row)
+        where
+          go : Dec (x ≡ row) → highOf (widened (added a row j i) row j) x ≤ m
+          go (yes e) = rw (e, here-high) (high-top (highOf a row) j m (rw e at u) (g j i hj (here x e)))
+          go (no d) = rw (there (2 * x + 1) (omega arith) (λ e. omega arith) (λ e. d (omega arith))) u
+
+-- ---- the pairs of a store
+
+join : (a b c d : Bool) → (a && (b && c)) || (a && (b && d)) ≡ a && (b && (c || d))
+join true true true true = refl
+join true true true false = refl
+join true true false true = refl
+join true true false false = refl
+join true false c d = refl
+join false b c d = refl
+
+-- the first n places of a store are not empty
+abbrev pub Full : ℕ → List Stamped → Type 0
+Full n ps = (q : ℕ) → q < n → getD ps q vacant .kept ≡ true
+
+held-more : (n : ℕ) (ps : List Stamped) (j : ℕ) → Full n ps → n < length ps → getD ps n vacant .kept ≡ true → heldIn (suc n) ps j ≡ heldIn n ps j || eqb j (getD ps n vacant .number)
+unfolding heldIn
+held-more n [] j F l e = absurd (omega arith)
+held-more zero (p ∷ ps) j F l e = rw e (sym (or-none (eqb j (p .number))))
+held-more (suc n) (p ∷ ps) j F l e =
+    rw (F 0 (omega arith), held-more n ps j (λ q h. F (suc q) (omega arith)) (omega arith) e) (sym (or-assoc (eqb j (p .number)) (heldIn n ps j) (eqb j (getD ps n vacant .number))))
+
+held-stop : (n k : ℕ) (ps : List Stamped) (j : ℕ) → Full n ps → n ≤ k → getD ps n vacant .kept ≡ false → heldIn k ps j ≡ heldIn n ps j
+unfolding heldIn
+held-stop zero zero ps j F l e = refl
+held-stop zero (suc k) [] j F l e = refl
+held-stop zero (suc k) (p ∷ ps) j F l e = rw e
+held-stop (suc n) zero ps j F l e = absurd (omega arith)
+held-stop (suc n) (suc k) [] j F l e = refl
+held-stop (suc n) (suc k) (p ∷ ps) j F l e = rw (F 0 (omega arith), held-stop n k ps j (λ q h. F (suc q) (omega arith)) (omega arith) e)
+
+module _ (kept : List Stamped) (row i : ℕ) where
+  pub kept-first : (a : List ℕ) → Posted a a (inRow row i (heldIn 0 kept))
+  unfolding heldIn
+  kept-first a = posted-none a _ (λ x j k l m. rw (and-none (eqb k i)) (and-none (eqb x row)))
+
+  pub kept-more : (a r s : List ℕ) (q : ℕ) → Full q kept → q < length kept → Posted a r (inRow row i (heldIn q kept)) → getD kept q vacant .kept ≡ true
+      → Posted r s (inRow row i (λ y. eqb y (getD kept q vacant .number))) → Posted a s (inRow row i (heldIn (q + 1) kept))
+  kept-more a r s q F l A e B =
+      posted-eq a s _ _ (posted-trans a r s _ _ A B)
+      (λ x j k h m. rw (add-one q, held-more q kept j F l e) (join (eqb x row) (eqb k i) (heldIn q kept j) (eqb j (getD kept q vacant .number))))
+
+  pub kept-stop : (a r : List ℕ) (q n : ℕ) → Full q kept → q ≤ n → Posted a r (inRow row i (heldIn q kept)) → getD kept q vacant .kept ≡ false
+      → Posted a r (inRow row i (heldIn n kept))
+  kept-stop a r q n F l A e = posted-eq a r _ _ A (λ x j k h m. rw (held-stop q n kept j F l e))
+
+pub full-more : (q : ℕ) (ps : List Stamped) → Full q ps → getD ps q vacant .kept ≡ true → Full (q + 1) ps
+full-more q ps F e y h = elim (ℕ-discrete y q) [ yes d ↦ rw d e | no d ↦ F y (omega arith) ]
+
+-- ---- to all other servers
+
+pub same-row : (x u b : ℕ) → x < rows → b < receivers → eqb x (rowOf u b) ≡ eqb (x % receivers) b && eqb (u % 16) (x / receivers)
+same-row x u b hx hb = go (ℕ-discrete (x % receivers) b) (ℕ-discrete (u % 16) (x / receivers))
+  where
+    go : Dec (x % receivers ≡ b) → Dec (u % 16 ≡ x / receivers) → eqb x (rowOf u b) ≡ eqb (x % receivers) b && eqb (u % 16) (x / receivers)
+    go (yes p) (yes q) = rw (eq-eqb (x % receivers) b p, eq-eqb (u % 16) (x / receivers) q, eq-eqb x (rowOf u b) (omega arith))
+    go (yes p) (no q) = rw (eq-eqb (x % receivers) b p, ne-eqb (u % 16) (x / receivers) q, ne-eqb x (rowOf u b) (λ e. q (omega arith)))
+    go (no p) q = rw (ne-eqb (x % receivers) b p, ne-eqb x (rowOf u b) (λ e. p (omega arith)))
+
+module _ (s : Sending) (P : ℕ → Bool) where
+  -- the messages with pair j of sender k that reach the row
+  sent : ℕ → ℕ → ℕ → Bool
+  sent x j k = dueIn s x && (eqb k (s .sender) && P j)
+
+  to-one : (x j k b : ℕ) → x < rows → b < receivers → (b ≡ s .sender → ⊥)
+      → inRow (rowOf (arrivalOf s b) b) (s .sender) P x j k ≡ eqb (x % receivers) b && sent x j k
+  unfolding sent dueIn
+  to-one x j k b hx hb d = rw (same-row x (arrivalOf s b) b hx hb) (go (eqb (x % receivers) b) refl)
+    where
+      go : (c : Bool) → eqb (x % receivers) b ≡ c
+          → (c && eqb (arrivalOf s b % 16) (x / receivers)) && (eqb k (s .sender) && P j)
+          ≡ c && ((not (eqb (x % receivers) (s .sender)) && eqb (arrivalOf s (x % receivers) % 16) (x / receivers)) && (eqb k (s .sender) && P j))
+      go true e = rw (eqb-true (x % receivers) b e, ne-eqb b (s .sender) d)
+      go false e = refl
+
+  to-self : (x j k b : ℕ) → b ≡ s .sender → eqb (x % receivers) b && sent x j k ≡ false
+  unfolding sent dueIn
+  to-self x j k b d = go (eqb (x % receivers) b) refl
+    where
+      go : (c : Bool) → eqb (x % receivers) b ≡ c
+          → c && ((not (eqb (x % receivers) (s .sender)) && eqb (arrivalOf s (x % receivers) % 16) (x / receivers)) && (eqb k (s .sender) && P j)) ≡ false
+      go true e = rw (eq-eqb (x % receivers) (s .sender) (eqb-true (x % receivers) b e ∙ d))
+      go false e = refl
+
+  pub others-first : (a : List ℕ) → Posted a a (toFirst s 0 P)
+  others-first a = posted-none a _ (λ x j k l m. rw (le-ltb (x % receivers) 0 (omega arith)))
+
+  pub others-yes : (a r w : List ℕ) (b : ℕ) → b < 16 → (b ≡ s .sender → ⊥) → Posted a r (toFirst s b P)
+      → Posted r w (inRow (rowOf (arrivalOf s b) b) (s .sender) P) → Posted a w (toFirst s (b + 1) P)
+  unfolding sent
+  others-yes a r w b h d A B =
+      posted-eq a w _ _ (posted-trans a r w _ _ A B)
+      (λ x j k l m. rw (to-one x j k b l (omega arith) d) (ltb-more (x % receivers) b (sent x j k)))
+
+  pub others-self : (a r : List ℕ) (b : ℕ) → b ≡ s .sender → Posted a r (toFirst s b P) → Posted a r (toFirst s (b + 1) P)
+  unfolding sent
+  others-self a r b d A =
+      posted-eq a r _ _ A
+      (λ x j k l m. or-none (toFirst s b P x j k) ∙ (rw (← to-self x j k b d) refl ∙ ltb-more (x % receivers) b (sent x j k)))

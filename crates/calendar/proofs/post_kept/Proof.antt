@@ -1,0 +1,85 @@
+-- `post_kept` meets its contract. The loop's invariant: the pairs of the places before q, none of them empty, are posted.
+use mathlib.Core.Path.{_≡_}
+use Prim.Native.Nat.{_-_, _≤_}
+use native.Mathlib.Omega.{arith}
+use lib.ListN.{length}
+use borrow.Author.Needs.{needs}
+use borrow.Author.Tests.{not-true, not-false}
+use Rattle.calendar.specs.Layout.{depth}
+use Rattle.calendar.specs.View.{Posted}
+use Rattle.calendar.specs.Posts.{inRow, heldIn}
+use Rattle.calendar.proofs.Posting.{Full, full-more, kept-first, kept-more, kept-stop}
+use Rattle.calendar.proofs.post_kept.Statement.{statement}
+use Rattle.calendar.proofs.post_kept.Tie as tie
+
+abbrev Inv-loop : tie.InvT-loop
+Inv-loop work₀ row i kept q₀ work q = (q ≤ depth) × (length kept ≡ depth) × Full q kept × Posted work₀ work (inRow row i (heldIn q kept))
+
+abbrev μ-loop : tie.MeasureT-loop
+μ-loop work₀ row i kept q₀ work q = depth - q
+
+loop-holds : tie.Need-loop-holds Inv-loop μ-loop
+loop-holds c = let a = c .before .args in (omega arith, c .before .good .1 .1 .0 .1 .0 .1, λ q h. absurd (omega arith), kept-first (a .t3) (a .row) (a .i) _)
+
+mul-p : tie.Need-mul-p Inv-loop μ-loop
+mul-p c = search needs
+
+array-copy-out-p : tie.Need-array-copy-out-p Inv-loop μ-loop
+array-copy-out-p c = search needs
+
+same-length : tie.Need-same-length Inv-loop μ-loop
+same-length c = c .before .before .before .before .loop .inv .3 .rest .size
+
+returns : tie.Need-returns Inv-loop μ-loop
+returns c =
+    let a = c .before .before .before .before .before .before .args in
+    let l = c .before .before .before .before .loop in
+    kept-stop (a .t3) (a .row) (a .i) _ _ (l .q) depth (l .inv .2) (l .inv .0) (l .inv .3) (not-true _ (c .if1 .taken))
+
+post-requires : tie.Need-post-requires Inv-loop μ-loop
+post-requires c κs =
+    let s = c .before .before .before .before .before .before .before in
+    let l = c .before .before .before .before .before .loop in
+    (s .pre .0, s .pre .1, omega (arith, l .inv .3 .rest .size))
+
+add-q : tie.Need-add-q Inv-loop μ-loop
+add-q c = search needs
+
+loop-less : tie.Need-loop-less Inv-loop μ-loop
+loop-less c = search needs
+
+loop-again : tie.Need-loop-again Inv-loop μ-loop
+loop-again c =
+    let a = c .before .before .before .before .before .before .before .before .before .before .args in
+    let l = c .before .before .before .before .before .before .before .before .loop in
+    let k = not-false _ (c .before .before .before .before .if1 .left) in
+    let h = c .before .before .before .before .before .before .before .loop-test .taken in (
+      omega arith,
+      l .inv .1,
+      full-more (l .q) (a .t3) (l .inv .2) k,
+      kept-more (a .t3) (a .row) (a .i) _ _ _ (l .q) (l .inv .2) (omega (arith, l .inv .1)) (l .inv .3) k (c .before .before .post .ensures),
+    )
+
+same-length-2 : tie.Need-same-length-2 Inv-loop μ-loop
+same-length-2 c = c .before .loop .inv .3 .rest .size
+
+returns-2 : tie.Need-returns-2 Inv-loop μ-loop
+returns-2 c = let e : c .before .loop .q ≡ depth = omega arith in rw e at (c .before .loop .inv .3)
+
+pub post-kept-spec : {M : Type 1} → statement M
+post-kept-spec =
+    tie.close
+    (tie.spec
+    Inv-loop
+    μ-loop
+    loop-holds
+    mul-p
+    array-copy-out-p
+    same-length
+    returns
+    post-requires
+    add-q
+    loop-less
+    loop-again
+    same-length-2
+    returns-2)

@@ -1,0 +1,69 @@
+-- `post_vote` meets its contract. The loop's invariant: the vote is posted to the servers before b.
+use borrow.Author.Needs.{needs}
+use native.Mathlib.Omega.{arith}
+use mathlib.Core.Path.{_≡_}
+use mathlib.Core.Logic.{inl, inr}
+use Prim.Native.Nat.{_-_, _≤_, _<_}
+use lib.Dec.{eqb}
+use Rattle.calendar.specs.View.{Posted}
+use Rattle.calendar.specs.Posts.{toFirst}
+use Rattle.calendar.proofs.Posting.{others-first, others-yes, others-self}
+use Rattle.calendar.proofs.post_vote.Statement.{statement}
+use Rattle.calendar.proofs.post_vote.Tie as tie
+
+abbrev Inv-loop : tie.InvT-loop
+Inv-loop work₀ sending j n i b₀ work b = (b ≤ n) × Posted work₀ work (toFirst sending b (λ y. eqb y j))
+
+abbrev μ-loop : tie.MeasureT-loop
+μ-loop work₀ sending j n i b₀ work b = n - b
+
+loop-holds : tie.Need-loop-holds Inv-loop μ-loop
+loop-holds c = let a = c .before .args in (omega arith, others-first (a .sending) _ _)
+
+arrival-requires : tie.Need-arrival-requires Inv-loop μ-loop
+arrival-requires c κs = (c .before .before .before .before .before .pre .0, c .before .before .loop-test .taken)
+
+row-requires : tie.Need-row-requires Inv-loop μ-loop
+row-requires c κs = omega (arith, c .before .before .before .before .before .before .pre .0 .servers, c .before .before .before .loop-test .taken)
+
+post-requires : tie.Need-post-requires Inv-loop μ-loop
+post-requires c κs = let p = c .before .before .before .before .before .before .before .pre in (c .row .ensures .1, p .1, omega (arith, c .before .before .before .before .before .loop .inv .1 .rest .size))
+
+add-b : tie.Need-add-b Inv-loop μ-loop
+add-b c = search needs
+
+loop-less : tie.Need-loop-less Inv-loop μ-loop
+loop-less c = search needs
+
+loop-again : tie.Need-loop-again Inv-loop μ-loop
+loop-again c = let s = c .before .before .before .before in
+    let l = c .before .before .loop in
+    let h : l .b < 16 = omega (arith, s .pre .0 .servers, c .before .loop-test .taken) in (
+      omega arith,
+      elim (c .if1 .came) [
+        | inl w ↦ (rw (w .7) (others-yes (s .args .sending) _ _ _ _ (l .b) h (w .0 .taken) (l .inv .1) (rw (w .3 .ensures .0, w .2 .ensures .0) at (w .4 .ensures))))
+        | inr w ↦ (rw (w .1) (others-self (s .args .sending) _ _ _ (l .b) (w .0 .left) (l .inv .1)))
+      ],
+    )
+
+same-length : tie.Need-same-length Inv-loop μ-loop
+same-length c = c .before .loop .inv .1 .rest .size
+
+returns : tie.Need-returns Inv-loop μ-loop
+returns c = let e : c .before .loop .b ≡ c .before .before .before .args .sending .n = omega arith in rw e at (c .before .loop .inv .1)
+
+pub post-vote-spec : {M : Type 1} → statement M
+post-vote-spec =
+    tie.close
+    (tie.spec
+    Inv-loop
+    μ-loop
+    loop-holds
+    arrival-requires
+    row-requires
+    post-requires
+    add-b
+    loop-less
+    loop-again
+    same-length
+    returns)

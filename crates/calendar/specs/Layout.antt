@@ -1,0 +1,54 @@
+-- Where the calendar stands in the lent workspace. Receivers are the servers 0 .. 15 and the readers 16 .. 19; what arrives at receiver r in
+-- tick t belongs to row 20 (t % 16) + r, for every message is under way for 1 to 15 ticks. In words of two bytes:
+--    0  of each row the lowest pair that may arrive, and one more than the highest: one byte each; both 0 where nothing arrives
+--  320  the servers whose messages with pair j arrive in the row, at 320 j + row
+use mathlib.Core.Bool.{Bool}
+use mathlib.Core.List.{List}
+use Prim.Native.Nat.{ℕ, _+_, _*_, _%_}
+use lib.ListN.{getD}
+use Rattle.calendar.specs.Bits.{bit, wordOf}
+
+-- how many parties receive votes or replies
+abbrev pub receivers : ℕ
+receivers = 20
+
+-- 16 ticks of them
+abbrev pub rows : ℕ
+rows = 320
+
+-- how many pairs may be known
+abbrev pub places : ℕ
+places = 65
+
+-- how many pairs a server keeps
+abbrev pub depth : ℕ
+depth = 3
+
+-- the word at which the cells begin, behind the rows' spans
+abbrev pub cellsAt : ℕ
+cellsAt = rows
+
+-- how many bytes the calendar takes
+abbrev pub calendarSize : ℕ
+calendarSize = 2 * (cellsAt + rows * places)
+
+abbrev pub rowOf : ℕ → ℕ → ℕ
+rowOf t r = receivers * (t % 16) + r
+
+abbrev pub cellWord : ℕ → ℕ → ℕ
+cellWord row j = cellsAt + (rows * j + row)
+
+-- ---- what the bytes say
+
+abbrev pub lowOf : List ℕ → ℕ → ℕ
+lowOf work row = getD work (2 * row) 0
+
+abbrev pub highOf : List ℕ → ℕ → ℕ
+highOf work row = getD work (2 * row + 1) 0
+
+abbrev pub sendersOf : List ℕ → ℕ → ℕ → ℕ
+sendersOf work row j = wordOf work (cellWord row j)
+
+-- a message of server i with pair j arrives in the row
+abbrev pub sender : List ℕ → ℕ → ℕ → ℕ → Bool
+sender work row j i = bit i (sendersOf work row j)

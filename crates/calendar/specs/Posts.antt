@@ -1,0 +1,71 @@
+-- What is posted: a server's vote, or what it keeps, to one row or to all other servers.
+use mathlib.Core.Path.{_≡_}
+use mathlib.Core.Bool.{Bool, true, false, not, _&&_, _||_, cond}
+use mathlib.Core.List.{List, [], _∷_}
+use Prim.Native.Nat.{ℕ, zero, suc, _+_, _*_, _-_, _/_, _%_, _^_, _≤_, _<_}
+use lib.Dec.{eqb, ltb}
+use lib.ListN.{getD, set}
+use Rattle.bits.specs.Field.{fieldOf}
+use Rattle.calendar.specs.declared.Stamped.{Stamped}
+use Rattle.calendar.specs.declared.Sending.{Sending}
+use Rattle.calendar.specs.Layout.{receivers, places, depth, lowOf, highOf}
+
+abbrev pub Messages : Type 0
+Messages = ℕ → ℕ → ℕ → Bool
+
+-- server i's messages with the pairs of P, in one row
+abbrev pub inRow : ℕ → ℕ → (ℕ → Bool) → Messages
+inRow row i P x j k = eqb x row && (eqb k i && P j)
+
+-- an empty place of a store
+abbrev pub vacant : Stamped
+vacant = record { kept = false; number = 0; value = 0 }
+
+-- of the first n places of the store, those before the first empty one hold pair j
+unfoldable pub heldIn : ℕ → List Stamped → ℕ → Bool
+heldIn zero ps j = false
+heldIn (suc n) [] j = false
+heldIn (suc n) (p ∷ ps) j = p .kept && (eqb j (p .number) || heldIn n ps j)
+
+-- the store keeps pair j
+abbrev pub held : List Stamped → ℕ → Bool
+held kept j = heldIn depth kept j
+
+-- the tick in which what is sent reaches server b: the delays are nibbles, the last server's lowest
+unfoldable pub arrivalOf : Sending → ℕ → ℕ
+arrivalOf s b = s .tick + s .delays / 2 ^ (4 * (s .n - 1 - b)) % 16
+
+-- server i sends in tick t to m servers: the delays stand in the plan's bits
+pub record Sent (plan : List ℕ) (at m t i : ℕ) (s : Sending) : Type 0 where
+  pub tick : s .tick ≡ t
+  pub sender : s .sender ≡ i
+  pub servers : s .n ≡ m
+  pub arrives : (b : ℕ) → b < m → arrivalOf s b ≡ t + fieldOf plan (at + 4 * b) 4
+
+-- what is sent goes to the row, if its receiver is one of the servers that it goes to
+unfoldable pub dueIn : Sending → ℕ → Bool
+dueIn s x = not (eqb (x % receivers) (s .sender)) && eqb (arrivalOf s (x % receivers) % 16) (x / receivers)
+
+-- the sender's messages with the pairs of P, to the first n servers but itself
+abbrev pub toFirst : Sending → ℕ → (ℕ → Bool) → Messages
+toFirst s n P x j k = ltb (x % receivers) n && (dueIn s x && (eqb k (s .sender) && P j))
+
+-- the same to all servers but itself
+abbrev pub toOthers : Sending → (ℕ → Bool) → Messages
+toOthers s P = toFirst s (s .n) P
+
+-- at most 16 servers, at a tick that a sum does not overflow
+pub record Sendable (s : Sending) : Type 0 where
+  pub servers : s .n ≤ 16
+  pub early : s .tick < 65536
+
+-- the span with pair j: the lowest, and one more than the highest
+abbrev pub lowWith : ℕ → ℕ → ℕ → ℕ
+lowWith low high j = cond (eqb high 0) j (cond (ltb j low) j low)
+
+abbrev pub highWith : ℕ → ℕ → ℕ
+highWith high j = cond (ltb j high) high (j + 1)
+
+-- the bytes with that span in the row
+unfoldable pub widened : List ℕ → ℕ → ℕ → List ℕ
+widened work row j = set (set work (2 * row) (lowWith (lowOf work row) (highOf work row) j)) (2 * row + 1) (highWith (highOf work row) j)

@@ -1,0 +1,231 @@
+// What is under way, in the lent workspace: who sends which pair to whom, by the tick of arrival. specs/Layout says where it stands.
+ghost use mathlib.Core.Path.{_≡_};
+ghost use Prim.Native.Nat.{_+_, _*_, _^_, _≤_, _<_};
+ghost use lib.Dec.{eqb};
+ghost use lib.ListN.{length};
+ghost use Rattle.bits.specs.Field.{fieldOf};
+ghost use Rattle.calendar.specs.Layout.{receivers, rows, places, calendarSize, rowOf, cellWord, lowOf, highOf, sendersOf};
+ghost use Rattle.calendar.specs.View.{Posted, Cleared, Empty, SamePast};
+ghost use Rattle.calendar.specs.Posts.{inRow, held, toOthers, Sendable, Sent, arrivalOf, widened};
+
+pub mod words;
+
+// How many pairs may be known.
+pub const PLACES: usize = 65;
+
+// How many pairs a server keeps (document 01: three).
+pub const DEPTH: usize = 3;
+
+// How many parties receive votes or replies; 16 ticks of them.
+const RECEIVERS: usize = 20;
+
+const ROWS: usize = 320;
+
+// The word at which the cells begin, behind the rows' spans.
+const CELLS: usize = ROWS;
+
+// How many bytes the calendar takes.
+pub const BYTES: usize = 2 * (CELLS + ROWS * PLACES);
+
+// A stamped value (document 01: a pair), or an empty place of a store. Its place among the known pairs is its number.
+pub struct Stamped {
+    pub kept: bool,
+    pub number: u8,
+    pub value: u16,
+}
+
+// What one party sends in a tick to the n servers: the delays as nibbles, the last server's lowest.
+pub struct Sending {
+    pub tick: usize,
+    pub sender: usize,
+    pub n: usize,
+    pub delays: u64,
+}
+
+// The n nibbles from bit `at` on as one number.
+fn nibbles(plan: &[u8], at: usize, n: usize) -> u64
+    requires { ⌜ (n ≤ 16) × (at + 4 * n ≤ 8 * length (now plan)) × (at < 2 ^ 59) ⌝ }
+    ensures { λ r. ⌜ r ≡ fieldOf (now (plan .entry)) at (4 * n) ⌝ }
+{
+    if n <= 14 {
+        return bits::field(plan, at, 4 * n);
+    }
+    if n == 15 {
+        return bits::field(plan, at, 32) * 268435456 + bits::field(plan, at + 32, 28);
+    }
+    bits::field(plan, at, 32) * 4294967296 + bits::field(plan, at + 32, 32)
+}
+
+impl Sending {
+    // What a party sends in a tick: its delays to the n servers stand in the plan from bit `at` on.
+    pub fn of(plan: &[u8], at: usize, n: usize, tick: usize, sender: usize) -> Sending
+        requires { ⌜ (n ≤ 16) × (at + 4 * n ≤ 8 * length (now plan)) × (at < 2 ^ 59) ⌝ }
+        ensures { λ s. ⌜ Sent (now (plan .entry)) at n tick sender s ⌝ }
+    {
+        let delays = nibbles(plan, at, n);
+        Sending {
+            tick: tick,
+            sender: sender,
+            n: n,
+            delays: delays,
+        }
+    }
+
+    // The tick in which it reaches server b.
+    pub fn arrival(self, b: usize) -> usize
+        requires { ⌜ Sendable self × (b < self .n) ⌝ }
+        ensures { λ r. ⌜ (r ≡ arrivalOf self b) × (r < 65552) ⌝ }
+    {
+        let n = self.n;
+        let late = (self.delays >> (4 * (n - 1 - b))) % 16;
+        self.tick + late as usize
+    }
+}
+
+// The row of receiver r for tick t.
+pub fn row(t: usize, r: usize) -> usize
+    requires { ⌜ r < receivers ⌝ }
+    ensures { λ x. ⌜ (x ≡ rowOf t r) × (x < rows) ⌝ }
+{
+    RECEIVERS * (t % 16) + r
+}
+
+fn cell(row: usize, j: usize) -> usize
+    requires { ⌜ (row < rows) × (j < places) ⌝ }
+    ensures { λ w. ⌜ (w ≡ cellWord row j) × (2 * w + 1 < calendarSize) ⌝ }
+{
+    CELLS + (ROWS * j + row)
+}
+
+// Nothing is under way; m pairs are known.
+pub fn start(work: &mut [u8], m: usize)
+    requires { ⌜ (m ≤ places) × (calendarSize ≤ length (now work)) ⌝ }
+    ensures { λ _. ⌜ SamePast (now (work .entry)) (now (work .exit)) × Empty (now (work .exit)) m ⌝ }
+{
+    words::zero(work, 0, 2 * (CELLS + ROWS * m));
+}
+
+// The servers whose messages with pair j arrive in the row.
+pub fn senders(work: &[u8], row: usize, j: usize) -> u16
+    requires { ⌜ (row < rows) × (j < places) × (calendarSize ≤ length (now work)) ⌝ }
+    ensures { λ r. ⌜ r ≡ sendersOf (now (work .entry)) row j ⌝ }
+{
+    words::get(work, cell(row, j))
+}
+
+fn size_of(x: u8) -> usize
+    ensures { λ r. ⌜ (r ≡ x) × (r < 256) ⌝ }
+{
+    x as usize
+}
+
+// No pair below it arrives in the row.
+pub fn low(work: &[u8], row: usize) -> usize
+    requires { ⌜ (row < rows) × (calendarSize ≤ length (now work)) ⌝ }
+    ensures { λ r. ⌜ (r ≡ lowOf (now (work .entry)) row) × (r < 256) ⌝ }
+{
+    size_of(work[2 * row])
+}
+
+// No pair from it on arrives in the row.
+pub fn high(work: &[u8], row: usize) -> usize
+    requires { ⌜ (row < rows) × (calendarSize ≤ length (now work)) ⌝ }
+    ensures { λ r. ⌜ (r ≡ highOf (now (work .entry)) row) × (r < 256) ⌝ }
+{
+    size_of(work[2 * row + 1])
+}
+
+// Pair j may arrive in the row, too. Bytes that stay are not stored: the next post would wait for them.
+fn widen(work: &mut [u8], row: usize, j: u8)
+    requires { ⌜ (row < rows) × (j < places) × (calendarSize ≤ length (now work)) ⌝ }
+    ensures { λ _. ⌜ now (work .exit) ≡ widened (now (work .entry)) row j ⌝ }
+{
+    let at = 2 * row;
+    let low = work[at];
+    let high = work[at + 1];
+    if high == 0 {
+        work[at] = j;
+        work[at + 1] = j + 1;
+        return;
+    }
+    if j < low {
+        work[at] = j;
+    }
+    if high <= j {
+        work[at + 1] = j + 1;
+    }
+}
+
+// Server i's message with pair j is under way, if the pair is a known one.
+pub fn post(work: &mut [u8], row: usize, j: u8, i: usize)
+    requires { ⌜ (row < rows) × (i < 16) × (calendarSize ≤ length (now work)) ⌝ }
+    ensures { λ _. ⌜ Posted (now (work .entry)) (now (work .exit)) (inRow row i (λ y. eqb y j)) ⌝ }
+{
+    if PLACES <= j as usize {
+        return;
+    }
+    words::add(work, cell(row, j as usize), i);
+    widen(work, row, j);
+}
+
+// Server i's messages with the pairs that it keeps are under way.
+pub fn post_kept(work: &mut [u8], row: usize, kept: [Stamped; DEPTH], i: usize)
+    requires { ⌜ (row < rows) × (i < 16) × (calendarSize ≤ length (now work)) ⌝ }
+    ensures { λ _. ⌜ Posted (now (work .entry)) (now (work .exit)) (inRow row i (held kept)) ⌝ }
+{
+    let mut q: usize = 0;
+    while q < DEPTH {
+        let p = kept[q];
+        if !p.kept {
+            return;
+        }
+        post(work, row, p.number, i);
+        q += 1;
+    }
+}
+
+// A server's vote for pair j is under way to all others.
+pub fn post_vote(work: &mut [u8], sending: Sending, j: u8)
+    requires { ⌜ Sendable sending × (sending .sender < 16) × (calendarSize ≤ length (now work)) ⌝ }
+    ensures { λ _. ⌜ Posted (now (work .entry)) (now (work .exit)) (toOthers sending (λ y. eqb y j)) ⌝ }
+{
+    let n = sending.n;
+    let i = sending.sender;
+    let mut b: usize = 0;
+    while b < n {
+        if b != i {
+            post(work, row(sending.arrival(b), b), j, i);
+        }
+        b += 1;
+    }
+}
+
+// A server's votes for the pairs that it keeps are under way to all others.
+pub fn post_votes(work: &mut [u8], sending: Sending, kept: [Stamped; DEPTH])
+    requires { ⌜ Sendable sending × (sending .sender < 16) × (calendarSize ≤ length (now work)) ⌝ }
+    ensures { λ _. ⌜ Posted (now (work .entry)) (now (work .exit)) (toOthers sending (held kept)) ⌝ }
+{
+    let n = sending.n;
+    let i = sending.sender;
+    let mut b: usize = 0;
+    while b < n {
+        if b != i {
+            post_kept(work, row(sending.arrival(b), b), kept, i);
+        }
+        b += 1;
+    }
+}
+
+// All in the row has arrived.
+pub fn clear(work: &mut [u8], row: usize)
+    requires { ⌜ (row < rows) × (highOf (now work) row ≤ places) × (calendarSize ≤ length (now work)) ⌝ }
+    ensures { λ _. ⌜ Cleared (now (work .entry)) (now (work .exit)) row ⌝ }
+{
+    let high = high(work, row);
+    let mut j = low(work, row);
+    while j < high {
+        words::put(work, cell(row, j), 0);
+        j += 1;
+    }
+    words::put(work, row, 0);
+}
