@@ -1,5 +1,5 @@
 -- What the code chooses is the answer of the read: pairs that are not known have no quorum, since a pair with one is genuine.
--- It stands on the safety of reads (register) and on Replies.
+-- It stands on the safety of reads (register).
 use mathlib.Core.Path.{_≡_, refl, sym, ap, _∙_}
 use mathlib.Core.Bool.{Bool, true, false, _&&_}
 use mathlib.Core.Logic.{_⊎_, inl, inr}
@@ -8,31 +8,24 @@ use Prim.Native.Nat.{ℕ, zero, suc, _≤_, _<_}
 use native.Mathlib.Omega.{arith}
 use native.Mathlib.Decide.{decLe, ℕ-discrete}
 use lib.Dec.{T, ltb, leb, leb→le}
-use borrow.Author.Tests.{lt-ltb, le-ltb, le-leb, lt-leb}
+use borrow.Author.Tests.{le-leb, lt-leb}
 use Rattle.register.specs.Lists.{count, filter, In}
 use Rattle.register.specs.Plan.{Plan, Write, Read, replyQuorum, readEnd}
 use Rattle.register.specs.Server.{Claim, has, pairsOf}
-use Rattle.register.specs.Cluster.{cluster}
 use Rattle.register.specs.Reading.{Answer, notedBy, countIn, countOf, best, answerFrom, answerOf}
 use Rattle.register.proofs.Logic.{cond-e}
 use Rattle.register.proofs.Counting.{count-cong}
 use Rattle.register.proofs.Good.{Good}
 use Rattle.register.proofs.Genuine.{genuine-cases}
 use Rattle.register.proofs.ReadSafety.{quorum-genuine, answer-from}
-use Rattle.cluster.specs.declared.Links.{Links}
-use Rattle.cluster.specs.declared.Window.{Window}
 use Rattle.cluster.specs.Inputs.{Knows}
-use Rattle.cluster.specs.State.{LogRep}
 use Rattle.cluster.proofs.RepLaws.{count-cut}
 use Rattle.answers.specs.declared.Choice.{Choice}
-use Rattle.answers.specs.Named.{namedBy}
-use Rattle.answers.specs.Choosing.{choiceOf, answerBy}
-use Rattle.answers.specs.Heard.{readingOf, Heard}
-use Rattle.answers.proofs.Replies.{named-same, named-below}
+use Rattle.answers.specs.Choosing.{highestOf, answerBy}
 
 -- how many servers named pair j
 votes : (ℕ → ℕ → Bool) → ℕ → ℕ
-votes named j = count (λ i. named i j) 16
+votes named j = count (named j) 16
 
 -- the choice: j is the highest pair below m with a quorum, or none has one
 record Found (named : ℕ → ℕ → Bool) (reply m j : ℕ) (c : Choice) : Type 0 where
@@ -49,14 +42,14 @@ module _ (named : ℕ → ℕ → Bool) (reply : ℕ) where
   abbrev Cases : ℕ → Choice → Type 0
   Cases m c = ((j : ℕ) × Found named reply m j c) ⊎ Nothing named reply m c
 
-  choice-more : (m : ℕ) → Cases m (choiceOf named reply m) → Cases (suc m) (choiceOf named reply (suc m))
-  unfolding choiceOf votes
+  choice-more : (m : ℕ) → Cases m (highestOf named reply m) → Cases (suc m) (highestOf named reply (suc m))
+  unfolding highestOf votes
   choice-more m ih = go (decLe reply (votes named m)) ih
     where
       inner : (reply ≤ votes named m → ⊥) → (k : ℕ) → k < suc m → reply ≤ votes named k → k < m
       inner h k l q = elim (ℕ-discrete k m) [ yes e ↦ absurd (h (rw e at q)) | no d ↦ omega arith ]
 
-      go : Dec (reply ≤ votes named m) → Cases m (choiceOf named reply m) → Cases (suc m) (choiceOf named reply (suc m))
+      go : Dec (reply ≤ votes named m) → Cases m (highestOf named reply m) → Cases (suc m) (highestOf named reply (suc m))
       go (yes h) ih = inl (m, record { below = omega arith; is = rw (le-leb reply (votes named m) h); enough = h; top = λ k l q. omega arith })
       go (no h) (inl (j, F)) = inl (
         j,
@@ -72,8 +65,8 @@ module _ (named : ℕ → ℕ → Bool) (reply : ℕ) where
         none = λ k l q. N .none k (inner h k l q) q;
       })
 
-  choice-cases : (m : ℕ) → Cases m (choiceOf named reply m)
-  unfolding choiceOf
+  choice-cases : (m : ℕ) → Cases m (highestOf named reply m)
+  unfolding highestOf
   choice-cases zero = inr (record { is = refl; none = λ k l q. absurd (omega arith) })
   choice-cases (suc m) = choice-more m (choice-cases m)
 
@@ -101,7 +94,7 @@ module _ (P : Plan) (g : ℕ → ℕ) (m : ℕ) (G : Good P) (K : Knows P g m) (
 
   -- the answer, where the sets of servers are the claims noted
   module _ (named : ℕ → ℕ → Bool) (same : (j : ℕ) → j < m → votes named j ≡ countOf P r (g j)) where
-    found-answer : (j : ℕ) → Found named (replyQuorum P) m j (choiceOf named (replyQuorum P) m) → answerOf P r ≡ record { pair = g j; count = votes named j }
+    found-answer : (j : ℕ) → Found named (replyQuorum P) m j (highestOf named (replyQuorum P) m) → answerOf P r ≡ record { pair = g j; count = votes named j }
     found-answer j F =
         let a = answer-from P (notedBy P r) (g j) (rw (same j (F .below)) at (F .enough)) in
         let q = rw (a .1) at (a .2) in
@@ -112,31 +105,22 @@ module _ (P : Plan) (g : ℕ → ℕ) (m : ℕ) (G : Good P) (K : Knows P g m) (
         let p : answerOf P r .pair ≡ g j = k .2 ∙ ap g e in
         both-parts (answerOf P r) (g j) (votes named j) p (a .1 ∙ rw (p, same j (F .below)))
 
-    answer-chosen : answerOf P r ≡ answerBy g (choiceOf named (replyQuorum P) m)
+    answer-chosen : answerOf P r ≡ answerBy g (highestOf named (replyQuorum P) m)
     unfolding answerBy
     answer-chosen = go (choice-cases named (replyQuorum P) m)
       where
-        go : Cases named (replyQuorum P) m (choiceOf named (replyQuorum P) m) → answerOf P r ≡ answerBy g (choiceOf named (replyQuorum P) m)
+        go : Cases named (replyQuorum P) m (highestOf named (replyQuorum P) m) → answerOf P r ≡ answerBy g (highestOf named (replyQuorum P) m)
         go (inl (j, F)) = rw (F .is) (found-answer j F)
         go (inr N) = rw (N .is) (no-answer P (notedBy P r) (λ p h. let k = quorum-known p h in N .none (k .0) (k .1) (rw (same (k .0) (k .1), ← k .2) h)))
 
--- the law of the code's answer
-module _ (P : Plan) (g : ℕ → ℕ) (m t : ℕ) (r : Read) (work plan : List ℕ) (links : Links) (window : Window) (nf : ℕ)
-    (G : Good P) (K : Knows P g m) (ir : In r (P .reads)) (late : readEnd P r ≤ t)
-    (L : LogRep P g m t (cluster P t .log) work) (H : Heard P g m r work plan links window nf) where
-  abbrev named : ℕ → ℕ → Bool
-  named = namedBy work plan links (readingOf P r) window
-
-  -- a server counts in the sets where its claim counts in the read
+-- the law of the code's answer: by known pair, the servers whose claim of it the read has noted
+module _ (P : Plan) (g : ℕ → ℕ) (m : ℕ) (G : Good P) (K : Knows P g m) (r : Read) (named : ℕ → ℕ → Bool)
+    (noted : (j i : ℕ) → j < m → named j i ≡ (ltb i (P .n) && has (notedBy P r) (g j) i)) where
   counted-same : (j : ℕ) → j < m → votes named j ≡ countOf P r (g j)
   unfolding votes countIn
   counted-same j l =
-      count-cong (λ i. named i j) (λ i. ltb i (P .n) && has (notedBy P r) (g j) i) 16 (λ i _. each i (decLe (P .n) i))
+      count-cong (named j) (λ i. ltb i (P .n) && has (notedBy P r) (g j) i) 16 (λ i _. noted j i l)
       ∙ count-cut (λ i. has (notedBy P r) (g j) i) (P .n) 16 (K .servers)
-    where
-      each : (i : ℕ) → Dec (P .n ≤ i) → named i j ≡ ltb i (P .n) && has (notedBy P r) (g j) i
-      each i (yes h) = rw (le-ltb i (P .n) h) (named-below P g m t r work plan links window nf ir late L H i j h)
-      each i (no h) = rw (lt-ltb i (P .n) (omega arith)) (named-same P g m t r work plan links window nf ir late L H i j (omega arith) l)
 
-  pub answered : answerOf P r ≡ answerBy g (choiceOf named (replyQuorum P) m)
+  pub answered : answerOf P r ≡ answerBy g (highestOf named (replyQuorum P) m)
   answered = answer-chosen P g m G K r named counted-same

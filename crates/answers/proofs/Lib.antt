@@ -1,7 +1,4 @@
-pub mod Marks
-pub mod Chosen
-pub mod Rows
 pub mod Sizes
-pub mod Replies
+pub mod Chosen
 pub mod Answered
 pub mod Stored

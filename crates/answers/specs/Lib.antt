@@ -1,5 +1,3 @@
-pub mod Named
 pub mod Choosing
-pub mod Heard
 pub mod Answers
 pub mod Workspace

@@ -3,7 +3,7 @@ use mathlib.Core.Path.{_≡_, refl, sym, ap, _∙_, fun-ext}
 use mathlib.Core.Bool.{Bool, true, false, _&&_, _||_}
 use mathlib.Core.List.{List}
 use Prim.Native.Nat.{ℕ, zero, suc, _+_, _*_, _/_, _%_, _^_, _<_}
-use native.Mathlib.Nat.{zero-add, suc-add, mul-comm, one-mul, pow-suc, mod-eq-of-lt, div-div-eq-div-mul}
+use native.Mathlib.Nat.{zero-add, add-zero, suc-add, mul-comm, one-mul, pow-suc, mod-eq-of-lt, div-div-eq-div-mul}
 use native.Mathlib.Omega.{arith}
 use lib.Pow.{pow-lt}
 use lib.Dec.{eqb, eqb·zero-suc, eqb·suc-zero, eqb·suc-suc}
@@ -13,7 +13,7 @@ use lib.Bits.{bitOr, bitAnd, or-shr, or-mod, or-lt, and-shr, and-mod}
 use lib.Count.{ones, ones-step}
 use borrow.Author.Tests.{eqb-true, eqb-false}
 use Rattle.register.specs.Lists.{count, one-if}
-use Rattle.cluster.specs.Bits.{bit}
+use Rattle.calendar.specs.Bits.{bit}
 
 or-turn : (a b : Bool) → a || b ≡ b || a
 or-turn true true = refl
@@ -70,6 +70,11 @@ bit-shift k zero m = let e : m / 2 ^ 0 ≡ m = omega arith in rw (e, zero-add k)
 bit-shift k (suc i) m =
     let e : m / 2 ^ suc i ≡ m / 2 / 2 ^ i = rw (pow-suc 2 i, mul-comm (2 ^ i) 2) (sym (div-div-eq-div-mul m 2 (2 ^ i))) in
     rw (e, suc-add i k) (bit-shift k i (m / 2))
+
+-- the code's test of one bit
+pub bit-test : (x m : ℕ) → eqb (m / 2 ^ x % 2) 1 ≡ bit x m
+unfolding bit
+bit-test x m = bit-shift 0 x m ∙ ap (λ (k : ℕ). bit k m) (add-zero x)
 
 digit-one : (x : ℕ) → x < 2 → x ≡ one-if (eqb x 1)
 digit-one zero h = refl

@@ -13,7 +13,7 @@ use Rattle.register.proofs.Lists.{any-append}
 use Rattle.cluster.specs.Stored.{Plain, Both}
 use Rattle.cluster.specs.Stages.{noVotes, blankAs, turned, movedOn, stageFour}
 use Rattle.cluster.specs.State.{Votes, Rep}
-use Rattle.cluster.proofs.PullLaws.{and-none, or-none}
+use Rattle.calendar.proofs.Laws.{and-none, or-none}
 use Rattle.cluster.proofs.Told.{Mid, End}
 
 module _ (P : Plan) (g : ℕ → ℕ) (m : ℕ) where

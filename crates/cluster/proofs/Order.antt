@@ -15,6 +15,7 @@ use Rattle.register.specs.Server.{insert, insertAll, takeIn}
 use Rattle.register.proofs.Logic.{or-e, or-l, or-r}
 use Rattle.register.proofs.Lists.{in-append, in-left, in-right}
 use Rattle.register.proofs.Stores.{Falling, in-insertAll, falling-insertAll, insertAll-in}
+use Rattle.calendar.specs.Layout.{depth}
 use Rattle.cluster.specs.Stages.{taken}
 
 -- two falling lists with the same members are equal
@@ -82,13 +83,13 @@ unfolding insertAll
 all-append [] b l = refl
 all-append (x ∷ a) b l = all-append a b (insert x l)
 
-taken-picked : (c : ℕ → Bool) (g : ℕ → ℕ) (m : ℕ) (l : List ℕ) → length l ≤ 3 → taken c g m l ≡ takeIn 3 (picked c g m) l
+taken-picked : (c : ℕ → Bool) (g : ℕ → ℕ) (m : ℕ) (l : List ℕ) → length l ≤ depth → taken c g m l ≡ takeIn depth (picked c g m) l
 unfolding taken picked takeIn insertAll
-taken-picked c g zero l h = sym (take-all 3 l h)
+taken-picked c g zero l h = sym (take-all depth l h)
 taken-picked c g (suc j) l h = rw (taken-picked c g j l h, all-append (picked c g j) (cond (c j) (g j ∷ []) []) l) (go (c j))
   where
-    go : (b : Bool) → cond b (take 3 (insert (g j) (take 3 (insertAll (picked c g j) l)))) (take 3 (insertAll (picked c g j) l)) ≡ take 3 (insertAll (cond b (g j ∷ []) []) (insertAll (picked c g j) l))
-    go true = take-insert 3 (g j) (insertAll (picked c g j) l)
+    go : (b : Bool) → cond b (take depth (insert (g j) (take depth (insertAll (picked c g j) l)))) (take depth (insertAll (picked c g j) l)) ≡ take depth (insertAll (cond b (g j ∷ []) []) (insertAll (picked c g j) l))
+    go true = take-insert depth (g j) (insertAll (picked c g j) l)
     go false = refl
 
 picked-in : (c : ℕ → Bool) (g : ℕ → ℕ) (m j : ℕ) → j < m → T (c j) → In (g j) (picked c g m)
@@ -122,17 +123,17 @@ in-picked c g (suc m) q i = go (in-append q (picked c g m) _ i) (in-picked c g m
     go (inr h) ih = one (c m) refl h
 
 -- the WRITE's pair first, then the others by number, is taking in, for the same set
-pub by-number : (c : ℕ → Bool) (g : ℕ → ℕ) (m w : ℕ) (ps l : List ℕ) → Falling l → length l ≤ 3
+pub by-number : (c : ℕ → Bool) (g : ℕ → ℕ) (m w : ℕ) (ps l : List ℕ) → Falling l → length l ≤ depth
     → ((q : ℕ) → In q ps → (j : ℕ) × (j < m) × T (eqb j w || c j) × (q ≡ g j)) → ((j : ℕ) → j < m → T (eqb j w || c j) → In (g j) ps)
-    → takeIn 3 ps l ≡ taken c g m (cond (ltb w m) (take 3 (insert (g w) l)) l)
+    → takeIn depth ps l ≡ taken c g m (cond (ltb w m) (take depth (insert (g w) l)) l)
 unfolding takeIn insertAll
 by-number c g m w ps l d h f k = go (ltb w m) refl
   where
     others : (q : ℕ) → In q (picked c g m) → In q ps
     others q i = let r = in-picked c g m q i in rw (r .3) (k (r .0) (r .1) (or-r (eqb (r .0) w) (c (r .0)) (r .2)))
 
-    go : (b : Bool) → ltb w m ≡ b → takeIn 3 ps l ≡ taken c g m (cond b (take 3 (insert (g w) l)) l)
-    go false e = take-in-set 3 ps (picked c g m) l d to others ∙ sym (taken-picked c g m l h)
+    go : (b : Bool) → ltb w m ≡ b → takeIn depth ps l ≡ taken c g m (cond b (take depth (insert (g w) l)) l)
+    go false e = take-in-set depth ps (picked c g m) l d to others ∙ sym (taken-picked c g m l h)
       where
         to : (q : ℕ) → In q ps → In q (picked c g m)
         to q i =
@@ -142,8 +143,8 @@ by-number c g m w ps l d h f k = go (ltb w m) refl
               | inr y ↦ rw (r .3) (picked-in c g m (r .0) (r .1) y)
             ]
     go true e =
-        take-in-set 3 ps (g w ∷ picked c g m) l d to from
-        ∙ sym (taken-picked c g m (take 3 (insert (g w) l)) (omega (arith, length-take 3 (insert (g w) l))) ∙ take-insertAll 3 (picked c g m) (insert (g w) l))
+        take-in-set depth ps (g w ∷ picked c g m) l d to from
+        ∙ sym (taken-picked c g m (take depth (insert (g w) l)) (omega (arith, length-take depth (insert (g w) l))) ∙ take-insertAll depth (picked c g m) (insert (g w) l))
       where
         to : (q : ℕ) → In q ps → In q (g w ∷ picked c g m)
         to q i =

@@ -27,7 +27,8 @@ use Rattle.cluster.specs.Inputs.{Knows}
 use Rattle.cluster.specs.State.{Votes, Rep}
 use Rattle.cluster.proofs.StageLaws.{write-kept}
 use Rattle.cluster.proofs.Told.{Mid, Came}
-use Rattle.cluster.proofs.PullLaws.{and-none, or-none}
+use Rattle.calendar.specs.Layout.{depth}
+use Rattle.calendar.proofs.Laws.{and-none, or-none}
 use Rattle.cluster.proofs.Order.{by-number}
 
 -- ---- counting by masks
@@ -70,10 +71,10 @@ module _ (P : Plan) (G : Good P) (g : ℕ → ℕ) (m : ℕ) (K : Knows P g m) w
       rw (a, b)
 
   -- what is taken in
-  kept-rep : (t c : ℕ) (x : Server) (ws : List ℕ) (fresh : List Claim) (w : ℕ) (votes old : ℕ → ℕ → Bool) → Falling (x .kept) → length (x .kept) ≤ 3
+  kept-rep : (t c : ℕ) (x : Server) (ws : List ℕ) (fresh : List Claim) (w : ℕ) (votes old : ℕ → ℕ → Bool) → Falling (x .kept) → length (x .kept) ≤ depth
       → ((p : ℕ) → In p ws → Genuine P t p) → ((v : Claim) → In v fresh → FreshSafe P t c v) → ((v : Claim) → In v (x .old) → OldSafe P t c v)
       → Votes P g m fresh votes → Votes P g m (x .old) old → ((j : ℕ) → j < m → member (g j) ws ≡ eqb j w)
-      → takeIn 3 (ws ++ votedIn P fresh (x .old)) (x .kept) ≡ taken (voting (echoQuorum P) (replyQuorum P) votes old) g m (cond (ltb w m) (take 3 (insert (g w) (x .kept))) (x .kept))
+      → takeIn depth (ws ++ votedIn P fresh (x .old)) (x .kept) ≡ taken (voting (echoQuorum P) (replyQuorum P) votes old) g m (cond (ltb w m) (take depth (insert (g w) (x .kept))) (x .kept))
   unfolding votedIn
   kept-rep t c x ws fresh w votes old d l wok vok ook ev eo ew =
       by-number cnd g m w (ws ++ qs) (x .kept) d l to from
@@ -164,13 +165,13 @@ module _ (P : Plan) (G : Good P) (g : ℕ → ℕ) (m : ℕ) (K : Knows P g m) w
         eqk h =
             ap (λ (d : ℕ). takeIn d cs (x .kept)) (K .depth)
             ∙ kept-rep t c x ws (x .fresh ++ vs) w votes (s .old) (ok .falling) (R .short) wok vok (ok .old) (I .tally (ap isFaulty (R .status) ∙ h)) (R .old) (I .wrote)
-            ∙ ap (λ (l : List ℕ). taken (voting e q votes (s .old)) g m (cond (ltb w m) (take 3 (insert (g w) l)) l)) (R .kept)
+            ∙ ap (λ (l : List ℕ). taken (voting e q votes (s .old)) g m (cond (ltb w m) (take depth (insert (g w) l)) l)) (R .kept)
             ∙ ap (taken (voting e q votes (s .old)) g m) (sym (write-kept g m w s))
 
         lst : ℕ → Bool
         lst y = (s .pending y && live y) || asks y
 
-        small : length kept' ≤ 3
+        small : length kept' ≤ depth
         small = rw (← K .depth) (omega (arith, length-take (P .depth) (insertAll cs (x .kept))))
 
         none : (j : ℕ) → j < m → false ≡ eqb j 255 || false

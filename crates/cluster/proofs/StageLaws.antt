@@ -15,7 +15,9 @@ use Rattle.register.specs.Lists.{count, sameList}
 use Rattle.register.specs.Server.{faulty, isFaulty, isCorrect, curedAt, insert}
 use Rattle.register.proofs.Logic.{cond-ap}
 use Rattle.register.proofs.Counting.{count-none}
-use Rattle.cluster.specs.Bits.{bit, sets}
+use Rattle.calendar.specs.Bits.{bit}
+use Rattle.calendar.specs.Layout.{depth}
+use Rattle.cluster.specs.Bits.{sets}
 use Rattle.cluster.specs.Stored.{Plain, Said, Both}
 use Rattle.cluster.specs.Stages.{nobody, noVotes, blankAs, silent, restated, written, resetAt, cureEnded, turned, quorate, taken, voting, withWrite, repliesTo, delivered, stageOne, stageTwo, movedOn, stageFour}
 use Rattle.cluster.proofs.BitLaws.{bit-zero, bit-or, bit-and, unmarked, ones-count, ones-either}
@@ -51,7 +53,7 @@ unvoted e r f o he hr ef eo = rw (ef, eo) (go (count (λ i. bit i 0) 16) (count 
 -- ---- a turn of taking in
 
 module _ (c : ℕ → Bool) (g : ℕ → ℕ) (j : ℕ) (l k r : List ℕ) (e : k ≡ taken c g j l) where
-  pub taken-yes : c j ≡ true → r ≡ take 3 (insert (g j) k) → r ≡ taken c g (j + 1) l
+  pub taken-yes : c j ≡ true → r ≡ take depth (insert (g j) k) → r ≡ taken c g (j + 1) l
   unfolding taken
   taken-yes h q = rw (add-one j, h, ← e) q
 
@@ -70,7 +72,7 @@ replied-law r a p c s false s' e f g = rw (e, f) zero-set
 pub pending-law : (p l a : ℕ) → _≡_ {A = ℕ → Bool} (λ x. bit x (bitOr (bitAnd p l) a)) (λ x. (bit x p && bit x l) || bit x a)
 pending-law p l a = fun-ext (λ x. rw (bit-or x (bitAnd p l) a, bit-and x p l))
 
-pub write-kept : (g : ℕ → ℕ) (m w : ℕ) (s : Plain) → withWrite g m w s .kept ≡ cond (ltb w m) (take 3 (insert (g w) (s .kept))) (s .kept)
+pub write-kept : (g : ℕ → ℕ) (m w : ℕ) (s : Plain) → withWrite g m w s .kept ≡ cond (ltb w m) (take depth (insert (g w) (s .kept))) (s .kept)
 write-kept g m w s = cond-ap (λ (x : Plain). x .kept) (ltb w m) (written (g w) s) s
 
 -- a WRITE changes the store only
@@ -79,7 +81,7 @@ pub write-rest : (g : ℕ → ℕ) (m w : ℕ) (s : Plain) (r : Plain) → r ≡
 write-rest g m w s r e = rw e (go (ltb w m))
   where
     x : Bool → Plain
-    x b = cond b (record { status = s .status; kept = take 3 (insert (g w) (s .kept)); pending = s .pending; fresh = s .fresh; old = s .old }) s
+    x b = cond b (record { status = s .status; kept = take depth (insert (g w) (s .kept)); pending = s .pending; fresh = s .fresh; old = s .old }) s
 
     go : (b : Bool) → (x b .status ≡ s .status) × (x b .pending ≡ s .pending) × (x b .old ≡ s .old) × (x b .kept ≡ x b .kept)
     go true = (refl, refl, refl, refl)

@@ -1,30 +1,21 @@
--- Putting a pair into a store, one place at a time, and comparing two stores. `rs` is the list of places after the pair was put in, before it
--- is cut to three. It stands on the definition of insert.
+-- Putting a pair into a store, and comparing two stores, for any number of places. It stands on the definition of insert.
 use mathlib.Core.Path.{_≡_, refl, sym, ap, _∙_}
 use mathlib.Core.Bool.{Bool, true, false, _&&_, _||_, cond}
-use mathlib.Core.Logic.{_⊎_, inl, inr}
+use mathlib.Core.Logic.{_⊎_, inl, inr, _≢_}
 use mathlib.Core.List.{List, [], _∷_}
-use Prim.Native.Nat.{ℕ, zero, suc, _≤_, _<_}
-use native.Mathlib.Nat.{eq-or-lt-of-le}
+use Prim.Native.Nat.{ℕ, zero, suc, _+_, _≤_, _<_}
+use native.Mathlib.Numerals.{add-one}
+use native.Mathlib.Nat.{le-of-suc-le-suc, eq-or-lt-of-le, suc-inj}
 use native.Mathlib.Omega.{arith}
 use lib.Dec.{eqb, eqb·zero-suc, eqb·suc-zero, eqb·suc-suc}
-use lib.ListN.{length, take, getD}
+use lib.ListN.{length, take, drop, getD, set, drop-of-length-le, List·getD-eq-default}
+use lib.Seq.{take-all, take-at, length-take-le, take-suc-set, drop-set-lt, drop-cons, append-snoc}
 use borrow.Author.Tests.{lt-ltb, le-ltb, eq-eqb, ne-eqb}
 use Rattle.register.specs.Lists.{sameList}
 use Rattle.register.specs.Server.{insert}
-use Rattle.cluster.specs.declared.Stamped.{Stamped}
-use Rattle.cluster.specs.Stored.{keyOf, keys, placeOf}
-
--- an array of three, apart
-pub data Three {A : Type 0} : List A → Type 0 where
-  of : (x y z : A) → Three (x ∷ y ∷ z ∷ [])
-
-pub three : {A : Type 0} (a : List A) → length a ≡ 3 → Three a
-three [] e = absurd (omega arith)
-three (x ∷ []) e = absurd (omega arith)
-three (x ∷ y ∷ []) e = absurd (omega arith)
-three (x ∷ y ∷ z ∷ []) e = of x y z
-three (x ∷ y ∷ z ∷ w ∷ a) e = absurd (omega arith)
+use Rattle.calendar.specs.declared.Stamped.{Stamped}
+use Rattle.calendar.specs.Posts.{vacant}
+use Rattle.cluster.specs.Stored.{keyOf, keys, placeOf, putAt}
 
 cut : (b : Bool) (n p : ℕ) (ps : List ℕ) → take (suc n) (cond b (p ∷ ps) []) ≡ cond b (p ∷ take n ps) []
 cut true n p ps = refl
@@ -36,56 +27,89 @@ take-keys zero ps = refl
 take-keys (suc n) [] = refl
 take-keys (suc n) (p ∷ ps) = cut (p .kept) n (keyOf p) (keys ps) ∙ rw (take-keys n ps)
 
-abbrev pub empty : Stamped
-empty = record { kept = false; number = 0; value = 0 }
+-- ---- the places from one on move by one
+
+-- what is carried is put down, what stood there is carried on
+pub carried-on : (i : ℕ) (p : Stamped) (ps : List Stamped) → i < length ps → putAt (i + 1) (getD ps i vacant) (set ps i p) ≡ putAt i p ps
+carried-on i p ps h = rw (add-one i, take-suc-set ps i p h, drop-set-lt (suc i) ps i p (omega arith), drop-cons ps i vacant h) (append-snoc (take i ps) p _)
+
+-- what is carried past the last place is dropped
+pub dropped : (n : ℕ) (p : Stamped) (ps : List Stamped) → length ps ≡ n → ps ≡ take n (putAt n p ps)
+dropped n p ps e = sym (take-at (take n ps) _ n (length-take-le n ps (omega arith)) ∙ take-all n ps (omega arith))
+
+-- ---- where a pair is put
+
+-- every place before i is higher than p's
+abbrev pub Above : Stamped → ℕ → List Stamped → Type 0
+Above p i ps = (j : ℕ) → j < i → placeOf p < placeOf (getD ps j vacant)
+
+pub above-more : (p : Stamped) (i : ℕ) (ps : List Stamped) → Above p i ps → placeOf p < placeOf (getD ps i vacant) → Above p (i + 1) ps
+above-more p i ps a h j l = go (eq-or-lt-of-le l)
+  where
+    go : (suc j ≡ i + 1) ⊎ (suc j < i + 1) → placeOf p < placeOf (getD ps j vacant)
+    go (inl e) = let z : j ≡ i = omega arith in rw z h
+    go (inr k) = a j (omega arith)
 
 module _ (p : Stamped) (is : p .kept ≡ true) where
-  abbrev pub Put : List Stamped → List Stamped → Type 0
+  abbrev Put : List Stamped → List Stamped → Type 0
   Put ps rs = insert (keyOf p) (keys ps) ≡ keys rs
 
-  pub at-empty : (x : Stamped) (ps : List Stamped) → x .kept ≡ false → Put (x ∷ ps) (p ∷ x ∷ ps)
-  unfolding insert keys
-  at-empty x ps e = rw (e, is)
-
-  pub at-end : Put [] (p ∷ [])
+  at-end : Put [] (p ∷ [])
   unfolding insert keys
   at-end = rw is
 
-  pub at-same : (x : Stamped) (ps : List Stamped) → x .kept ≡ true → keyOf x ≡ keyOf p → Put (x ∷ ps) (x ∷ ps)
+  at-lower : (x : Stamped) (ps : List Stamped) → placeOf x < placeOf p → Put (x ∷ ps) (p ∷ x ∷ ps)
   unfolding insert keys
-  at-same x ps e h = rw (e, le-ltb (keyOf x) (keyOf p) (omega arith), eq-eqb (keyOf x) (keyOf p) h)
-
-  pub at-lower : (x : Stamped) (ps : List Stamped) → x .kept ≡ true → keyOf x < keyOf p → Put (x ∷ ps) (p ∷ x ∷ ps)
-  unfolding insert keys
-  at-lower x ps e h = rw (e, is, lt-ltb (keyOf x) (keyOf p) h)
-
-  pub below : (x : Stamped) (ps rs : List Stamped) → x .kept ≡ true → keyOf p < keyOf x → Put ps rs → Put (x ∷ ps) (x ∷ rs)
-  unfolding insert keys
-  below x ps rs e h q = rw (e, le-ltb (keyOf x) (keyOf p) (omega arith), ne-eqb (keyOf x) (keyOf p) (λ q. omega arith), q)
-
-  cut-to : (ps rs : List Stamped) → Put ps rs → keys (take 3 rs) ≡ take 3 (insert (keyOf p) (keys ps))
-  cut-to ps rs q = sym (take-keys 3 rs) ∙ rw q
-
-  -- the array's three places
-  abbrev pub places : List Stamped → List Stamped
-  places a = getD a 0 empty ∷ getD a 1 empty ∷ getD a 2 empty ∷ []
-
-  pub changed : (a : List Stamped) → Three a → (rs : List Stamped) → Put (places a) rs → keys (take 3 rs) ≡ take 3 (insert (keyOf p) (keys a))
-  changed _ (of x y z) rs q = cut-to (x ∷ y ∷ z ∷ []) rs q
-
-  pub unchanged : (a : List Stamped) → Three a → (rs : List Stamped) → Put (places a) rs → take 3 rs ≡ places a
-      → keys a ≡ take 3 (insert (keyOf p) (keys a))
-  unchanged _ (of x y z) rs q e = ap keys (sym e) ∙ cut-to (x ∷ y ∷ z ∷ []) rs q
-
-  -- a pair below all three is not kept
-  pub too-low : (a : List Stamped) → Three a → getD a 0 empty .kept ≡ true → getD a 1 empty .kept ≡ true → getD a 2 empty .kept ≡ true
-      → keyOf p < keyOf (getD a 0 empty) → keyOf p < keyOf (getD a 1 empty) → keyOf p ≤ keyOf (getD a 2 empty)
-      → keys a ≡ take 3 (insert (keyOf p) (keys a))
-  too-low _ (of x y z) kx ky kz lx ly lz = go (eq-or-lt-of-le lz)
+  at-lower x ps h = go (x .kept) refl
     where
-      go : (keyOf p ≡ keyOf z) ⊎ (keyOf p < keyOf z) → keys (x ∷ y ∷ z ∷ []) ≡ take 3 (insert (keyOf p) (keys (x ∷ y ∷ z ∷ [])))
-      go (inl e) = unchanged _ (of x y z) _ (below x _ _ kx lx (below y _ _ ky ly (at-same z [] kz (sym e)))) refl
-      go (inr l) = unchanged _ (of x y z) _ (below x _ _ kx lx (below y _ _ ky ly (below z _ _ kz l at-end))) refl
+      go : (b : Bool) → x .kept ≡ b → Put (x ∷ ps) (p ∷ x ∷ ps)
+      go false e = rw (e, is)
+      go true e = rw (e, is, lt-ltb (keyOf x) (keyOf p) (le-of-suc-le-suc (rw (e, is) at h)))
+
+  at-same : (x : Stamped) (ps : List Stamped) → placeOf x ≡ placeOf p → Put (x ∷ ps) (x ∷ ps)
+  unfolding insert keys
+  at-same x ps h = go (x .kept) refl
+    where
+      go : (b : Bool) → x .kept ≡ b → Put (x ∷ ps) (x ∷ ps)
+      go false e = let z : 0 ≡ suc (keyOf p) = rw (e, is) at h in absurd (omega arith)
+      go true e = let z : keyOf x ≡ keyOf p = suc-inj (rw (e, is) at h) in rw (e, le-ltb (keyOf x) (keyOf p) (omega arith), eq-eqb (keyOf x) (keyOf p) z)
+
+  below : (x : Stamped) (ps rs : List Stamped) → placeOf p < placeOf x → Put ps rs → Put (x ∷ ps) (x ∷ rs)
+  unfolding insert keys
+  below x ps rs h q = go (x .kept) refl
+    where
+      go : (b : Bool) → x .kept ≡ b → Put (x ∷ ps) (x ∷ rs)
+      go false e = let z : suc (keyOf p) < 0 = rw (e, is) at h in absurd (omega arith)
+      go true e =
+          let z : keyOf p < keyOf x = le-of-suc-le-suc (rw (e, is) at h) in
+          rw (e, le-ltb (keyOf x) (keyOf p) (omega arith), ne-eqb (keyOf x) (keyOf p) (λ q. omega arith), q)
+
+  goes-at : (i : ℕ) (ps : List Stamped) → i ≤ length ps → Above p i ps → placeOf (getD ps i vacant) < placeOf p → Put ps (putAt i p ps)
+  goes-at zero [] h a l = at-end
+  goes-at zero (x ∷ ps) h a l = at-lower x ps l
+  goes-at (suc i) [] h a l = absurd (omega arith)
+  goes-at (suc i) (x ∷ ps) h a l = below x ps _ (a 0 (omega arith)) (goes-at i ps (omega arith) (λ j k. a (suc j) (omega arith)) l)
+
+  stands-at : (i : ℕ) (ps : List Stamped) → i < length ps → Above p i ps → placeOf (getD ps i vacant) ≡ placeOf p → Put ps ps
+  stands-at i [] h a e = absurd (omega arith)
+  stands-at zero (x ∷ ps) h a e = at-same x ps e
+  stands-at (suc i) (x ∷ ps) h a e = below x ps ps (a 0 (omega arith)) (stands-at i ps (omega arith) (λ j k. a (suc j) (omega arith)) e)
+
+  module _ (n : ℕ) (ps : List Stamped) (size : length ps ≡ n) where
+    -- at the first lower place
+    pub put-lower : (i : ℕ) → i < n → Above p i ps → placeOf (getD ps i vacant) < placeOf p
+        → (r : List Stamped) → r ≡ take n (putAt i p ps) → keys r ≡ take n (insert (keyOf p) (keys ps))
+    put-lower i h a l r e = ap keys e ∙ sym (take-keys n (putAt i p ps)) ∙ ap (take n) (sym (goes-at i ps (omega arith) a l))
+
+    -- nowhere, for it is there
+    pub put-same : (i : ℕ) → i < n → Above p i ps → placeOf (getD ps i vacant) ≡ placeOf p → keys ps ≡ take n (insert (keyOf p) (keys ps))
+    put-same i h a e = ap keys (sym (take-all n ps (omega arith))) ∙ sym (take-keys n ps) ∙ ap (take n) (sym (stands-at i ps (omega arith) a e))
+
+    -- nowhere, for all places are higher
+    pub put-none : Above p n ps → keys ps ≡ take n (insert (keyOf p) (keys ps))
+    put-none a =
+        ap keys (dropped n p ps size) ∙ sym (take-keys n (putAt n p ps))
+        ∙ ap (take n) (sym (goes-at n ps (omega arith) a (rw (List·getD-eq-default ps vacant {n = n} (omega arith), is) (omega arith))))
 
 -- ---- two stores with the same pairs
 
@@ -102,13 +126,30 @@ same-level x y xs ys = go (x .kept) (y .kept) (keyOf x) (keyOf y)
     go true false m n = rw (eqb·suc-zero m)
     go true true m n = rw (eqb·suc-suc m n, eqb·suc-zero m)
 
-same-end : (x y : Stamped) → eqb (placeOf x) (placeOf y) && (eqb (placeOf x) 0 || true) ≡ sameList (keys (x ∷ [])) (keys (y ∷ []))
-unfolding keys sameList
-same-end x y = same-level x y [] []
+module _ (a b : List Stamped) where
+  -- are they the same from place i on
+  abbrev pub sameFrom : ℕ → Bool
+  sameFrom i = sameList (keys (drop i a)) (keys (drop i b))
 
-pub same-three : (a b : List Stamped) → Three a → Three b → (c d : Bool)
-    → c ≡ eqb (placeOf (getD a 2 empty)) (placeOf (getD b 2 empty)) && (eqb (placeOf (getD a 2 empty)) 0 || true)
-    → d ≡ eqb (placeOf (getD a 1 empty)) (placeOf (getD b 1 empty)) && (eqb (placeOf (getD a 1 empty)) 0 || c)
-    → eqb (placeOf (getD a 0 empty)) (placeOf (getD b 0 empty)) && (eqb (placeOf (getD a 0 empty)) 0 || d) ≡ sameList (keys a) (keys b)
-same-three _ _ (of x y z) (of u v w) c d e f =
-    rw (f, e, same-end z w, same-level y v (z ∷ []) (w ∷ [])) (same-level x u (y ∷ z ∷ []) (v ∷ w ∷ []))
+  pub same-past : (i : ℕ) → length a ≤ i → length b ≤ i → sameFrom i ≡ true
+  unfolding keys sameList
+  same-past i h k = rw (drop-of-length-le a {i = i} h, drop-of-length-le b {i = i} k)
+
+  module _ (i : ℕ) (h : i < length a) (k : i < length b) where
+    abbrev x : ℕ
+    x = placeOf (getD a i vacant)
+
+    abbrev y : ℕ
+    y = placeOf (getD b i vacant)
+
+    here : eqb x y && (eqb x 0 || sameFrom (suc i)) ≡ sameFrom i
+    here = rw (drop-cons a i vacant h, drop-cons b i vacant k) (same-level (getD a i vacant) (getD b i vacant) (drop (suc i) a) (drop (suc i) b))
+
+    pub same-no : x ≢ y → sameFrom i ≡ false
+    same-no d = sym here ∙ rw (ne-eqb x y d)
+
+    pub same-end : x ≡ y → x ≡ 0 → sameFrom i ≡ true
+    same-end e z = sym here ∙ rw (eq-eqb x y e, eq-eqb x 0 z)
+
+    pub same-on : x ≡ y → x ≢ 0 → sameFrom (i + 1) ≡ sameFrom i
+    same-on e d = rw (add-one i) (sym (sym here ∙ rw (eq-eqb x y e, ne-eqb x 0 d)))

@@ -10,6 +10,7 @@ use Rattle.register.specs.Lists.{any, In, member}
 use Rattle.register.specs.Plan.{Plan, Read, readEnd}
 use Rattle.register.specs.Server.{isFaulty, Claim, Server, Sent, Out}
 use Rattle.register.specs.Reading.{sameRead}
+use Rattle.calendar.specs.Layout.{depth}
 use Rattle.cluster.specs.Stored.{Said, Both}
 use Rattle.cluster.specs.State.{Votes, Rep}
 
@@ -18,7 +19,7 @@ module _ (P : Plan) (g : ℕ → ℕ) (m : ℕ) where
     pub votes : (j : ℕ) → j < m → member (g j) (o .votes) ≡ eqb j (q .wrote) || (q .echoed && member (g j) (q .pairs))
     pub readers : (r : Read) → In r (P .reads) → r .begun < t → t ≤ readEnd P r → any (sameRead r) (o .replyTo) ≡ q .readers (r .reader)
     pub pairs : o .replyWith ≡ q .pairs
-    pub short : length (q .pairs) ≤ 3
+    pub short : length (q .pairs) ≤ depth
     pub early : (r : Read) → In r (P .reads) → t ≤ r .begun → any (sameRead r) (o .replyTo) ≡ false
 
   -- after stages 1 and 2

@@ -1,15 +1,16 @@
--- The bits of a number as a set.
-use mathlib.Core.Bool.{Bool}
+-- Tables of sets: the calendar's bits of a number as a set, by pair.
+use mathlib.Core.Path.{_≡_}
+use mathlib.Core.Bool.{Bool, _||_}
 use mathlib.Core.List.{List}
-use Prim.Native.Nat.{ℕ, zero, suc, _/_, _%_}
-use lib.Dec.{eqb}
+use Prim.Native.Nat.{ℕ, _<_}
 use lib.ListN.{getD}
-
--- is k in the set m: is its kth binary digit 1
-unfoldable pub bit : ℕ → ℕ → Bool
-bit zero m = eqb (m % 2) 1
-bit (suc k) m = bit k (m / 2)
+use Rattle.calendar.specs.Bits.{bit}
+use Rattle.calendar.specs.Layout.{places, sender}
 
 -- the sets that a table of masks stands for
 abbrev pub sets : List ℕ → ℕ → ℕ → Bool
 sets xs j i = bit i (getD xs j 0)
+
+-- the table r has the sets of a with the senders of what arrives in a row of the calendar
+pub record Joined (work : List ℕ) (row : ℕ) (a r : List ℕ) : Type 0 where
+  pub each : (j i : ℕ) → j < places → sets r j i ≡ (sets a j i || sender work row j i)

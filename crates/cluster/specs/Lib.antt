@@ -1,9 +1,10 @@
 pub mod Bits
-pub mod Layout
+pub mod Links
 pub mod Stored
 pub mod Stages
-pub mod Pull
-pub mod Rows
-pub mod Inputs
+pub mod Sends
 pub mod Tick
+pub mod Settled
+pub mod Inputs
+pub mod Way
 pub mod State

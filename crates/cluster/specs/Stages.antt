@@ -1,11 +1,13 @@
 -- The engine's stages on a server apart from how it is stored. Pairs are known by number: pair j is g j, j < m; e and r are the quorums.
+use mathlib.Core.Path.{_≡_}
 use mathlib.Core.Bool.{Bool, true, false, _&&_, _||_, cond}
 use mathlib.Core.List.{List, []}
-use Prim.Native.Nat.{ℕ, zero, suc}
+use Prim.Native.Nat.{ℕ, zero, suc, _<_}
 use lib.Dec.{eqb, leb, ltb}
 use lib.ListN.{take}
 use Rattle.register.specs.Lists.{count, sameList}
 use Rattle.register.specs.Server.{Status, faulty, cured, correct, isFaulty, isCorrect, curedAt, insert}
+use Rattle.calendar.specs.Layout.{places, depth}
 use Rattle.cluster.specs.declared.Rules.{Rules}
 use Rattle.cluster.specs.Stored.{Plain, Said, Both}
 
@@ -27,14 +29,16 @@ abbrev pub restated : Status → Plain → Plain
 restated st s = record { status = st; kept = s .kept; pending = s .pending; fresh = s .fresh; old = s .old }
 
 abbrev pub written : ℕ → Plain → Plain
-written p s = record { status = s .status; kept = take 3 (insert p (s .kept)); pending = s .pending; fresh = s .fresh; old = s .old }
+written p s = record { status = s .status; kept = take depth (insert p (s .kept)); pending = s .pending; fresh = s .fresh; old = s .old }
 
--- a vote of server i for pair j; a faulty server loses it
-abbrev pub voted : ℕ → ℕ → Plain → Plain
-voted j i s =
-    cond (isFaulty (s .status))
-    s
-    (record { status = s .status; kept = s .kept; pending = s .pending; fresh = λ x y. (eqb x j && eqb y i) || s .fresh x y; old = s .old })
+-- a server that is not faulty has the votes of f among its fresh ones; a faulty one loses them
+pub record Voted (f : ℕ → ℕ → Bool) (s r : Plain) : Type 0 where
+  pub status : r .status ≡ s .status
+  pub kept : r .kept ≡ s .kept
+  pub pending : r .pending ≡ s .pending
+  pub old : r .old ≡ s .old
+  pub fresh : isFaulty (s .status) ≡ false → (j i : ℕ) → j < places → r .fresh j i ≡ (s .fresh j i || f j i)
+  pub lost : isFaulty (s .status) ≡ true → r ≡ s
 
 abbrev pub resetAt : ℕ → Plain
 resetAt t = blankAs (cured t)
@@ -57,7 +61,7 @@ voting e r fresh old j = quorate e r (fresh j) (old j)
 -- the pairs 0 .. m - 1 that pass, taken in by number
 unfoldable pub taken : (ℕ → Bool) → (ℕ → ℕ) → ℕ → List ℕ → List ℕ
 taken c g zero l = l
-taken c g (suc j) l = cond (c j) (take 3 (insert (g j) (taken c g j l))) (taken c g j l)
+taken c g (suc j) l = cond (c j) (take depth (insert (g j) (taken c g j l))) (taken c g j l)
 
 -- the WRITE's pair, if its number is a known one
 abbrev pub withWrite : (ℕ → ℕ) → ℕ → ℕ → Plain → Plain

@@ -1,48 +1,74 @@
--- The engine's state stands for the cluster of the step rules: each server for its server, the log's bytes for the log. Votes and replies are
--- kept for the known pairs only: pair j is g j, j < m.
+-- The engine's state stands for the cluster of the step rules: each server for its server, the calendar for what is under way, each reader for
+-- what its open read has noted. Votes and replies are kept for the known pairs only: pair j is g j, j < m.
 use mathlib.Core.Path.{_≡_}
 use mathlib.Core.Bool.{Bool, false, _&&_}
 use mathlib.Core.List.{List, []}
-use Prim.Native.Nat.{ℕ, suc, _+_, _*_, _≤_, _<_}
+use Prim.Native.Nat.{ℕ, suc, _+_, _-_, _≤_, _<_}
 use lib.Dec.{T, ltb}
 use lib.ListN.{getD, length}
-use Rattle.register.specs.Lists.{any, In, member}
-use Rattle.register.specs.Plan.{Plan, Read, readEnd}
+use Rattle.register.specs.Lists.{any, In}
+use Rattle.register.specs.Plan.{Plan, Read, readEnd, echoQuorum, replyQuorum}
 use Rattle.register.specs.Server.{Claim, Server, has, isFaulty}
-use Rattle.register.specs.Cluster.{Log, sentIn, serverOf, cluster}
+use Rattle.register.specs.Cluster.{Log, serverOf, cluster}
 use Rattle.register.specs.Reading.{sameRead}
-use Rattle.cluster.specs.declared.Server.{Server as Stored}
-use Rattle.cluster.specs.Bits.{bit}
-use Rattle.cluster.specs.Layout.{byteAt, keptIn, votedIn}
+use Rattle.calendar.specs.Layout.{places, depth, rowOf, sender}
+use Rattle.calendar.specs.View.{Spanned}
+use Rattle.cluster.specs.declared.Cluster.{Cluster}
+use Rattle.cluster.specs.declared.Reader.{Reader}
+use Rattle.cluster.specs.Bits.{sets}
 use Rattle.cluster.specs.Stored.{Plain, server, absent}
 use Rattle.cluster.specs.Stages.{nobody}
+use Rattle.cluster.specs.Settled.{Settled}
+use Rattle.cluster.specs.Tick.{noReader}
+use Rattle.cluster.specs.Way.{voteWay, replyWay, heardWay}
 
-module _ (P : Plan) (g : ℕ → ℕ) (m : ℕ) where
-  -- the sets of voters by number say who voted for the pair of this number
-  abbrev pub Votes : List Claim → (ℕ → ℕ → Bool) → Type 0
-  Votes vs f = (j i : ℕ) → j < m → f j i ≡ (ltb i (P .n) && has vs (g j) i)
+module _ (P : Plan) where
+  -- a read that is open in tick t, or ends in it
+  pub record Open (t : ℕ) (r : Read) : Type 0 where
+    pub listed : In r (P .reads)
+    pub begun : r .begun < t
+    pub lasts : t ≤ readEnd P r
 
-  -- a server before tick t
-  pub record Rep (t : ℕ) (x : Server) (s : Plain) : Type 0 where
-    pub status : x .status ≡ s .status
-    pub kept : x .kept ≡ s .kept
-    pub short : length (x .kept) ≤ 3
-    pub fresh : Votes (x .fresh) (s .fresh)
-    pub old : Votes (x .old) (s .old)
-    -- a read that is open: its reader's bit
-    pub heard : (r : Read) → In r (P .reads) → suc (r .begun) < t → t ≤ suc (readEnd P r) → any (sameRead r) (x .pending) ≡ s .pending (r .reader)
-    pub unheard : (r : Read) → In r (P .reads) → t ≤ suc (r .begun) → any (sameRead r) (x .pending) ≡ false
-    pub empty : T (isFaulty (x .status)) → (x .pending ≡ []) × (s .pending ≡ nobody)
+  -- reader x has none
+  abbrev pub Idle : ℕ → ℕ → Type 0
+  Idle t x = (r : Read) → In r (P .reads) → r .reader ≡ x → r .begun < t → readEnd P r < t
 
-  -- the log of the ticks before t, and its bytes
-  pub record LogRep (t : ℕ) (log : Log) (work : List ℕ) : Type 0 where
-    pub votes : (u i j : ℕ) → u < t → i < P .n → j < m → member (g j) (sentIn log u i .votes) ≡ votedIn work (16 * u + i) j
-    pub pairs : (u i j : ℕ) → u < t → i < P .n → j < m → member (g j) (sentIn log u i .replyWith) ≡ keptIn work (16 * u + i) j
-    pub readers : (u i : ℕ) (r : Read) → u < t → i < P .n → In r (P .reads) → r .begun < u → u ≤ readEnd P r
-        → any (sameRead r) (sentIn log u i .replyTo) ≡ bit (r .reader) (byteAt work (16 * u + i) 2)
-    pub early : (u i : ℕ) (r : Read) → u < t → i < P .n → In r (P .reads) → u ≤ r .begun → any (sameRead r) (sentIn log u i .replyTo) ≡ false
+  module _ (g : ℕ → ℕ) (m : ℕ) where
+    -- the sets of voters by number say who voted for the pair of this number
+    abbrev pub Votes : List Claim → (ℕ → ℕ → Bool) → Type 0
+    Votes vs f = (j i : ℕ) → j < m → f j i ≡ (ltb i (P .n) && has vs (g j) i)
 
-  -- the cluster before tick t
-  pub record State (t : ℕ) (c : List Stored) (work : List ℕ) : Type 0 where
-    pub servers : (b : ℕ) → b < P .n → Rep t (serverOf (cluster P t) b) (server (getD c b absent))
-    pub rows : LogRep t (cluster P t .log) work
+    -- a server before tick t
+    pub record Rep (t : ℕ) (x : Server) (s : Plain) : Type 0 where
+      pub status : x .status ≡ s .status
+      pub kept : x .kept ≡ s .kept
+      pub short : length (x .kept) ≤ depth
+      pub fresh : Votes (x .fresh) (s .fresh)
+      pub old : Votes (x .old) (s .old)
+      -- a read that is open: its reader's bit
+      pub heard : (r : Read) → In r (P .reads) → suc (r .begun) < t → t ≤ suc (readEnd P r) → any (sameRead r) (x .pending) ≡ s .pending (r .reader)
+      pub unheard : (r : Read) → In r (P .reads) → t ≤ suc (r .begun) → any (sameRead r) (x .pending) ≡ false
+      pub empty : T (isFaulty (x .status)) → (x .pending ≡ []) × (s .pending ≡ nobody)
+
+    -- what is under way before tick t, in the sixteen ticks from t on
+    pub record Calendar (t : ℕ) (log : Log) (work : List ℕ) : Type 0 where
+      pub votes : (s b j i : ℕ) → t ≤ s → s < t + 16 → b < P .n → j < m → sender work (rowOf s b) j i ≡ (ltb i (P .n) && voteWay P log t s b (g j) i)
+      pub replies : (r : Read) → Open t r → (s j i : ℕ) → t ≤ s → s < t + 16 → j < m
+          → sender work (rowOf s (15 + r .reader)) j i ≡ (ltb i (P .n) && replyWay P log t r s (g j) i)
+      pub none : (r : Read) → In r (P .reads) → Idle t (r .reader) → (s j i : ℕ) → t ≤ s → s < t + 16 → j < m → sender work (rowOf s (15 + r .reader)) j i ≡ false
+      pub spans : Spanned work places
+
+    -- what the readers have noted before tick t
+    pub record Hears (t : ℕ) (log : Log) (readers : List Reader) : Type 0 where
+      pub size : length readers ≡ 4
+      pub end : (r : Read) → Open t r → getD readers (r .reader - 1) noReader .end ≡ readEnd P r
+      pub named : (r : Read) → Open t r → (j i : ℕ) → j < m → sets (getD readers (r .reader - 1) noReader .named) j i ≡ (ltb i (P .n) && heardWay P log t r (g j) i)
+      -- a reader with no open read takes nothing that is sent now
+      pub idle : (r : Read) → In r (P .reads) → Idle t (r .reader) → getD readers (r .reader - 1) noReader .end ≤ t
+
+    -- the cluster before tick t
+    pub record State (t : ℕ) (c : Cluster) (work : List ℕ) : Type 0 where
+      pub servers : (b : ℕ) → b < P .n → Rep t (serverOf (cluster P t) b) (server (getD (c .servers) b absent))
+      pub settled : (b : ℕ) → b < P .n → Settled g m (echoQuorum P) (replyQuorum P) (server (getD (c .servers) b absent))
+      pub calendar : Calendar t (cluster P t .log) work
+      pub readers : Hears t (cluster P t .log) (c .readers)

@@ -1,17 +1,18 @@
 -- A server and its row apart from how they are stored: sets as functions, a store as the list of its pairs.
 use mathlib.Core.Bool.{Bool, cond}
-use mathlib.Core.List.{List, [], _∷_}
+use mathlib.Core.List.{List, [], _∷_, _++_}
 use Prim.Native.Nat.{ℕ, suc}
-use lib.ListN.{getD}
+use lib.ListN.{getD, take, drop}
 use Rattle.register.specs.Plan.{stamped}
 use Rattle.register.specs.Server.{Status, faulty, cured, correct}
-use Rattle.cluster.specs.declared.Stamped.{Stamped}
+use Rattle.calendar.specs.declared.Stamped.{Stamped}
 use Rattle.cluster.specs.declared.Status.{Status as StoredStatus}
 use Rattle.cluster.specs.declared.Status.the-variants.{Faulty, Cured, Correct}
 use Rattle.cluster.specs.declared.Server.{Server}
 use Rattle.cluster.specs.declared.Row.{Row}
 use Rattle.cluster.specs.declared.Step.{Step}
-use Rattle.cluster.specs.Bits.{bit, sets}
+use Rattle.calendar.specs.Bits.{bit}
+use Rattle.cluster.specs.Bits.{sets}
 
 -- a server; votes by the number of a pair and the sender
 pub record Plain : Type 0 where
@@ -48,6 +49,10 @@ keys (p ∷ ps) = cond (p .kept) (keyOf p ∷ keys ps) []
 -- a place as a number: 0 is empty
 abbrev pub placeOf : Stamped → ℕ
 placeOf p = cond (p .kept) (suc (keyOf p)) 0
+
+-- the places with one more before place i
+abbrev pub putAt : ℕ → Stamped → List Stamped → List Stamped
+putAt i p ps = take i ps ++ (p ∷ drop i ps)
 
 abbrev pub server : Server → Plain
 server s = record { status = statusOf (s .status); kept = keys (s .kept); pending = λ x. bit x (s .pending); fresh = sets (s .fresh); old = sets (s .old) }

@@ -1,61 +1,70 @@
--- What a tick of the engine does, said of what it is fed: forged votes, the stages of each server, its row in the log.
+-- What the stages 1 to 4 of a tick do, said of what they are fed: the readers note what arrives, each server goes through its stages, and what it
+-- sends is under way.
 use mathlib.Core.Path.{_≡_}
-use mathlib.Core.Bool.{Bool, true, false, _&&_, _||_}
-use mathlib.Core.Logic.{_⊎_}
-use mathlib.Core.List.{List, [], _∷_}
-use Prim.Native.Nat.{ℕ, _+_, _*_, _-_, _<_, _≤_}
-use lib.Dec.{ltb, leb}
+use mathlib.Core.Bool.{Bool, true, false, not, _&&_, _||_}
+use mathlib.Core.List.{List, [], _∷_, map}
+use Prim.Native.Nat.{ℕ, _+_, _-_, _/_, _%_, _<_, _≤_}
+use lib.Dec.{eqb, leb, ltb}
 use lib.ListN.{length, getD}
-use Rattle.register.specs.Lists.{anyUpTo}
 use Rattle.register.specs.Plan.{stamped}
 use Rattle.register.specs.Server.{correct, isFaulty}
+use Rattle.calendar.specs.Bits.{bit}
+use Rattle.calendar.specs.declared.Stamped.{Stamped}
+use Rattle.calendar.specs.Posts.{vacant}
+use Rattle.calendar.specs.Layout.{receivers, rows, places, depth, rowOf, sender}
+use Rattle.calendar.specs.View.{SamePast, Spanned}
 use Rattle.cluster.specs.declared.Server.{Server}
+use Rattle.cluster.specs.declared.Reader.{Reader}
+use Rattle.cluster.specs.declared.Cluster.{Cluster}
 use Rattle.cluster.specs.declared.Step.{Step}
 use Rattle.cluster.specs.declared.Rules.{Rules}
 use Rattle.cluster.specs.declared.Known.{Known}
 use Rattle.cluster.specs.declared.Links.{Links}
 use Rattle.cluster.specs.declared.Arrivals.{Arrivals}
 use Rattle.cluster.specs.declared.Movement.{Movement}
-use Rattle.cluster.specs.declared.Window.{Window}
 use Rattle.cluster.specs.declared.Feed.{Feed as Fed}
-use Rattle.cluster.specs.Bits.{bit, sets}
-use Rattle.cluster.specs.Layout.{forgedAt}
+use Rattle.cluster.specs.Bits.{sets}
 use Rattle.cluster.specs.Stored.{Plain, Both, server, both, pairOf, absent}
 use Rattle.cluster.specs.Stages.{nobody, noVotes, stagesOf}
-use Rattle.cluster.specs.Pull.{arriving}
-use Rattle.cluster.specs.Rows.{RowIs}
+use Rattle.cluster.specs.Sends.{sends}
 
--- ---- forged votes
+-- ---- the readers
 
--- some entry from .. to - 1 is a vote of server i for pair j that arrives at server b in tick t
-unfoldable pub forgedBy : List ℕ → ℕ → ℕ → ℕ → ℕ → ℕ → ℕ → Bool
-forgedBy work t from to b i j = ltb i 16 && anyUpTo to (λ e. leb from e && forgedAt work t b i j e)
+-- what is read past the end of an array of readers
+abbrev pub noReader : Reader
+noReader = record { end = 0; named = [] }
 
--- a server that is not faulty gets the votes of f; all else is as it was
-pub record Gets (s r : Plain) (f : ℕ → ℕ → Bool) : Type 0 where
-  pub status : r .status ≡ s .status
-  pub kept : r .kept ≡ s .kept
-  pub pending : r .pending ≡ s .pending
-  pub old : r .old ≡ s .old
-  pub fresh : isFaulty (s .status) ≡ false → (j i : ℕ) → j < 65 → r .fresh j i ≡ (s .fresh j i || f j i)
-  pub lost : isFaulty (s .status) ≡ true → r ≡ s
+abbrev pub endsOf : List Reader → List ℕ
+endsOf rs = map (λ (r : Reader). r .end) rs
 
-pub record Forged (work : List ℕ) (t from to : ℕ) (c r : List Server) : Type 0 where
-  pub size : length r ≡ length c
-  pub each : (b : ℕ) → b < 16 → Gets (server (getD c b absent)) (server (getD r b absent)) (λ j i. forgedBy work t from to b i j)
+-- a reader has noted what arrives in a row of the calendar
+pub record Noted (work : List ℕ) (row : ℕ) (s r : Reader) : Type 0 where
+  pub end : r .end ≡ s .end
+  pub named : (j i : ℕ) → j < places → sets (r .named) j i ≡ (sets (s .named) j i || sender work row j i)
+
+-- the first n readers have noted what arrives in tick t; the others are as they were
+pub record Hearing (work : List ℕ) (t : ℕ) (s r : List Reader) (n : ℕ) : Type 0 where
+  pub size : length r ≡ length s
+  pub each : (x : ℕ) → x < n → Noted work (rowOf t (16 + x)) (getD s x noReader) (getD r x noReader)
+  pub rest : (x : ℕ) → n ≤ x → getD r x noReader ≡ getD s x noReader
+
+-- all readers have, and their rows are empty now; the other rows are as they were
+pub record Heard (work after : List ℕ) (t : ℕ) (s r : List Reader) : Type 0 where
+  pub readers : Hearing work t s r 4
+  pub rest : SamePast work after
+  pub spans : Spanned after places
+  pub cells : (x j i : ℕ) → x < rows → j < places → sender after x j i ≡ (not (eqb (x / receivers) (t % 16) && leb 16 (x % receivers)) && sender work x j i)
 
 -- ---- one server
 
--- the first m sets of r have the votes of a and those that arrived at server b; the rest are those of a
-pub record Merged (a votes : List ℕ) (b : ℕ) (r : List ℕ) (m : ℕ) : Type 0 where
-  pub size : length r ≡ length a
-  pub at : (j i : ℕ) → j < m → sets r j i ≡ (sets a j i || sets votes (65 * b + j) i)
-  pub rest : (j : ℕ) → m ≤ j → getD r j 0 ≡ getD a j 0
+-- a store is no deeper than it may be, and its values have 16 bits
+abbrev pub Small : List Stamped → Type 0
+Small kept = (length kept ≤ depth) × ((q : ℕ) → getD kept q vacant .value < 65536)
 
--- the stages of server b whose fresh votes got those of the table
-pub record Stepped (table : List ℕ) (b : ℕ) (arrivals : Arrivals) (movement : Movement) (t : ℕ) (rules : Rules) (values : List ℕ) (m : ℕ) (s : Plain) (r : Both) : Type 0 where
+-- the stages of server b in tick t, with the votes that arrive
+pub record Stepped (work : List ℕ) (b : ℕ) (arrivals : Arrivals) (movement : Movement) (t : ℕ) (rules : Rules) (values : List ℕ) (m : ℕ) (s : Plain) (r : Both) : Type 0 where
   pub votes : ℕ → ℕ → Bool
-  pub came : (j i : ℕ) → j < 65 → votes j i ≡ (s .fresh j i || sets table (65 * b + j) i)
+  pub came : isFaulty (s .status) ≡ false → (j i : ℕ) → j < places → votes j i ≡ (s .fresh j i || sender work (rowOf t b) j i)
   pub stages : r ≡ stagesOf (pairOf values) m rules (getD (arrivals .wrote) b 0) votes (λ x. bit x (getD (arrivals .asks) b 0)) (λ x. bit x (arrivals .live))
       (movement .moving) (bit (15 - b) (movement .faulty)) t s
 
@@ -71,7 +80,6 @@ pub record Feed : Type 0 where
   pub links : Links
   pub arrivals : Arrivals
   pub movement : Movement
-  pub window : Window
 
 -- the code's struct with the plan and the workspace
 abbrev pub feedOf : List ℕ → List ℕ → Fed → Feed
@@ -84,42 +92,61 @@ feedOf plan work f = record {
   links = f .links;
   arrivals = f .arrivals;
   movement = f .movement;
-  window = f .window;
 }
 
 module _ (F : Feed) where
-  -- the votes of server i for pair j that arrive at server b
-  unfoldable pub coming : ℕ → ℕ → ℕ → Bool
-  coming b i j =
-      forgedBy (F .work) (F .t) (F .window .from) (F .window .to) b i j
-      || (ltb i (F .rules .n) && arriving (F .plan) (F .work) (F .links) (F .t - F .rules .delta) (F .t) b i j)
+  -- the rows of the present tick: of the first n servers, and of the readers
+  unfoldable pub present : ℕ → ℕ → Bool
+  present n x = eqb (x / receivers) (F .t % 16) && (ltb (x % receivers) n || leb 16 (x % receivers))
 
-  -- the stages of server b, with the votes that arrive
-  pub record Turned (b : ℕ) (s : Plain) (r : Both) : Type 0 where
-    pub votes : ℕ → ℕ → Bool
-    pub came : isFaulty (s .status) ≡ false → (j i : ℕ) → j < 65 → votes j i ≡ (s .fresh j i || coming b i j)
-    pub stages : r ≡ stagesOf (pairOf (F .known .values)) (F .known .m) (F .rules) (getD (F .arrivals .wrote) b 0) votes
-        (λ x. bit x (getD (F .arrivals .asks) b 0)) (λ x. bit x (F .arrivals .live)) (F .movement .moving) (bit (15 - b) (F .movement .faulty)) (F .t) s
-
-  -- server b has done the tick, and its row says what it sent
-  pub record Done (b : ℕ) (s₀ s₁ : Server) (work : List ℕ) : Type 0 where
+  -- server b has done the tick: what arrived is taken, and what it sent is under way
+  pub record Turned (ends : List ℕ) (b : ℕ) (s r : Server) (work : List ℕ) : Type 0 where
+    -- what it came to
     pub out : Step
-    pub turned : Turned b (server s₀) (both out)
-    pub next : s₁ ≡ out .server
-    pub row : RowIs work (16 * F .t + b) (out .row)
+    pub done : Stepped (F .work) b (F .arrivals) (F .movement) (F .t) (F .rules) (F .known .values) (F .known .m) (server s) (both out)
+    pub next : r ≡ out .server
+    pub small : Small (out .row .kept)
+    pub rest : SamePast (F .work) work
+    pub spans : Spanned work places
+    pub cells : (x j i : ℕ) → x < rows → j < places
+        → sender work x j i ≡ ((not (eqb x (rowOf (F .t) b)) && sender (F .work) x j i) || (eqb i b && sends (F .plan) (F .links) (F .rules .n) (F .t) ends b (out .row) x j))
 
-  -- the first n servers have done the tick; of the workspace only the rows of the tick have changed
-  pub record Ticked (c₀ c₁ : List Server) (work : List ℕ) (n : ℕ) : Type 0 where
-    pub size : length work ≡ length (F .work)
-    pub others : (p : ℕ) → (p < 128 * F .t) ⊎ (128 * F .t + 128 ≤ p) → getD work p 0 ≡ getD (F .work) p 0
-    pub count : length c₁ ≡ 16
-    pub done : (b : ℕ) → b < n → Done b (getD c₀ b absent) (getD c₁ b absent) work
+  -- the first n servers have done the tick: what arrived is taken, and what each of them sent is under way
+  pub record Served (ends : List ℕ) (c r : List Server) (work : List ℕ) (n : ℕ) : Type 0 where
+    -- what each server came to
+    pub outs : ℕ → Step
+    pub size : length r ≡ length c
+    pub done : (b : ℕ) → b < n → Stepped (F .work) b (F .arrivals) (F .movement) (F .t) (F .rules) (F .known .values) (F .known .m) (server (getD c b absent)) (both (outs b))
+    pub next : (b : ℕ) → b < n → getD r b absent ≡ outs b .server
+    pub small : (b : ℕ) → b < n → Small (outs b .row .kept)
+    pub rest : SamePast (F .work) work
+    pub spans : Spanned work places
+    pub cells : (x j i : ℕ) → x < rows → j < places
+        → sender work x j i ≡ ((not (eqb (x / receivers) (F .t % 16) && ltb (x % receivers) n) && sender (F .work) x j i)
+        || (ltb i n && sends (F .plan) (F .links) (F .rules .n) (F .t) ends i (outs i .row) x j))
+
+  -- the first n servers and all readers have done the tick
+  pub record Ticked (c r : Cluster) (work : List ℕ) (n : ℕ) : Type 0 where
+    -- what each server came to
+    pub outs : ℕ → Step
+    pub servers : length (r .servers) ≡ 16
+    pub done : (b : ℕ) → b < n → Stepped (F .work) b (F .arrivals) (F .movement) (F .t) (F .rules) (F .known .values) (F .known .m) (server (getD (c .servers) b absent)) (both (outs b))
+    pub next : (b : ℕ) → b < n → getD (r .servers) b absent ≡ outs b .server
+    pub small : (b : ℕ) → b < n → Small (outs b .row .kept)
+    pub heard : Hearing (F .work) (F .t) (c .readers) (r .readers) 4
+    -- what arrived is taken, and what each server sent is under way
+    pub rest : SamePast (F .work) work
+    pub spans : Spanned work places
+    pub cells : (x j i : ℕ) → x < rows → j < places
+        → sender work x j i ≡ ((not (present n x) && sender (F .work) x j i) || (ltb i n && sends (F .plan) (F .links) (F .rules .n) (F .t) (endsOf (c .readers)) i (outs i .row) x j))
 
 -- ---- the start
 
 abbrev pub firstOf : ℕ → Plain
 firstOf v = record { status = correct; kept = stamped 16 v 0 ∷ []; pending = nobody; fresh = noVotes; old = noVotes }
 
-pub record Started (v : ℕ) (c : List Server) : Type 0 where
-  pub size : length c ≡ 16
-  pub each : (b : ℕ) → b < 16 → server (getD c b absent) ≡ firstOf v
+pub record Started (v : ℕ) (c : Cluster) : Type 0 where
+  pub size : length (c .servers) ≡ 16
+  pub each : (b : ℕ) → b < 16 → server (getD (c .servers) b absent) ≡ firstOf v
+  pub readers : length (c .readers) ≡ 4
+  pub idle : (x : ℕ) → x < 4 → getD (c .readers) x noReader .end ≡ 0

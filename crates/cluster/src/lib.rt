@@ -1,16 +1,21 @@
 // The cluster as the engine keeps it, and what a tick is fed. Pairs are known by number: pair 0 is the initial one, pair j the j-th write.
-pub mod log;
+pub mod delays;
+pub mod readers;
+pub mod sending;
 pub mod servers;
+pub mod sets;
 pub mod stages;
 pub mod store;
 pub mod tick;
 
-// A place of a store: a stamped value (document 01: a pair), or empty.
-pub struct Stamped {
-    pub kept: bool,
-    pub number: u8,
-    pub value: u16,
-}
+use calendar::DEPTH;
+use calendar::PLACES;
+use calendar::Stamped;
+
+// How many servers, and how many readers, there may be.
+pub const SERVERS: usize = 16;
+
+pub const READERS: usize = 4;
 
 // A server is faulty, cured since a tick, or correct (document 01: held, curing or sound).
 pub enum Status {
@@ -22,24 +27,31 @@ pub enum Status {
 // A server (document 01: a box). `pending` has bit x for reader x; `fresh` and `old` have the set of voters for each known pair.
 pub struct Server {
     pub status: Status,
-    pub kept: [Stamped; 3],
+    pub kept: [Stamped; DEPTH],
     pub pending: u8,
-    pub fresh: [u16; 65],
-    pub old: [u16; 65],
+    pub fresh: [u16; PLACES],
+    pub old: [u16; PLACES],
+}
+
+// A reader (document 01: a screen): the tick in which its last read ends, and the servers that named each known pair to that read.
+pub struct Reader {
+    pub end: u8,
+    pub named: [u16; PLACES],
 }
 
 // The cluster (document 01: the hall).
 pub struct Cluster {
-    pub servers: [Server; 16],
+    pub servers: [Server; SERVERS],
+    pub readers: [Reader; READERS],
 }
 
 // The values of the pairs 0 .. m - 1.
 pub struct Known {
-    pub values: [u16; 65],
+    pub values: [u16; PLACES],
     pub m: usize,
 }
 
-// The numbers of servers and ticks; is k 2; the echo and the reply quorum.
+// The number of servers, δ, is k 2, the echo and the reply quorum.
 pub struct Rules {
     pub n: usize,
     pub delta: u8,
@@ -57,8 +69,8 @@ pub struct Links {
 // What arrives in a tick: the number of the WRITE at each server (255: none), the readers whose READ arrives at each server, and the readers
 // whose read did not begin in the tick before.
 pub struct Arrivals {
-    pub wrote: [u8; 16],
-    pub asks: [u8; 16],
+    pub wrote: [u8; SERVERS],
+    pub asks: [u8; SERVERS],
     pub live: u8,
 }
 
@@ -66,12 +78,6 @@ pub struct Arrivals {
 pub struct Movement {
     pub moving: bool,
     pub faulty: u16,
-}
-
-// The forged entries from .. to - 1: among them are all that arrive in the tick.
-pub struct Window {
-    pub from: usize,
-    pub to: usize,
 }
 
 // All that a tick is fed beside the plan and the workspace.
@@ -82,15 +88,14 @@ pub struct Feed {
     pub links: Links,
     pub arrivals: Arrivals,
     pub movement: Movement,
-    pub window: Window,
 }
 
-// What a server sends in a tick: its row of the log.
+// What a server sends in a tick: a vote for the pair of a WRITE (255: none), votes for its pairs if it echoes, its pairs to some readers.
 pub struct Row {
     pub wrote: u8,
     pub echoed: bool,
     pub readers: u8,
-    pub kept: [Stamped; 3],
+    pub kept: [Stamped; DEPTH],
 }
 
 // A server, and what it sends.

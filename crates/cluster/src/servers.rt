@@ -1,14 +1,19 @@
 // A server by value: each method takes it and hands it back.
 ghost use mathlib.Core.Path.{_≡_};
 ghost use mathlib.Core.Bool.{true};
-ghost use Prim.Native.Nat.{_<_};
+ghost use Prim.Native.Nat.{_≤_, _<_};
+ghost use lib.ListN.{length};
 ghost use Rattle.register.specs.Server.{isFaulty, isCorrect, curedAt};
+ghost use Rattle.calendar.specs.Layout.{rows, places, calendarSize, sender};
+ghost use Rattle.calendar.specs.View.{Spanned};
 ghost use Rattle.cluster.specs.Stored.{keyOf, statusOf, server};
-ghost use Rattle.cluster.specs.Stages.{restated, written, voted, resetAt, cureEnded, turned};
+ghost use Rattle.cluster.specs.Stages.{restated, written, Voted, resetAt, cureEnded, turned};
 use super::Server;
-use super::Stamped;
 use super::Status;
+use super::sets;
 use super::store;
+use calendar::PLACES;
+use calendar::Stamped;
 
 pub fn is_faulty(s: Status) -> bool
     ensures { λ r. ⌜ r ≡ isFaulty (statusOf s) ⌝ }
@@ -72,18 +77,18 @@ impl Server {
         self
     }
 
-    // Server `sender` votes for the pair of a number. 'A held box loses what arrives.'
-    pub fn vote(mut self, number: u8, sender: u8) -> Self
-        requires { ⌜ (number < 65) × (sender < 16) ⌝ }
-        ensures { λ r. ⌜ server r ≡ voted number sender (server self) ⌝ }
+    // Notes the votes that arrive in its row of the calendar, forged or not. 'A held box loses what arrives.'
+    pub fn vote(mut self, work: &[u8], row: usize) -> Self
+        requires { ⌜ (row < rows) × (calendarSize ≤ length (now work)) × Spanned (now work) places ⌝ }
+        ensures { λ r. ⌜ Voted (λ j i. sender (now (work .entry)) row j i) (server self) (server r) ⌝ }
     {
         let status = self.status;
         if is_faulty(status) {
             return self;
         }
-        let at = number as usize;
-        let m = self.fresh[at];
-        self.fresh[at] = m | (1 << sender);
+        let fresh = self.fresh;
+        let more = sets::joined(fresh, work, row);
+        self.fresh = more;
         self
     }
 
@@ -92,7 +97,7 @@ impl Server {
         ensures { λ r. ⌜ server r ≡ resetAt t ⌝ }
     {
         let none = store::none();
-        let zero = [0u16; 65];
+        let zero = [0u16; PLACES];
         self.kept = none;
         self.pending = 0;
         self.fresh = zero;
@@ -115,7 +120,7 @@ impl Server {
     pub fn turn(mut self, two: bool) -> Self
         ensures { λ r. ⌜ server r ≡ turned two (server self) ⌝ }
     {
-        let none = [0u16; 65];
+        let none = [0u16; PLACES];
         let fresh = self.fresh;
         self.fresh = none;
         self.old = none;

@@ -2,17 +2,20 @@
 ghost use mathlib.Core.Path.{_≡_};
 ghost use mathlib.Core.Bool.{cond};
 ghost use Prim.Native.Nat.{_≤_, _<_};
-ghost use Rattle.cluster.specs.Bits.{bit, sets};
+ghost use Rattle.cluster.specs.Bits.{sets};
+ghost use Rattle.calendar.specs.Bits.{bit};
 ghost use Rattle.cluster.specs.Stored.{keys, pairOf, server, saidBy, both};
 ghost use Rattle.cluster.specs.Stages.{silent, quorate, taken, voting, withWrite, stageOne, stageTwo, movedOn, stageFour};
 use super::Row;
 use super::Rules;
 use super::Server;
-use super::Stamped;
 use super::Status;
 use super::Step;
 use super::servers;
 use super::store;
+use calendar::DEPTH;
+use calendar::PLACES;
+use calendar::Stamped;
 
 // Do these voters for a pair make a quorum.
 fn is_quorate(fresh: u16, old: u16, rules: Rules) -> bool
@@ -27,7 +30,7 @@ fn is_quorate(fresh: u16, old: u16, rules: Rules) -> bool
     rules.reply <= recent
 }
 
-// Is there a vote at all: most pairs have none.
+// The same, sooner where there is no vote at all: most pairs have none.
 fn is_voted(fresh: u16, old: u16, rules: Rules) -> bool
     requires { ⌜ (1 ≤ rules .echo) × (1 ≤ rules .reply) ⌝ }
     ensures { λ r. ⌜ r ≡ quorate (rules .echo) (rules .reply) (λ i. bit i fresh) (λ i. bit i old) ⌝ }
@@ -42,13 +45,13 @@ fn is_voted(fresh: u16, old: u16, rules: Rules) -> bool
 
 // 'It takes in each pair voted for by ..', in the order of numbers.
 fn take_in(
-    kept: [Stamped; 3],
-    fresh: &[u16; 65],
-    old: &[u16; 65],
-    values: &[u16; 65],
+    kept: [Stamped; DEPTH],
+    fresh: &[u16; PLACES],
+    old: &[u16; PLACES],
+    values: &[u16; PLACES],
     m: usize,
     rules: Rules,
-) -> [Stamped; 3]
+) -> [Stamped; DEPTH]
     requires { ⌜ (m ≤ 65) × ((1 ≤ rules .echo) × (1 ≤ rules .reply)) ⌝ }
     ensures { λ r. ⌜ keys r ≡ taken (voting (rules .echo) (rules .reply) (sets (now (fresh .entry))) (sets (now (old .entry)))) (pairOf (now (values .entry))) m (keys kept) ⌝ }
 {
@@ -99,7 +102,7 @@ fn quiet() -> Row
 
 impl Server {
     // The WRITE's pair, if it is a known one.
-    fn take_write(self, wrote: u8, values: &[u16; 65], m: usize) -> Self
+    fn take_write(self, wrote: u8, values: &[u16; PLACES], m: usize) -> Self
         requires { ⌜ m ≤ 65 ⌝ }
         ensures { λ r. ⌜ server r ≡ withWrite (pairOf (now (values .entry))) m wrote (server self) ⌝ }
     {
@@ -119,11 +122,11 @@ impl Server {
     // readers whose READ arrived; `live` lacks the readers whose read began in the last tick.
     pub fn deliver(
         self,
-        fresh: [u16; 65],
+        fresh: [u16; PLACES],
         wrote: u8,
         asks: u8,
         live: u8,
-        values: &[u16; 65],
+        values: &[u16; PLACES],
         m: usize,
         rules: Rules,
     ) -> Step

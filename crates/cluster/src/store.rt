@@ -1,104 +1,92 @@
-// A server's store: three places, the empty ones at the end, the pairs in falling order.
+// A server's store: DEPTH places, the empty ones at the end, the pairs in falling order.
 ghost use mathlib.Core.Path.{_≡_};
-ghost use mathlib.Core.Bool.{true, _&&_, _||_};
+ghost use mathlib.Core.Bool.{true};
 ghost use mathlib.Core.List.{[]};
-ghost use lib.Dec.{eqb};
+ghost use Prim.Native.Nat.{_<_};
 ghost use lib.ListN.{take};
 ghost use Rattle.register.specs.Lists.{sameList};
 ghost use Rattle.register.specs.Server.{insert};
-ghost use Rattle.cluster.specs.Stored.{keyOf, keys, placeOf};
-use super::Stamped;
+ghost use Rattle.calendar.specs.Layout.{depth};
+ghost use Rattle.cluster.specs.Stored.{keys, keyOf, placeOf, putAt};
+use calendar::DEPTH;
+use calendar::Stamped;
 
-// By number, then by value.
-fn rank(p: Stamped) -> u32
-    ensures { λ r. ⌜ r ≡ keyOf p ⌝ }
+// How many values there are.
+const VALUES: u32 = 65536;
+
+// A place as a number, by which places are compared: 0 if it is empty, else one more than its pair, by number, then by value.
+fn place(p: Stamped) -> u32
+    ensures { λ r. ⌜ r ≡ placeOf p ⌝ }
 {
-    (p.number as u32) * 65536 + (p.value as u32)
+    if p.kept {
+        return 1 + (p.number as u32) * VALUES + (p.value as u32);
+    }
+    0
+}
+
+// The store with p at a place: what stood there and after it moves on by one, and the last of it is dropped.
+fn put_at(kept: [Stamped; DEPTH], p: Stamped, at: usize) -> [Stamped; DEPTH]
+    requires { ⌜ at < depth ⌝ }
+    ensures { λ r. ⌜ r ≡ take depth (putAt at p kept) ⌝ }
+{
+    let mut more = kept;
+    let mut carried = p;
+    let mut i = at;
+    while i < DEPTH {
+        let here = more[i];
+        more[i] = carried;
+        carried = here;
+        i += 1;
+    }
+    more
 }
 
 // 'Each box keeps at most three pairs, those of highest number': the store with p put in its place.
-pub fn insert(kept: [Stamped; 3], p: Stamped) -> [Stamped; 3]
+pub fn insert(kept: [Stamped; DEPTH], p: Stamped) -> [Stamped; DEPTH]
     requires { ⌜ p .kept ≡ true ⌝ }
-    ensures { λ r. ⌜ keys r ≡ take 3 (insert (keyOf p) (keys kept)) ⌝ }
+    ensures { λ r. ⌜ keys r ≡ take depth (insert (keyOf p) (keys kept)) ⌝ }
 {
-    let x = kept[0];
-    let y = kept[1];
-    let z = kept[2];
-    let rp = rank(p);
-    let rx = rank(x);
-    let ry = rank(y);
-    let rz = rank(z);
-    if !x.kept {
-        return [p, x, y];
-    }
-    if rx == rp {
-        return kept;
-    }
-    if rx < rp {
-        return [p, x, y];
-    }
-    if !y.kept {
-        return [x, p, y];
-    }
-    if ry == rp {
-        return kept;
-    }
-    if ry < rp {
-        return [x, p, y];
-    }
-    if !z.kept {
-        return [x, y, p];
-    }
-    if rz < rp {
-        return [x, y, p];
+    let mine = place(p);
+    let mut i: usize = 0;
+    while i < DEPTH {
+        let here = place(kept[i]);
+        if here == mine {
+            return kept;
+        }
+        if here < mine {
+            return put_at(kept, p, i);
+        }
+        i += 1;
     }
     kept
 }
 
 // No pair.
-pub fn none() -> [Stamped; 3]
+pub fn none() -> [Stamped; DEPTH]
     ensures { λ r. ⌜ keys r ≡ [] ⌝ }
 {
     [Stamped {
         kept: false,
         number: 0,
         value: 0,
-    }; 3]
-}
-
-// 0 for an empty place, else 1 and its rank.
-fn place(p: Stamped) -> u32
-    ensures { λ r. ⌜ r ≡ placeOf p ⌝ }
-{
-    if p.kept {
-        return 1 + rank(p);
-    }
-    0
-}
-
-fn is_level(x: u32, y: u32, rest: bool) -> bool
-    ensures { λ r. ⌜ r ≡ (eqb x y && (eqb x 0 || rest)) ⌝ }
-{
-    if x != y {
-        return false;
-    }
-    if x == 0 {
-        return true;
-    }
-    rest
+    }; DEPTH]
 }
 
 // Do two stores have the same pairs.
-pub fn is_same(a: [Stamped; 3], b: [Stamped; 3]) -> bool
+pub fn is_same(a: [Stamped; DEPTH], b: [Stamped; DEPTH]) -> bool
     ensures { λ r. ⌜ r ≡ sameList (keys a) (keys b) ⌝ }
 {
-    let x = place(a[0]);
-    let y = place(a[1]);
-    let z = place(a[2]);
-    let u = place(b[0]);
-    let v = place(b[1]);
-    let w = place(b[2]);
-    let last = is_level(z, w, true);
-    let mid = is_level(y, v, last);
-    is_level(x, u, mid)
+    let mut i: usize = 0;
+    while i < DEPTH {
+        let x = place(a[i]);
+        let y = place(b[i]);
+        if x != y {
+            return false;
+        }
+        if x == 0 {
+            return true;
+        }
+        i += 1;
+    }
+    true
 }

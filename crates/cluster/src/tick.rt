@@ -1,99 +1,51 @@
-// One tick of the whole cluster: forged votes, then each server in turn, and its row put into the log.
+// Stages 1 to 4 of a tick of the whole cluster: the readers note what arrives, each server goes through its stages, and what it sends is posted.
 ghost use mathlib.Core.Path.{_≡_};
-ghost use mathlib.Core.Bool.{_&&_};
-ghost use Prim.Native.Nat.{_<_, _≤_, _+_, _*_, _-_};
-ghost use lib.Dec.{eqb, ltb};
+ghost use Prim.Native.Nat.{_<_, _≤_, _+_, _-_};
 ghost use lib.ListN.{length};
-ghost use Rattle.cluster.specs.Bits.{bit};
-ghost use Rattle.cluster.specs.Layout.{entryAt};
-ghost use Rattle.cluster.specs.Stored.{server, both};
+ghost use Rattle.calendar.specs.Bits.{bit};
+ghost use Rattle.calendar.specs.Layout.{rows, places, calendarSize};
+ghost use Rattle.calendar.specs.View.{Spanned};
+ghost use Rattle.cluster.specs.Stored.{server, both, statusOf};
 ghost use Rattle.cluster.specs.Inputs.{Sized};
-ghost use Rattle.cluster.specs.Tick.{Merged, Forged, Stepped, Ticked, Started, feedOf};
+ghost use Rattle.cluster.specs.Settled.{reached, CalmlyServed, CalmlyTicked};
+ghost use Rattle.cluster.specs.Tick.{Stepped, Heard, Turned, Started, endsOf, feedOf};
 use super::Arrivals;
 use super::Cluster;
 use super::Feed;
-use super::Known;
-use super::Links;
 use super::Movement;
+use super::READERS;
+use super::Reader;
 use super::Rules;
+use super::SERVERS;
 use super::Server;
-use super::Stamped;
 use super::Status;
 use super::Step;
-use super::Window;
-use super::log;
+use super::sending;
+use super::servers;
+use super::store;
+use calendar::PLACES;
+use calendar::Stamped;
 
-// Is the forged entry e a vote for a known pair that arrives in tick t.
-fn is_vote(work: &[u8], e: usize, t: u8) -> bool
-    requires { ⌜ (24576 ≤ length (now work)) × (e < 1024) ⌝ }
-    ensures { λ r. ⌜ r ≡ (eqb (entryAt (now (work .entry)) e 1) t && (ltb (entryAt (now (work .entry)) e 2) 16 && (ltb (entryAt (now (work .entry)) e 3) 16 && ltb (entryAt (now (work .entry)) e 4) 65))) ⌝ }
-{
-    let at = 16384 + 8 * e;
-    if work[at + 1] != t {
-        return false;
-    }
-    if work[at + 2] >= 16 {
-        return false;
-    }
-    if work[at + 3] >= 16 {
-        return false;
-    }
-    work[at + 4] < 65
-}
-
-// The forged votes of the window that arrive in tick t.
-fn forge(c: Cluster, work: &[u8], t: u8, window: Window) -> Cluster
-    requires { ⌜ (24576 ≤ length (now work)) × (window .from ≤ window .to) × (window .to ≤ 1024) ⌝ }
-    ensures { λ r. ⌜ Forged (now (work .entry)) t (window .from) (window .to) (c .servers) (r .servers) ⌝ }
-{
-    let mut d = c;
-    let last = window.to;
-    let mut e = window.from;
-    while e < last {
-        if is_vote(work, e, t) {
-            let at = 16384 + 8 * e;
-            let b = work[at + 2] as usize;
-            let s = d.servers[b];
-            d.servers[b] = s.vote(work[at + 4], work[at + 3]);
-        }
-        e += 1;
-    }
-    d
-}
-
-// The votes that arrived at server b, put to those of its period.
-fn merge(fresh: &mut [u16; 65], votes: &[u16; 1040], b: usize)
-    requires { ⌜ (length (now fresh) ≡ 65) × (b < 16) ⌝ }
-    ensures { λ _. ⌜ Merged (now (fresh .entry)) (now (votes .entry)) b (now (fresh .exit)) 65 ⌝ }
-{
-    let from = 65 * b;
-    let mut j: usize = 0;
-    while j < 65 {
-        fresh[j] = fresh[j] | votes[from + j];
-        j += 1;
-    }
-}
-
-// The stages of server b in tick t.
+// The stages 1 to 4 of server b in tick t, which shows them in their order.
 fn step(
     s: Server,
-    votes: &[u16; 1040],
+    work: &[u8],
     b: usize,
     arrivals: Arrivals,
     movement: Movement,
     t: u8,
     rules: Rules,
-    values: &[u16; 65],
+    values: &[u16; PLACES],
     m: usize,
 ) -> Step
-    requires { ⌜ (b < 16) × (m ≤ 65) × (1 ≤ rules .echo) × (1 ≤ rules .reply) ⌝ }
-    ensures { λ r. ⌜ Stepped (now (votes .entry)) b arrivals movement t rules (now (values .entry)) m (server s) (both r) ⌝ }
+    requires { ⌜ (b < 16) × (m ≤ places) × (1 ≤ rules .echo) × (1 ≤ rules .reply) × (calendarSize ≤ length (now work)) × Spanned (now work) places ⌝ }
+    ensures { λ r. ⌜ Stepped (now (work .entry)) b arrivals movement t rules (now (values .entry)) m (server s) (both r) ⌝ }
 {
-    let mut fresh = s.fresh;
-    merge(&mut fresh, votes, b);
+    let voted = s.vote(work, calendar::row(t as usize, b));
+    let fresh = voted.fresh;
     let wrote = arrivals.wrote[b];
     let asks = arrivals.asks[b];
-    let first = s.deliver(fresh, wrote, asks, arrivals.live, values, m, rules);
+    let first = voted.deliver(fresh, wrote, asks, arrivals.live, values, m, rules);
     let second = first.cure_end(t, rules.delta);
     if movement.moving {
         let faulty = is_placed(movement.faulty, b);
@@ -110,89 +62,153 @@ fn is_placed(faulty: u16, b: usize) -> bool
     (faulty >> (15 - b)) % 2 == 1
 }
 
-// The first tick whose messages may arrive in tick t.
-fn since(t: u8, delta: u8) -> usize
-    ensures { λ r. ⌜ r ≡ t - delta ⌝ }
+// The readers note the replies that arrive in tick t, which are then no longer under way.
+fn hear(readers: [Reader; READERS], work: &mut [u8], t: usize) -> [Reader; READERS]
+    requires { ⌜ (calendarSize ≤ length (now work)) × Spanned (now work) places ⌝ }
+    ensures { λ r. ⌜ Heard (now (work .entry)) (now (work .exit)) t readers r ⌝ }
 {
-    if t < delta {
-        return 0;
+    let mut heard = readers;
+    let mut x: usize = 0;
+    while x < READERS {
+        let row = calendar::row(t, SERVERS + x);
+        let r = heard[x];
+        heard[x] = r.note(work, row);
+        calendar::clear(work, row);
+        x += 1;
     }
-    (t - delta) as usize
+    heard
 }
 
-// 'One tick carries the whole hall from one state to the next.'
-pub fn ticked(
-    c: Cluster,
-    work: &mut [u8],
-    plan: &[u8],
-    t: u8,
-    rules: Rules,
-    known: Known,
-    links: Links,
+// Does anything reach server b in tick t, or has one of its stages something to do. Most servers in most ticks: no.
+fn is_reached(
+    work: &[u8],
+    b: usize,
     arrivals: Arrivals,
     movement: Movement,
-    window: Window,
-) -> Cluster
-    requires { ⌜ Sized (now plan) (now work) t rules known links window ⌝ }
-    ensures { λ r. ⌜ Ticked (record { plan = now (plan .entry); work = now (work .entry); t = t; rules = rules; known = known; links = links; arrivals = arrivals; movement = movement; window = window }) (c .servers) (r .servers) (now (work .exit)) (rules .n) ⌝ }
+    t: u8,
+    delta: u8,
+    status: Status,
+    pending: u8,
+) -> bool
+    requires { ⌜ (b < 16) × (calendarSize ≤ length (now work)) ⌝ }
+    ensures { λ r. ⌜ r ≡ reached (now (work .entry)) b arrivals movement t delta (statusOf status) pending ⌝ }
 {
-    let mut d = forge(c, work, t, window);
-    let n = rules.n;
-    let first = since(t, rules.delta);
-    let mut votes = [0u16; 1040];
-    log::pull(&mut votes, work, plan, links, first, t as usize, n);
-    let m = known.m;
-    let values = known.values;
-    let mut b: usize = 0;
-    while b < n {
-        let s = d.servers[b];
-        let o = step(s, &votes, b, arrivals, movement, t, rules, &values, m);
-        let server = o.server;
-        d.servers[b] = server;
-        let row = o.row;
-        log::put_row(work, 16 * (t as usize) + b, row);
-        b += 1;
+    if movement.moving {
+        return true;
     }
-    d
+    if arrivals.asks[b] != 0 {
+        return true;
+    }
+    if (arrivals.wrote[b] as usize) < PLACES {
+        return true;
+    }
+    if pending & arrivals.live != pending {
+        return true;
+    }
+    if servers::is_cured_at(status, t, delta) {
+        return true;
+    }
+    calendar::high(work, calendar::row(t as usize, b)) != 0
 }
 
-// The same with what it is fed in one struct.
-pub fn fed(c: Cluster, work: &mut [u8], plan: &[u8], feed: Feed) -> Cluster
-    requires { ⌜ Sized (now plan) (now work) (feed .t) (feed .rules) (feed .known) (feed .links) (feed .window) ⌝ }
-    ensures { λ r. ⌜ Ticked (feedOf (now (plan .entry)) (now (work .entry)) feed) (c .servers) (r .servers) (now (work .exit)) (feed .rules .n) ⌝ }
+// The stages of server b; `ends` has the ticks in which the readers' last reads end.
+fn turn(
+    s: Server,
+    work: &mut [u8],
+    plan: &[u8],
+    b: usize,
+    feed: Feed,
+    ends: [u8; READERS],
+) -> Server
+    requires { ⌜ (b < feed .rules .n) × Sized (now plan) (now work) (feed .t) (feed .rules) (feed .known) (feed .links) ⌝ }
+    ensures { λ r. ⌜ Turned (feedOf (now (plan .entry)) (now (work .entry)) feed) ends b s r (now (work .exit)) ⌝ }
 {
+    let t = feed.t;
     let rules = feed.rules;
     let known = feed.known;
-    let links = feed.links;
+    let values = known.values;
     let arrivals = feed.arrivals;
     let movement = feed.movement;
-    let window = feed.window;
-    ticked(
-        c,
-        work,
-        plan,
-        feed.t,
-        rules,
-        known,
-        links,
-        arrivals,
-        movement,
-        window,
-    )
+    let links = feed.links;
+    let o = step(s, work, b, arrivals, movement, t, rules, &values, known.m);
+    calendar::clear(work, calendar::row(t as usize, b));
+    let row = o.row;
+    sending::send(work, plan, links, rules.n, t as usize, b, row, ends);
+    o.server
+}
+
+// The stages of all servers. A settled server that nothing reaches is left alone: its stages would change nothing.
+fn serve(
+    servers: [Server; SERVERS],
+    work: &mut [u8],
+    plan: &[u8],
+    feed: Feed,
+    ends: [u8; READERS],
+) -> [Server; SERVERS]
+    requires { ⌜ Sized (now plan) (now work) (feed .t) (feed .rules) (feed .known) (feed .links) ⌝ }
+    ensures { λ r. ⌜ CalmlyServed (feedOf (now (plan .entry)) (now (work .entry)) feed) ends servers r (now (work .exit)) ⌝ }
+{
+    let rules = feed.rules;
+    let n = rules.n;
+    let delta = rules.delta;
+    let t = feed.t;
+    let arrivals = feed.arrivals;
+    let movement = feed.movement;
+    let mut served = servers;
+    let mut b: usize = 0;
+    while b < n {
+        let here = served[b];
+        let status = here.status;
+        let pending = here.pending;
+        if is_reached(work, b, arrivals, movement, t, delta, status, pending) {
+            let s = served[b];
+            served[b] = turn(s, work, plan, b, feed, ends);
+        }
+        b += 1;
+    }
+    served
+}
+
+// The ticks in which the readers' last reads end.
+fn ends_of(readers: [Reader; READERS]) -> [u8; READERS]
+    ensures { λ r. ⌜ r ≡ endsOf readers ⌝ }
+{
+    [
+        readers[0].end,
+        readers[1].end,
+        readers[2].end,
+        readers[3].end,
+    ]
+}
+
+// 'One tick carries the whole hall from one state to the next': its stages 1 to 4.
+pub fn fed(c: Cluster, work: &mut [u8], plan: &[u8], feed: Feed) -> Cluster
+    requires { ⌜ Sized (now plan) (now work) (feed .t) (feed .rules) (feed .known) (feed .links) ⌝ }
+    ensures { λ r. ⌜ CalmlyTicked (feedOf (now (plan .entry)) (now (work .entry)) feed) c r (now (work .exit)) ⌝ }
+{
+    let servers = c.servers;
+    let readers = c.readers;
+    let ends = ends_of(readers);
+    let heard = hear(readers, work, feed.t as usize);
+    let served = serve(servers, work, plan, feed, ends);
+    Cluster {
+        servers: served,
+        readers: heard,
+    }
 }
 
 // One tick of a cluster that is lent.
 pub fn tick(c: &mut Cluster, work: &mut [u8], plan: &[u8], feed: Feed)
-    requires { ⌜ Sized (now plan) (now work) (feed .t) (feed .rules) (feed .known) (feed .links) (feed .window) ⌝ }
-    ensures { λ _. ⌜ Ticked (feedOf (now (plan .entry)) (now (work .entry)) feed) (now (c .entry) .servers) (now (c .exit) .servers) (now (work .exit)) (feed .rules .n) ⌝ }
+    requires { ⌜ Sized (now plan) (now work) (feed .t) (feed .rules) (feed .known) (feed .links) ⌝ }
+    ensures { λ _. ⌜ CalmlyTicked (feedOf (now (plan .entry)) (now (work .entry)) feed) (now (c .entry)) (now (c .exit)) (now (work .exit)) ⌝ }
 {
     *c = fed(*c, work, plan, feed);
 }
 
 // A tick of a cluster by value, by lending it: who calls this needs no proof by hand.
 pub fn next(c: Cluster, work: &mut [u8], plan: &[u8], feed: Feed) -> Cluster
-    requires { ⌜ Sized (now plan) (now work) (feed .t) (feed .rules) (feed .known) (feed .links) (feed .window) ⌝ }
-    ensures { λ r. ⌜ Ticked (feedOf (now (plan .entry)) (now (work .entry)) feed) (c .servers) (r .servers) (now (work .exit)) (feed .rules .n) ⌝ }
+    requires { ⌜ Sized (now plan) (now work) (feed .t) (feed .rules) (feed .known) (feed .links) ⌝ }
+    ensures { λ r. ⌜ CalmlyTicked (feedOf (now (plan .entry)) (now (work .entry)) feed) c r (now (work .exit)) ⌝ }
 {
     let mut local = c;
     tick(&mut local, work, plan, feed);
@@ -201,20 +217,15 @@ pub fn next(c: Cluster, work: &mut [u8], plan: &[u8], feed: Feed) -> Cluster
 
 // 'At the start it is sound, with only pair 0.'
 pub fn start(value: u16) -> Cluster
-    ensures { λ r. ⌜ Started value (r .servers) ⌝ }
+    ensures { λ r. ⌜ Started value r ⌝ }
 {
-    let none = Stamped {
-        kept: false,
-        number: 0,
-        value: 0,
-    };
     let first = Stamped {
         kept: true,
         number: 0,
         value,
     };
-    let kept = [first, none, none];
-    let zero = [0u16; 65];
+    let kept = store::insert(store::none(), first);
+    let zero = [0u16; PLACES];
     let correct = Status::Correct;
     let s = Server {
         status: correct,
@@ -223,5 +234,12 @@ pub fn start(value: u16) -> Cluster
         fresh: zero,
         old: zero,
     };
-    Cluster { servers: [s; 16] }
+    let reader = Reader {
+        end: 0,
+        named: zero,
+    };
+    Cluster {
+        servers: [s; SERVERS],
+        readers: [reader; READERS],
+    }
 }

@@ -5,7 +5,7 @@ use mathlib.Core.List.{List, []}
 use Prim.Native.Nat.{ℕ, _+_, _*_, _≤_, _<_}
 use native.Mathlib.Omega.{arith}
 use lib.ListN.{length}
-use Rattle.cluster.specs.declared.Stamped.{Stamped as Place}
+use Rattle.calendar.specs.declared.Stamped.{Stamped as Place}
 use Rattle.simulator.specs.Look.{Stamped, Looked}
 use Rattle.simulator.specs.Numbered.{lookedAs}
 use Rattle.simulator.specs.declared.look.Seen.{Seen}

@@ -10,11 +10,11 @@ ghost use Rattle.plan.specs.Packed.{storeDepth};
 ghost use Rattle.plan.specs.Numbered.{refusalNumber, numbered};
 ghost use Rattle.simulator.specs.Numbered.{played, judged, lookedAs, shownIn};
 ghost use Rattle.codes.specs.Codes.{refusalCode, readsCode, verdictCode, shownCode, pairSize, pairBytes, pairsOver, lookCoded};
-use cluster::Stamped;
+use calendar::DEPTH;
+use calendar::Stamped;
 use plan::Checked;
 use plan::Refusal;
 use simulator::judge::Judged;
-use simulator::look::STORE_DEPTH;
 use simulator::look::Seen;
 use simulator::play::Played;
 
@@ -126,11 +126,11 @@ fn put_pair(out: &mut [u8], i: usize, p: Stamped)
 }
 
 // As many of the pairs before the first empty place as fit `out`, at its start; how many they are, those left out too.
-fn put_pairs(out: &mut [u8], places: [Stamped; STORE_DEPTH]) -> usize
+fn put_pairs(out: &mut [u8], places: [Stamped; DEPTH]) -> usize
     ensures { λ r. ⌜ (r ≤ storeDepth) × (r ≡ length (shownIn places)) × (now (out .exit) ≡ pairsOver (shownIn places) (now (out .entry))) ⌝ }
 {
     let mut i: usize = 0;
-    while i < STORE_DEPTH {
+    while i < DEPTH {
         let p = places[i];
         if !p.kept {
             return i;

@@ -1,3 +1,4 @@
+pub mod Forging
+pub mod Reading
 pub mod Run
-pub mod Answering
 pub mod Player

@@ -1,27 +1,63 @@
 -- Playing the ticks of a plan that can be played: what is needed, and the state that is reached.
+use mathlib.Core.Path.{_≡_}
 use mathlib.Core.List.{List}
-use Prim.Native.Nat.{ℕ, _≤_}
-use lib.ListN.{length}
+use Prim.Native.Nat.{ℕ, _*_, _-_, _≤_}
+use lib.ListN.{length, getD}
+use Rattle.register.specs.Reading.{answerOf}
 use Rattle.plan.specs.Packed.{planOf}
 use Rattle.plan.specs.Playable.{Playable}
-use Rattle.cluster.specs.declared.Known.{Known}
-use Rattle.cluster.specs.declared.Server.{Server}
+use Rattle.calendar.specs.View.{SamePast}
+use Rattle.cluster.specs.declared.Feed.{Feed}
 use Rattle.cluster.specs.Inputs.{pairAt}
 use Rattle.cluster.specs.State.{State}
 use Rattle.script.specs.declared.Script.{Script}
-use Rattle.script.specs.Script.{Scripted, Kept}
+use Rattle.script.specs.Operations.{noRead}
+use Rattle.script.specs.Forged.{entriesEnd}
+use Rattle.script.specs.Inputs.{Arrive, Moves}
+use Rattle.script.specs.Script.{Scripted}
+use Rattle.answers.specs.Answers.{answerBytes}
+use Rattle.player.specs.declared.tick.Playing.{Playing}
+use Rattle.player.specs.Reading.{Until, placed}
 
--- the script of a plan that can be played, whose forged entries stand in the workspace
-pub record Ready (s work : List ℕ) (r : Script) : Type 0 where
+-- the script of a plan that can be played
+pub record Decoded (s : List ℕ) (r : Script) : Type 0 where
   pub playable : Playable 16 s
-  pub room : 24576 ≤ length work
   -- the workspace before and after the script was read
   pub before : List ℕ
   pub after : List ℕ
   pub scripted : Scripted s before after r
-  pub kept : Kept after work
 
--- the ticks below t are played; of the workspace only the log may have changed
-pub record Ran (s work₀ work₁ : List ℕ) (known : Known) (t : ℕ) (c : List Server) : Type 0 where
-  pub kept : Kept work₀ work₁
-  pub state : State (planOf 16 s) (pairAt known) (known .m) t c work₁
+-- its forged entries stand in the workspace
+pub record Ready (s work : List ℕ) (r : Script) : Type 0 where
+  pub decoded : Decoded s r
+  pub room : entriesEnd ≤ length work
+  pub kept : SamePast (decoded .after) work
+
+-- what tick t is fed
+pub record FedBy (s : List ℕ) (r : Script) (t : ℕ) (f : Feed) : Type 0 where
+  pub same : f ≡ record { t = t; rules = r .rules; known = r .writes .known; links = r .links; arrivals = f .arrivals; movement = f .movement }
+  pub comes : Arrive s (r .links) (r .rules .n) (r .writes .begun) (r .writes .known .m) (r .reads .begun) (r .reads .reader) (r .reads .m) t (f .arrivals)
+  pub moves : Moves s (r .shape .period) t (f .movement)
+
+-- the ticks below t are played: what has begun, and what has ended
+pub record Played (s work : List ℕ) (r : Script) (t : ℕ) (p : Playing) : Type 0 where
+  pub state : State (planOf 16 s) (pairAt (r .writes .known)) (r .writes .known .m) t (p .cluster) work
+  pub begun : Until (r .reads) 0 t (p .begun)
+  pub answered : Until (r .reads) 0 (t - 2 * r .rules .delta) (p .answered)
+
+-- the bytes of the answer of read i
+abbrev pub answerIn : List ℕ → ℕ → List ℕ
+answerIn s i = answerBytes 16 (getD (planOf 16 s .reads) i noRead) (answerOf (planOf 16 s) (getD (planOf 16 s .reads) i noRead))
+
+-- a tick leaves the workspace past the calendar, and writes the answers of the reads that end in it
+pub record Went (s work₀ work₁ answers₀ answers₁ : List ℕ) (r : Script) (t : ℕ) (p q : Playing) : Type 0 where
+  pub kept : SamePast work₀ work₁
+  pub played : Played s work₁ r t q
+  pub ordered : p .answered ≤ q .answered
+  pub answers : answers₁ ≡ placed (answerIn s) (p .answered) (q .answered - p .answered) answers₀
+
+-- the ticks below t leave so, too
+pub record Ran (s work₀ work₁ answers₀ answers₁ : List ℕ) (r : Script) (t : ℕ) (p : Playing) : Type 0 where
+  pub kept : SamePast work₀ work₁
+  pub played : Played s work₁ r t p
+  pub answers : answers₁ ≡ placed (answerIn s) 0 (p .answered) answers₀

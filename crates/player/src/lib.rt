@@ -1,4 +1,5 @@
 // Playing a plan that passes every test of Check but 3, in a workspace that is large enough.
+ghost use mathlib.Core.Path.{_≡_};
 ghost use Prim.Native.Nat.{_*_, _≤_, _<_};
 ghost use lib.ListN.{length};
 ghost use Rattle.plan.specs.Header.{headerOf};
@@ -7,10 +8,25 @@ ghost use Rattle.plan.specs.Playable.{Playable};
 ghost use Rattle.answers.specs.Answers.{answerSize};
 ghost use Rattle.answers.specs.Workspace.{workspaceSize};
 ghost use Rattle.player.specs.Player.{Answered, Seen};
+use calendar::PLACES;
 use cluster::Server;
+use plan::header::Shape;
+use script::operations;
 
-pub mod answering;
+pub mod forging;
+pub mod reading;
 pub mod run;
+pub mod tick;
+
+// The answers of all reads that a table can hold, if no one asks for them.
+const UNASKED: usize = Shape::ANSWER_BYTES * operations::TABLE_READS;
+
+// A byte as a count.
+pub fn size_of(x: u8) -> usize
+    ensures { λ r. ⌜ r ≡ x ⌝ }
+{
+    x as usize
+}
 
 // Plays all ticks, writes the answers and zeroes the workspace.
 pub fn play(plan: &[u8], answers: &mut [u8], work: &mut [u8])
@@ -18,9 +34,10 @@ pub fn play(plan: &[u8], answers: &mut [u8], work: &mut [u8])
     ensures { λ _. ⌜ Answered (now (plan .entry)) (now (answers .entry)) (now (answers .exit)) (now (work .entry)) (now (work .exit)) ⌝ }
 {
     let script = script::read(plan, work);
+    calendar::start(work, PLACES);
     let shape = script.shape;
-    let _end = run::run(plan, work, script, shape.ticks);
-    answering::answer_all(answers, plan, work, script);
+    let start = cluster::tick::start(shape.initial);
+    let _end = run::run(plan, answers, work, script, shape.ticks, start);
     answers::zero(work);
 }
 
@@ -30,7 +47,11 @@ pub fn look(plan: &[u8], work: &mut [u8], server: usize, tick: u8) -> Server
     ensures { λ r. ⌜ Seen (now (plan .entry)) server tick r (now (work .entry)) (now (work .exit)) ⌝ }
 {
     let script = script::read(plan, work);
-    let c = run::run(plan, work, script, tick + 1);
+    calendar::start(work, PLACES);
+    let start = cluster::tick::start(script.shape.initial);
+    let mut unasked = [0u8; UNASKED];
+    let p = run::run(plan, &mut unasked, work, script, tick + 1, start);
     answers::zero(work);
+    let c = p.cluster;
     c.servers[server]
 }

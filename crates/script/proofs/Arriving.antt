@@ -17,28 +17,27 @@ use borrow.Author.Tests.{lt-ltb, le-ltb, eq-eqb, ne-eqb}
 use Rattle.register.proofs.Logic.{and-l, cond-e}
 use Rattle.cluster.specs.declared.Links.{Links}
 use Rattle.cluster.specs.declared.Arrivals.{Arrivals}
-use Rattle.cluster.specs.Bits.{bit}
-use Rattle.cluster.specs.Layout.{linkBit}
+use Rattle.calendar.specs.Bits.{bit}
+use Rattle.cluster.specs.Links.{Linked}
 use Rattle.cluster.proofs.BitLaws.{bit-or, bit-pow, bit-zero}
-use Rattle.script.specs.Inputs.{Reach, Table, due, LatestWrite, Wrote, latestOf, LatestReads, Before, askedBy, Asks, Live, Arrive}
+use Rattle.script.specs.Inputs.{Reach, due, LatestWrite, Wrote, latestOf, LatestReads, Before, askedBy, Asks, Live, Arrive}
 
-row-inside : (x p q b : ℕ) → x < q → b < p → x * p + b < q * p
-row-inside x p q b h k = omega (arith, mul-le-mul-right p h)
-
-pub reach : (plan : List ℕ) (links : Links) (n t : ℕ) → Table plan links n t → (u i b : ℕ) → u < t → i < links .parties → b < links .parties
-    → Reach plan links u i b
-unfolding linkBit
+pub reach : (plan : List ℕ) (links : Links) (n t : ℕ) → Linked plan links n t → (u i b : ℕ) → u < t → i < links .parties → b < links .parties
+    → Reach plan links n u i b
 reach plan links n t T u i b h k l =
     let p = links .parties in
-    let first : u * p + i < t * p = row-inside u p t i h k in
-    let second : (u * p + i) * p + b < t * p * p = row-inside (u * p + i) p (t * p) b first l in
+    let next : u + 1 ≤ t = omega arith in
     record {
-      start = T .start;
-      few = omega (arith, T .servers, T .readers);
-      tick = omega (arith, T .ticks);
-      sender = omega (arith, T .servers, T .readers);
-      receiver = omega (arith, T .servers, T .readers);
-      inside = omega (arith, T .inside, mul-assoc t p p, second);
+      linked = record {
+        start = T .start;
+        ticks = omega (arith, T .ticks);
+        servers = T .servers;
+        writer = T .writer;
+        readers = T .readers;
+        inside = omega (arith, T .inside, mul-le-mul-right (p * p) next);
+      };
+      sender = k;
+      receiver = l;
     }
 
 module _ (begun : List ℕ) (j t last : ℕ) (L : LatestWrite begun j t last) where
@@ -141,7 +140,7 @@ module _ (begun reader : List ℕ) (t : ℕ) where
   all-before m r L = record { each = λ x l. rw (L .each x l) (latest-before x m) }
 
 -- what arrives, put together
-module _ (plan : List ℕ) (links : Links) (n t : ℕ) (Q : Table plan links n t) (begun : List ℕ) (m : ℕ) (reads readers : List ℕ) (q : ℕ) where
+module _ (plan : List ℕ) (links : Links) (n t : ℕ) (Q : Linked plan links n t) (begun : List ℕ) (m : ℕ) (reads readers : List ℕ) (q : ℕ) where
   pub arrive : (latest : List ℕ) → LatestReads reads readers q t latest → (r : Arrivals) → Asks plan links n latest t (r .asks) → Live latest t (r .live)
       → (j : ℕ) → LatestWrite begun m t j → ((b : ℕ) → b < n → getD (r .wrote) b 0 ≡ cond (ltb 0 j && due plan links t (getD begun j 0) n b) j 255)
       → Arrive plan links n begun m reads readers q t r

@@ -1,4 +1,4 @@
--- The reads of an accepted plan in a tick: the read that is open is its reader's last one begun, so its READ and its replies are told from it.
+-- The reads of a plan that can be played in a tick: the read that is open is its reader's last one begun, so its READ and its replies are told from it.
 -- It stands on what Check accepts.
 use mathlib.Core.Path.{_≡_, refl, sym, ap, _∙_}
 use mathlib.Core.Bool.{Bool, true, false, _&&_}

@@ -10,8 +10,8 @@ use lib.ListN.{length, getD, set, length-set}
 use lib.Seq.{getD-set-same, getD-set-other}
 use Rattle.register.specs.Plan.{Forgery}
 use Rattle.cluster.specs.declared.Links.{Links}
-use Rattle.cluster.specs.Layout.{entryAt, delayAt}
-use Rattle.script.specs.Forged.{numberIn, entryBytes, Entry, Filled, Start}
+use Rattle.cluster.specs.Links.{delayAt}
+use Rattle.script.specs.Forged.{entriesAt, entryAt, numberIn, entryBytes, Entry, Filled, Start}
 use Rattle.script.specs.Inputs.{Reach}
 
 module _ (work : List ℕ) (at a b c d e : ℕ) where
@@ -77,9 +77,9 @@ module _ (work : List ℕ) (at a b c d e : ℕ) where
     byte-4 = getD-set-same s3 (at + 4) e 0 (simp length-set (omega arith))
 
 module _ (before work : List ℕ) (e : ℕ) (g : ℕ → Forgery) (delay number : ℕ → ℕ) (F : Filled before work e g delay number) where
-  pub filled-more : (after : List ℕ) (sent arrival receiver sender k : ℕ) → 16384 + 8 * e + 5 ≤ length work
+  pub filled-more : (after : List ℕ) (sent arrival receiver sender k : ℕ) → entriesAt + 8 * e + 5 ≤ length work
       → sent ≡ g e .at → arrival ≡ g e .at + delay e → receiver ≡ g e .to → sender ≡ g e .from → k ≡ number e
-      → after ≡ entryBytes work (16384 + 8 * e) sent arrival receiver sender k
+      → after ≡ entryBytes work (entriesAt + 8 * e) sent arrival receiver sender k
       → Filled before after (e + 1) g delay number
   filled-more after sent arrival receiver sender k fits es ea er ef ek q = rw q (record {
     size = bytes-size work at sent arrival receiver sender k ∙ F .size;
@@ -88,29 +88,29 @@ module _ (before work : List ℕ) (e : ℕ) (g : ℕ → Forgery) (delay number 
   })
     where
       at : ℕ
-      at = 16384 + 8 * e
+      at = entriesAt + 8 * e
 
       bytes : List ℕ
-      bytes = entryBytes work (16384 + 8 * e) sent arrival receiver sender k
+      bytes = entryBytes work (entriesAt + 8 * e) sent arrival receiver sender k
 
-      away : (p : ℕ) → (p < 16384) ⊎ (16384 + 8 * (e + 1) ≤ p) → (p < 16384 + 8 * e) ⊎ (16384 + 8 * e + 5 ≤ p)
+      away : (p : ℕ) → (p < entriesAt) ⊎ (entriesAt + 8 * (e + 1) ≤ p) → (p < entriesAt + 8 * e) ⊎ (entriesAt + 8 * e + 5 ≤ p)
       away p (inl x) = inl (omega arith)
       away p (inr x) = inr (omega arith)
 
-      past : (p : ℕ) → (p < 16384) ⊎ (16384 + 8 * (e + 1) ≤ p) → (p < 16384) ⊎ (16384 + 8 * e ≤ p)
+      past : (p : ℕ) → (p < entriesAt) ⊎ (entriesAt + 8 * (e + 1) ≤ p) → (p < entriesAt) ⊎ (entriesAt + 8 * e ≤ p)
       past p (inl x) = inl x
       past p (inr x) = inr (omega arith)
 
       old : (i j : ℕ) → i < e → j < 8 → entryAt bytes i j ≡ entryAt work i j
-      old i j l m = bytes-other work (16384 + 8 * e) sent arrival receiver sender k (16384 + 8 * i + j) (inl (omega arith))
+      old i j l m = bytes-other work (entriesAt + 8 * e) sent arrival receiver sender k (entriesAt + 8 * i + j) (inl (omega arith))
 
       entry : (i : ℕ) → i < e + 1 → Dec (i ≡ e) → Entry bytes i (g i) (delay i) (number i)
       entry i l (yes z) = rw z (record {
-        sent = byte-0 work (16384 + 8 * e) sent arrival receiver sender k fits ∙ es;
-        arrival = byte-1 work (16384 + 8 * e) sent arrival receiver sender k fits ∙ ea;
-        receiver = byte-2 work (16384 + 8 * e) sent arrival receiver sender k fits ∙ er;
-        sender = byte-3 work (16384 + 8 * e) sent arrival receiver sender k fits ∙ ef;
-        known = byte-4 work (16384 + 8 * e) sent arrival receiver sender k fits ∙ ek;
+        sent = byte-0 work (entriesAt + 8 * e) sent arrival receiver sender k fits ∙ es;
+        arrival = byte-1 work (entriesAt + 8 * e) sent arrival receiver sender k fits ∙ ea;
+        receiver = byte-2 work (entriesAt + 8 * e) sent arrival receiver sender k fits ∙ er;
+        sender = byte-3 work (entriesAt + 8 * e) sent arrival receiver sender k fits ∙ ef;
+        known = byte-4 work (entriesAt + 8 * e) sent arrival receiver sender k fits ∙ ek;
       })
       entry i l (no d) =
           let E = F .entry i (omega arith) in
@@ -135,21 +135,21 @@ start-whole work e count u s before S = record { few = S .few; below = λ i a h.
     go i h (no m) = before i (omega arith)
 
 module _ (work : List ℕ) (e count u i : ℕ) (lo : e ≤ i) (below : (k : ℕ) → e ≤ k → k < i → entryAt work k 0 < u) where
-  pub start-found : i < count → u ≤ getD work (16384 + 8 * i) 0 → Start work e count u i
-  start-found l h = record { few = omega arith; below = below; next = λ m. let z : 16384 + 8 * i + 0 ≡ 16384 + 8 * i = omega arith in rw z h }
+  pub start-found : i < count → u ≤ getD work (entriesAt + 8 * i) 0 → Start work e count u i
+  start-found l h = record { few = omega arith; below = below; next = λ m. let z : entriesAt + 8 * i + 0 ≡ entriesAt + 8 * i = omega arith in rw z h }
 
-  pub start-passed : getD work (16384 + 8 * i) 0 < u → (k : ℕ) → e ≤ k → k < i + 1 → entryAt work k 0 < u
+  pub start-passed : getD work (entriesAt + 8 * i) 0 < u → (k : ℕ) → e ≤ k → k < i + 1 → entryAt work k 0 < u
   start-passed h k a b = go (ℕ-discrete k i)
     where
       go : Dec (k ≡ i) → entryAt work k 0 < u
-      go (yes y) = let z : 16384 + 8 * i + 0 ≡ 16384 + 8 * i = omega arith in rw (y, z) h
+      go (yes y) = let z : entriesAt + 8 * i + 0 ≡ entriesAt + 8 * i = omega arith in rw (y, z) h
       go (no d) = below k a (omega arith)
 
   pub start-last : count ≤ i → i ≤ count → Start work e count u count
   start-last l m = record { few = omega arith; below = λ k a b. below k a (omega arith); next = λ h. absurd (omega arith) }
 
-pub reach-same : (plan : List ℕ) (links : Links) (u i b u′ i′ b′ : ℕ) → Reach plan links u i b → u′ ≡ u → i′ ≡ i → b′ ≡ b → Reach plan links u′ i′ b′
-reach-same plan links u i b u′ i′ b′ R e f g = rw (e, f, g) R
+pub reach-same : (plan : List ℕ) (links : Links) (n u i b u′ i′ b′ : ℕ) → Reach plan links n u i b → u′ ≡ u → i′ ≡ i → b′ ≡ b → Reach plan links n u′ i′ b′
+reach-same plan links n u i b u′ i′ b′ R e f g = rw (e, f, g) R
 
 pub delay-same : (plan : List ℕ) (links : Links) (u i b u′ i′ b′ : ℕ) → u′ ≡ u → i′ ≡ i → b′ ≡ b → delayAt plan links u′ i′ b′ ≡ delayAt plan links u i b
 delay-same plan links u i b u′ i′ b′ e f g = rw (e, f, g)

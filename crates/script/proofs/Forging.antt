@@ -1,4 +1,4 @@
--- The forged part of an accepted plan can be read into the entries, and what is then written there are the plan's forged messages.
+-- The forged part of a plan that can be played can be read into the entries, and what is then written there are the plan's forged messages.
 -- It stands on Placing and Messages.
 use mathlib.Core.Path.{_≡_, ap, _∙_}
 use mathlib.Core.List.{List}
@@ -16,8 +16,9 @@ use Rattle.plan.proofs.Stamped.{value-stamped, number-stamped}
 use Rattle.plan.specs.Playable.{Playable}
 use Rattle.plan.proofs.Accept.{in-range}
 use Rattle.cluster.specs.declared.Links.{Links}
-use Rattle.cluster.specs.Layout.{delayAt}
-use Rattle.script.specs.Forged.{forgedBits, delayOf, Fillable, Entry, Filled, Starts}
+use Rattle.calendar.specs.Layout.{places}
+use Rattle.cluster.specs.Links.{delayAt}
+use Rattle.script.specs.Forged.{entriesEnd, forgedBits, delayOf, Fillable, Entry, Filled, Starts}
 use Rattle.script.specs.Script.{LinksOf, messageOf, messageDelay, messageNumber, Forged}
 use Rattle.script.specs.Forged as F
 use Rattle.script.proofs.Entries.{reach-same}
@@ -51,15 +52,15 @@ module _ (s : List ℕ) (A : Playable 16 s) (at count : ℕ) (starts-at : at ≡
   message e = part-message s part at e part-whole starts-at
 
   module _ (links : Links) (L : LinksOf (headerOf 16 s) links) where
-    pub fillable : (work : List ℕ) (m : ℕ) → 24576 ≤ length work → m ≤ 65 → Fillable work part (at % 8) count s links m
-    fillable work m room pairs = record {
+    pub fillable : (work : List ℕ) (n m : ℕ) → n ≡ headerOf 16 s .n → entriesEnd ≤ length work → m ≤ places → Fillable work part (at % 8) count s links n m
+    fillable work n m servers room pairs = record {
       room = room;
       start = omega arith;
       few = omega (arith, in-range 16 s A .forgeries-hi);
       inside = omega (arith, part-size, bits-inside s A, part-starts);
       pairs = pairs;
-      reach = λ e l. reach-same s links _ _ _ _ _ _ (message-reach s A e (omega arith) links L)
-          (ap (λ (g : Forgery). g .at) (message e)) (ap (λ (g : Forgery). g .from) (message e)) (ap (λ (g : Forgery). g .to) (message e));
+      reach = λ e l. rw servers (reach-same s links (headerOf 16 s .n) _ _ _ _ _ _ (message-reach s A e (omega arith) links L)
+          (ap (λ (g : Forgery). g .at) (message e)) (ap (λ (g : Forgery). g .from) (message e)) (ap (λ (g : Forgery). g .to) (message e)));
     }
 
     delay-same : (e : ℕ) → e < count → delayOf s links part (at % 8 + 40 * e) ≡ messageDelay s e

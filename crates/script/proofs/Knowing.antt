@@ -22,6 +22,7 @@ use Rattle.plan.proofs.Stamped.{number-stamped}
 use Rattle.plan.specs.Playable.{Playable}
 use Rattle.plan.proofs.Accept.{in-range}
 use Rattle.plan.proofs.AcceptWrites.{writes-apart}
+use Rattle.plan.proofs.AcceptReads.{read-stands}
 use Rattle.plan.proofs.AcceptGood.{delay-range}
 use Rattle.cluster.specs.declared.Known.{Known}
 use Rattle.cluster.specs.declared.Links.{Links}
@@ -77,10 +78,12 @@ module _ (s : List ℕ) (A : Playable 16 s) (known : Known) (begun : List ℕ)
   knows = record {
     few = W .few;
     servers = in-range 16 s A .n-hi;
+    slow = in-range 16 s A .delta-hi;
     depth = refl;
     number = λ j l. pair-number j;
     first = (omega (arith, W .count), rw (W .first));
     write = λ w h. let (j, a, b, p, q) = write-numbered w h in (j, b, p);
+    readers = λ r h. (read-stands 16 s A r h .reader-lo, omega (arith, read-stands 16 s A r h .reader-hi, in-range 16 s A .readers-hi));
   }
 
   module _ (links : Links) (L : LinksOf (headerOf 16 s) links) (t : ℕ) (below : t < headerOf 16 s .ticks) (b : ℕ) (server : b < headerOf 16 s .n)

@@ -11,4 +11,3 @@ pub mod Asking
 pub mod Naming
 pub mod Windows
 pub mod Fitting
-pub mod Replying

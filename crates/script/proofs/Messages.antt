@@ -1,4 +1,4 @@
--- The forged messages of an accepted plan: who sends them and to whom, that they rise by tick, and that the forged part has them.
+-- The forged messages of a plan that can be played: who sends them and to whom, that they rise by tick, and that the forged part has them.
 -- It stands on what Check accepts, and on where the parts stand.
 use mathlib.Core.Path.{_≡_, refl, sym, ap}
 use mathlib.Core.Bool.{_||_}
@@ -70,7 +70,7 @@ module _ (s : List ℕ) (A : Playable 16 s) where
                   (λ z. omega (arith, r .to-reader, sender-below, servers)) (λ z. omega (arith, r .to-reader, S .reader-lo, servers)),
             )
 
-    pub message-reach : (links : Links) → LinksOf (headerOf 16 s) links → Reach s links (messageOf s e .at) (messageOf s e .from) (messageOf s e .to)
+    pub message-reach : (links : Links) → LinksOf (headerOf 16 s) links → Reach s links (headerOf 16 s .n) (messageOf s e .at) (messageOf s e .from) (messageOf s e .to)
     message-reach links L =
         reach s links (headerOf 16 s .n) (headerOf 16 s .ticks) (table s A links L (headerOf 16 s .ticks) (omega arith))
         (messageOf s e .at) (messageOf s e .from) (messageOf s e .to) sent-below (omega (arith, sender-below, L .parties)) (omega (arith, on-link .0, L .parties))

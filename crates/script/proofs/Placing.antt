@@ -1,4 +1,4 @@
--- Where the parts of an accepted plan stand in its bits: the operations, the delays of each link, the placements and the forged messages.
+-- Where the parts of a plan that can be played stand in its bits: the operations, the delays of each link, the placements and the forged messages.
 -- It stands on what Check accepts.
 use mathlib.Core.Path.{_≡_, refl}
 use mathlib.Core.List.{List}
@@ -18,9 +18,8 @@ use Rattle.plan.specs.Playable.{Playable}
 use Rattle.plan.proofs.Accept.{in-range, exact}
 use Rattle.plan.proofs.AcceptWrites.{few-writes}
 use Rattle.cluster.specs.declared.Links.{Links}
-use Rattle.cluster.specs.Layout.{linkBit, delayAt}
+use Rattle.cluster.specs.Links.{linkBit, delayAt, Linked}
 use Rattle.script.specs.Operations.{opAt, Room}
-use Rattle.script.specs.Inputs.{Table}
 use Rattle.script.specs.Script.{LinksOf}
 
 module _ (s : List ℕ) (A : Playable 16 s) where
@@ -66,7 +65,7 @@ module _ (s : List ℕ) (A : Playable 16 s) where
 
   module _ (links : Links) (L : LinksOf (headerOf 16 s) links) where
     -- the delays of all ticks below t
-    pub table : (t : ℕ) → t ≤ headerOf 16 s .ticks → Table s links (headerOf 16 s .n) t
+    pub table : (t : ℕ) → t ≤ headerOf 16 s .ticks → Linked s links (headerOf 16 s .n) t
     table t l =
         let H = in-range 16 s A in
         let p = parties (headerOf 16 s) in

@@ -1,4 +1,4 @@
--- Which forged entries a tick or a read has to look at: the entries rise by the tick in which they were sent.
+-- Which forged entries were sent in a tick: the entries rise by the tick in which they were sent.
 -- It stands on Messages.
 use mathlib.Core.List.{List}
 use Prim.Native.Nat.{ℕ, _+_, _≤_, _<_}
@@ -8,8 +8,7 @@ use lib.ListN.{getD}
 use Rattle.plan.specs.Header.{headerOf}
 use Rattle.plan.specs.Playable.{Playable}
 use Rattle.plan.proofs.AcceptGood.{delay-range}
-use Rattle.cluster.specs.Layout.{entryAt}
-use Rattle.script.specs.Forged.{Entry, Starts}
+use Rattle.script.specs.Forged.{entryAt, Entry, Starts}
 use Rattle.script.specs.Script.{messageOf, messageDelay, messageNumber}
 use Rattle.script.proofs.Messages.{messages-rise}
 

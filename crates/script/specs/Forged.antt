@@ -1,4 +1,5 @@
 -- The forged entries of the workspace: what the code writes there for the forged messages of a plan, and where the entries of a tick start.
+-- They stand behind the calendar, 8 bytes each: tick sent, tick of arrival, receiver, sender, number (255: not a known pair).
 use mathlib.Core.Path.{_≡_}
 use mathlib.Core.Bool.{_&&_, cond}
 use mathlib.Core.Logic.{_⊎_}
@@ -9,9 +10,24 @@ use lib.ListN.{length, getD, set}
 use Rattle.bits.specs.Field.{fieldOf}
 use Rattle.register.specs.Plan.{Forgery, stamped}
 use Rattle.cluster.specs.declared.Links.{Links}
-use Rattle.cluster.specs.Layout.{entryAt, delayAt}
+use Rattle.calendar.specs.Layout.{places, calendarSize}
+use Rattle.cluster.specs.Links.{delayAt}
 use Rattle.plan.specs.declared.forgeries.Forged.{Forged}
 use Rattle.script.specs.Inputs.{Reach}
+
+-- the byte at which they begin, how many there may be, and the byte behind them
+abbrev pub entriesAt : ℕ
+entriesAt = calendarSize
+
+abbrev pub mostEntries : ℕ
+mostEntries = 1024
+
+abbrev pub entriesEnd : ℕ
+entriesEnd = entriesAt + 8 * mostEntries
+
+-- byte k of entry e
+abbrev pub entryAt : List ℕ → ℕ → ℕ → ℕ
+entryAt work e k = getD work (entriesAt + 8 * e + k) 0
 
 -- the forged message from bit `at` on
 abbrev pub forgedBits : List ℕ → ℕ → Forgery
@@ -46,14 +62,14 @@ unfoldable pub entryBytes : List ℕ → ℕ → ℕ → ℕ → ℕ → ℕ →
 entryBytes work at a b c d e = set (set (set (set (set work at a) (at + 1) b) (at + 2) c) (at + 3) d) (at + 4) e
 
 -- so many forged messages stand there, their delays lie in the plan, and there is room for the entries
-pub record Fillable (work part : List ℕ) (offset count : ℕ) (plan : List ℕ) (links : Links) (m : ℕ) : Type 0 where
-  pub room : 24576 ≤ length work
+pub record Fillable (work part : List ℕ) (offset count : ℕ) (plan : List ℕ) (links : Links) (n m : ℕ) : Type 0 where
+  pub room : entriesEnd ≤ length work
   pub start : offset < 8
-  pub few : count ≤ 1024
+  pub few : count ≤ mostEntries
   pub inside : offset + 40 * count ≤ 8 * length part
-  pub pairs : m ≤ 65
+  pub pairs : m ≤ places
   pub reach : (e : ℕ) → e < count
-      → Reach plan links (forgedBits part (offset + 40 * e) .at) (forgedBits part (offset + 40 * e) .from) (forgedBits part (offset + 40 * e) .to)
+      → Reach plan links n (forgedBits part (offset + 40 * e) .at) (forgedBits part (offset + 40 * e) .from) (forgedBits part (offset + 40 * e) .to)
 
 -- entry e is the forged message g, with this delay and number
 pub record Entry (work : List ℕ) (e : ℕ) (g : Forgery) (delay number : ℕ) : Type 0 where
@@ -67,7 +83,7 @@ pub record Entry (work : List ℕ) (e : ℕ) (g : Forgery) (delay number : ℕ) 
 pub record Filled (before after : List ℕ) (count : ℕ) (g : ℕ → Forgery) (delay number : ℕ → ℕ) : Type 0 where
   pub size : length after ≡ length before
   pub entry : (e : ℕ) → e < count → Entry after e (g e) (delay e) (number e)
-  pub other : (p : ℕ) → (p < 16384) ⊎ (16384 + 8 * count ≤ p) → getD after p 0 ≡ getD before p 0
+  pub other : (p : ℕ) → (p < entriesAt) ⊎ (entriesAt + 8 * count ≤ p) → getD after p 0 ≡ getD before p 0
 
 -- s entries, counted from entry e on, were sent before tick u, and the next one was not
 pub record Start (work : List ℕ) (e count u s : ℕ) : Type 0 where

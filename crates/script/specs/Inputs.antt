@@ -2,33 +2,21 @@
 use mathlib.Core.Path.{_≡_}
 use mathlib.Core.Bool.{Bool, true, not, _&&_, cond}
 use mathlib.Core.List.{List}
-use Prim.Native.Nat.{ℕ, zero, suc, _+_, _*_, _-_, _/_, _%_, _^_, _≤_, _<_}
+use Prim.Native.Nat.{ℕ, zero, suc, _+_, _*_, _-_, _/_, _%_, _≤_, _<_}
 use lib.Dec.{eqb, ltb}
-use lib.ListN.{length, getD}
+use lib.ListN.{getD}
 use Rattle.bits.specs.Field.{fieldOf}
 use Rattle.cluster.specs.declared.Links.{Links}
 use Rattle.cluster.specs.declared.Arrivals.{Arrivals}
 use Rattle.cluster.specs.declared.Movement.{Movement}
-use Rattle.cluster.specs.Bits.{bit}
-use Rattle.cluster.specs.Layout.{linkBit, delayAt}
+use Rattle.calendar.specs.Bits.{bit}
+use Rattle.cluster.specs.Links.{delayAt, Linked}
 
 -- the delay of tick u from party i to party b lies in the plan
-pub record Reach (plan : List ℕ) (links : Links) (u i b : ℕ) : Type 0 where
-  pub start : links .at < 2 ^ 32
-  pub few : links .parties ≤ 32
-  pub tick : u < 128
-  pub sender : i < 32
-  pub receiver : b < 32
-  pub inside : linkBit links u i b + 4 ≤ 8 * length plan
-
--- n servers, a writer and at most seven readers; the delays of all ticks below t lie in the plan
-pub record Table (plan : List ℕ) (links : Links) (n t : ℕ) : Type 0 where
-  pub start : links .at < 2 ^ 32
-  pub ticks : t ≤ 128
-  pub servers : n ≤ 16
-  pub writer : n < links .parties
-  pub readers : links .parties ≤ n + 8
-  pub inside : links .at + 4 * (t * (links .parties * links .parties)) ≤ 8 * length plan
+pub record Reach (plan : List ℕ) (links : Links) (n u i b : ℕ) : Type 0 where
+  pub linked : Linked plan links n (u + 1)
+  pub sender : i < links .parties
+  pub receiver : b < links .parties
 
 -- does what is sent in tick u from party i to party b arrive in tick t
 abbrev pub due : List ℕ → Links → ℕ → ℕ → ℕ → ℕ → Bool

@@ -1,9 +1,8 @@
 -- What the parts of a script say of the plan that it was read from.
 use mathlib.Core.Path.{_≡_}
 use mathlib.Core.List.{List}
-use Prim.Native.Nat.{ℕ, _+_, _*_, _≤_}
+use Prim.Native.Nat.{ℕ, _+_, _*_}
 use lib.Dec.{eqb}
-use lib.ListN.{length, getD}
 use Rattle.register.specs.Plan.{Forgery, valueOf, numberOf}
 use Rattle.plan.specs.Header.{Header, headerOf, forgeryAt, parties, kIn}
 use Rattle.plan.specs.Parts.{forgeryOf}
@@ -49,8 +48,3 @@ pub record Scripted (s before after : List ℕ) (r : Script) : Type 0 where
   pub writes : Written (planOf 16 s .writes) (headerOf 16 s .initial) (r .writes .known .values) (r .writes .begun) (r .writes .known .m)
   pub reads : ReadIn (planOf 16 s .reads) (r .reads .begun) (r .reads .reader) (r .reads .m)
   pub forged : Forged s before after (r .writes .known .values) (r .writes .known .m) (r .starts)
-
--- a workspace whose forged entries are still those of another
-pub record Kept (after work : List ℕ) : Type 0 where
-  pub size : length work ≡ length after
-  pub same : (p : ℕ) → 16384 ≤ p → getD work p 0 ≡ getD after p 0

@@ -1,12 +1,16 @@
-// The forged messages of a plan, decoded once into the lent workspace, and which of them a tick has to look at.
+// The forged messages of a plan, decoded once into the lent workspace, and where those of each tick start.
 ghost use mathlib.Core.Path.{_≡_};
-ghost use Prim.Native.Nat.{_+_, _*_, _-_, _^_, _≤_, _<_};
-ghost use lib.ListN.{length, getD};
-ghost use Rattle.script.specs.Forged.{Packed, numberIn, entryBytes, Fillable, Filled, forgedBits, delayOf, numberOf, Start, Starts};
+ghost use Prim.Native.Nat.{_+_, _*_, _^_, _≤_, _<_};
+ghost use lib.ListN.{length};
+ghost use Rattle.script.specs.Forged.{Packed, numberIn, entryBytes, Fillable, Filled, forgedBits, delayOf, numberOf, Start, Starts, entriesEnd, mostEntries};
+ghost use Rattle.calendar.specs.Layout.{places};
+use calendar::PLACES;
 use cluster::Links;
-use cluster::Window;
-use cluster::log;
+use cluster::delays;
 use plan::forgeries::Forged;
+
+// The byte at which the forged entries begin, behind the calendar.
+pub const ENTRIES: usize = calendar::BYTES;
 
 // The forged message that stands from bit `at` on.
 fn message_at(part: &[u8], at: usize) -> Forged
@@ -17,8 +21,8 @@ fn message_at(part: &[u8], at: usize) -> Forged
 }
 
 // The number, if it is that of a known pair with this value; else 255.
-fn known_number(values: &[u16; 65], m: usize, value: u16, number: u8) -> u8
-    requires { ⌜ m ≤ 65 ⌝ }
+fn known_number(values: &[u16; PLACES], m: usize, value: u16, number: u8) -> u8
+    requires { ⌜ m ≤ places ⌝ }
     ensures { λ r. ⌜ r ≡ numberIn (now (values .entry)) m value number ⌝ }
 {
     let i = number as usize;
@@ -58,10 +62,11 @@ pub fn fill(
     count: usize,
     plan: &[u8],
     links: Links,
-    values: &[u16; 65],
+    n: usize,
+    values: &[u16; PLACES],
     m: usize,
 )
-    requires { ⌜ Fillable (now work) (now part) offset count (now plan) links m ⌝ }
+    requires { ⌜ Fillable (now work) (now part) offset count (now plan) links n m ⌝ }
     ensures { λ _. ⌜ Filled (now (work .entry)) (now (work .exit)) count (λ e. forgedBits (now (part .entry)) (offset + 40 * e))
         (λ e. delayOf (now (plan .entry)) links (now (part .entry)) (offset + 40 * e)) (λ e. numberOf (now (values .entry)) m (now (part .entry)) (offset + 40 * e)) ⌝ }
 {
@@ -69,10 +74,17 @@ pub fn fill(
     while e < count {
         let g = message_at(part, offset + 40 * e);
         let number = known_number(values, m, g.value, g.number);
-        let delay = log::delay(plan, links, g.at as usize, g.from as usize, g.to as usize);
+        let delay = delays::delay(
+            plan,
+            links,
+            n,
+            g.at as usize,
+            g.from as usize,
+            g.to as usize,
+        );
         put_entry(
             work,
-            16384 + 8 * e,
+            ENTRIES + 8 * e,
             g.at,
             g.at + delay as u8,
             g.to,
@@ -85,12 +97,12 @@ pub fn fill(
 
 // The first entry from e on that was sent in tick u or later.
 fn next_start(work: &[u8], e: usize, count: usize, u: u8) -> usize
-    requires { ⌜ (e ≤ count) × (count ≤ 1024) × (24576 ≤ length (now work)) ⌝ }
+    requires { ⌜ (e ≤ count) × (count ≤ mostEntries) × (entriesEnd ≤ length (now work)) ⌝ }
     ensures { λ r. ⌜ (e ≤ r) × Start (now (work .entry)) e count u r ⌝ }
 {
     let mut i = e;
     while i < count {
-        if u <= work[16384 + 8 * i] {
+        if u <= work[ENTRIES + 8 * i] {
             return i;
         }
         i += 1;
@@ -100,7 +112,7 @@ fn next_start(work: &[u8], e: usize, count: usize, u: u8) -> usize
 
 // For each tick, how many entries were sent before it.
 pub fn starts(work: &[u8], count: usize) -> [u16; 129]
-    requires { ⌜ (count ≤ 1024) × (24576 ≤ length (now work)) ⌝ }
+    requires { ⌜ (count ≤ mostEntries) × (entriesEnd ≤ length (now work)) ⌝ }
     ensures { λ r. ⌜ Starts (now (work .entry)) count r ⌝ }
 {
     let mut r = [0u16; 129];
@@ -112,32 +124,4 @@ pub fn starts(work: &[u8], count: usize) -> [u16; 129]
         u += 1;
     }
     r
-}
-
-fn wide(x: u16) -> usize
-    ensures { λ r. ⌜ r ≡ x ⌝ }
-{
-    x as usize
-}
-
-// The entries sent from tick `first` on and before tick `last`.
-pub fn sent_within(starts: &[u16; 129], first: usize, last: usize) -> Window
-    requires { ⌜ (first < 129) × (last < 129) ⌝ }
-    ensures { λ r. ⌜ (r .from ≡ getD (now (starts .entry)) first 0) × (r .to ≡ getD (now (starts .entry)) last 0) ⌝ }
-{
-    Window {
-        from: wide(starts[first]),
-        to: wide(starts[last]),
-    }
-}
-
-// The entries that can arrive in tick t: those sent in the last delta ticks.
-pub fn window(starts: &[u16; 129], delta: u8, t: u8) -> Window
-    requires { ⌜ t < 129 ⌝ }
-    ensures { λ r. ⌜ (r .from ≡ getD (now (starts .entry)) (t - delta) 0) × (r .to ≡ getD (now (starts .entry)) t 0) ⌝ }
-{
-    if t < delta {
-        return sent_within(starts, 0, t as usize);
-    }
-    sent_within(starts, (t - delta) as usize, t as usize)
 }

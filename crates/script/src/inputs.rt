@@ -3,26 +3,26 @@ ghost use mathlib.Core.Path.{_≡_};
 ghost use Prim.Native.Nat.{_+_, _*_, _/_, _≤_, _<_};
 ghost use lib.Dec.{eqb};
 ghost use lib.ListN.{length};
-ghost use Rattle.cluster.specs.Layout.{delayAt};
-ghost use Rattle.script.specs.Inputs.{Reach, Table, LatestWrite, Wrote, LatestReads, Before, AsksAt, Asks, Live, Arrive, Moves};
+ghost use Rattle.cluster.specs.Links.{delayAt, Linked};
+ghost use Rattle.script.specs.Inputs.{Reach, LatestWrite, Wrote, LatestReads, Before, AsksAt, Asks, Live, Arrive, Moves};
 use super::operations::Reads;
 use super::operations::Writes;
 use cluster::Arrivals;
 use cluster::Links;
 use cluster::Movement;
-use cluster::log;
+use cluster::delays;
 
 // Does what is sent in tick u from party i to party b arrive in tick t? No delay is over 15, so most are not read.
-fn is_due(plan: &[u8], links: Links, u: u8, i: usize, b: usize, t: u8) -> bool
-    requires { ⌜ Reach (now plan) links u i b ⌝ }
+fn is_due(plan: &[u8], links: Links, n: usize, u: u8, i: usize, b: usize, t: u8) -> bool
+    requires { ⌜ Reach (now plan) links n u i b ⌝ }
     ensures { λ r. ⌜ r ≡ eqb (u + delayAt (now (plan .entry)) links u i b) t ⌝ }
 {
-    let sent = u as u64;
-    let now = t as u64;
+    let sent = u as usize;
+    let now = t as usize;
     if sent + 15 < now {
         return false;
     }
-    sent + log::delay(plan, links, u as usize, i, b) == now
+    sent + delays::delay(plan, links, n, u as usize, i, b) == now
 }
 
 // The number of the last write that began before tick t; 0 if none did.
@@ -43,13 +43,13 @@ fn latest_write(begun: [u8; 65], m: usize, t: u8) -> usize
 
 // The number j at each server where the WRITE begun in tick u arrives in tick t, else 255.
 fn wrote(plan: &[u8], links: Links, n: usize, u: u8, j: u8, t: u8) -> [u8; 16]
-    requires { ⌜ Table (now plan) links n t × (u < t) ⌝ }
+    requires { ⌜ Linked (now plan) links n t × (u < t) ⌝ }
     ensures { λ r. ⌜ Wrote (now (plan .entry)) links n u j t n r ⌝ }
 {
     let mut r = [255u8; 16];
     let mut b: usize = 0;
     while b < n {
-        if is_due(plan, links, u, n, b, t) {
+        if is_due(plan, links, n, u, n, b, t) {
             r[b] = j;
         }
         b += 1;
@@ -78,7 +78,7 @@ fn latest_reads(reads: Reads, t: u8) -> [u8; 8]
 
 // The readers whose READ arrives at server b in tick t.
 fn asks_at(plan: &[u8], links: Links, n: usize, latest: [u8; 8], b: usize, t: u8) -> u8
-    requires { ⌜ Table (now plan) links n t × Before latest t × (b < n) ⌝ }
+    requires { ⌜ Linked (now plan) links n t × Before latest t × (b < n) ⌝ }
     ensures { λ r. ⌜ AsksAt (now (plan .entry)) links n latest b t r ⌝ }
 {
     let parties = links.parties;
@@ -87,7 +87,7 @@ fn asks_at(plan: &[u8], links: Links, n: usize, latest: [u8; 8], b: usize, t: u8
     while n + x < parties {
         let v = latest[x];
         if 0 < v {
-            if is_due(plan, links, v - 1, n + x, b, t) {
+            if is_due(plan, links, n, v - 1, n + x, b, t) {
                 r = r | (1 << x);
             }
         }
@@ -98,7 +98,7 @@ fn asks_at(plan: &[u8], links: Links, n: usize, latest: [u8; 8], b: usize, t: u8
 
 // The same at each server.
 fn asks(plan: &[u8], links: Links, n: usize, latest: [u8; 8], t: u8) -> [u8; 16]
-    requires { ⌜ Table (now plan) links n t × Before latest t ⌝ }
+    requires { ⌜ Linked (now plan) links n t × Before latest t ⌝ }
     ensures { λ r. ⌜ Asks (now (plan .entry)) links n latest t r ⌝ }
 {
     let mut r = [0u8; 16];
@@ -134,7 +134,7 @@ pub fn arrivals(
     reads: Reads,
     t: u8,
 ) -> Arrivals
-    requires { ⌜ Table (now plan) links n t × (1 ≤ writes .known .m) × (writes .known .m ≤ 65) × (reads .m ≤ 255) ⌝ }
+    requires { ⌜ Linked (now plan) links n t × (1 ≤ writes .known .m) × (writes .known .m ≤ 65) × (reads .m ≤ 255) ⌝ }
     ensures { λ r. ⌜ Arrive (now (plan .entry)) links n (writes .begun) (writes .known .m) (reads .begun) (reads .reader) (reads .m) t r ⌝ }
 {
     let latest = latest_reads(reads, t);

@@ -5,6 +5,8 @@ ghost use lib.ListN.{length};
 ghost use Rattle.plan.specs.Header.{headerOf};
 ghost use Rattle.plan.specs.Playable.{Playable};
 ghost use Rattle.plan.specs.Shape.{Ranged, shape};
+ghost use Rattle.calendar.specs.Layout.{places};
+ghost use Rattle.script.specs.Forged.{entriesEnd};
 ghost use Rattle.script.specs.Script.{RulesOf, LinksOf, Forged, Scripted};
 use cluster::Links;
 use cluster::Rules;
@@ -50,7 +52,7 @@ fn links_of(header: Shape) -> Links
 
 // The forged entries, into the workspace, and where those of each tick start. The forged part is read from the byte that holds its first bit.
 fn forge(plan: &[u8], work: &mut [u8], header: Shape, links: Links, writes: Writes) -> [u16; 129]
-    requires { ⌜ Playable 16 (now plan) × (shape header ≡ headerOf 16 (now plan)) × LinksOf (shape header) links × (24576 ≤ length (now work)) × (writes .known .m ≤ 65) ⌝ }
+    requires { ⌜ Playable 16 (now plan) × (shape header ≡ headerOf 16 (now plan)) × LinksOf (shape header) links × (entriesEnd ≤ length (now work)) × (writes .known .m ≤ places) ⌝ }
     ensures { λ r. ⌜ Forged (now (plan .entry)) (now (work .entry)) (now (work .exit)) (writes .known .values) (writes .known .m) r ⌝ }
 {
     let at = header.forgeries_at();
@@ -65,15 +67,16 @@ fn forge(plan: &[u8], work: &mut [u8], header: Shape, links: Links, writes: Writ
         count,
         plan,
         links,
+        header.n as usize,
         &values,
         known.m,
     );
     forged::starts(work, count)
 }
 
-// Decodes an accepted plan.
+// Decodes a plan that can be played.
 pub fn read(plan: &[u8], work: &mut [u8]) -> Script
-    requires { ⌜ Playable 16 (now plan) × (24576 ≤ length (now work)) ⌝ }
+    requires { ⌜ Playable 16 (now plan) × (entriesEnd ≤ length (now work)) ⌝ }
     ensures { λ r. ⌜ Scripted (now (plan .entry)) (now (work .entry)) (now (work .exit)) r ⌝ }
 {
     let header = Shape::read(plan);

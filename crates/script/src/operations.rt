@@ -5,6 +5,9 @@ ghost use Rattle.script.specs.Operations.{opAt, Room, Written, ReadIn};
 use cluster::Known;
 use plan::operations::Operation;
 
+// How many reads a table holds: as many as the operations that one byte can count.
+pub const TABLE_READS: usize = 255;
+
 // The known pairs, and the tick in which write j begins, from 1 on.
 pub struct Writes {
     pub known: Known,
@@ -13,8 +16,8 @@ pub struct Writes {
 
 // The tick in which each read begins, and its reader.
 pub struct Reads {
-    pub begun: [u8; 255],
-    pub reader: [u8; 255],
+    pub begun: [u8; TABLE_READS],
+    pub reader: [u8; TABLE_READS],
     pub m: usize,
 }
 
@@ -52,8 +55,8 @@ pub fn reads_of(plan: &[u8], at: usize, count: usize) -> Reads
     requires { ⌜ Room (now plan) at count ⌝ }
     ensures { λ r. ⌜ ReadIn (readsFrom (tab count (opAt (now (plan .entry)) at))) (r .begun) (r .reader) (r .m) ⌝ }
 {
-    let mut begun = [0u8; 255];
-    let mut reader = [0u8; 255];
+    let mut begun = [0u8; TABLE_READS];
+    let mut reader = [0u8; TABLE_READS];
     let mut m: usize = 0;
     let mut i: usize = 0;
     while i < count {

@@ -13,7 +13,7 @@ use Rattle.plan.specs.Header.{headerOf}
 use Rattle.plan.specs.Packed.{storeDepth, planOf}
 use Rattle.plan.specs.Check.{refused, result, checkOf}
 use Rattle.plan.proofs.Stamped.{value-stamped, number-stamped}
-use Rattle.cluster.specs.declared.Stamped.{Stamped as Place}
+use Rattle.calendar.specs.declared.Stamped.{Stamped as Place}
 use Rattle.cluster.specs.Stored.{keys}
 use Rattle.answers.specs.Workspace.{workspaceSize, zeroed}
 use Rattle.simulator.specs.Look.{Stamped, conditionOf, shownBy, placeWith, emptyPlace, placesOf, Looked, lookShown, lookRefused, lookAfter, lookOf}

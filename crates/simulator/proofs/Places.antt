@@ -6,9 +6,9 @@ use denote.Array.{each}
 use denote.Shadow.{shadow}
 use denote.Struct.Declared.{field}
 use denote.Struct.Laws as LL
-use Rattle.cluster.specs.declared.Stamped.{Stamped}
+use Rattle.calendar.specs.declared.Stamped.{Stamped}
 use Rattle.cluster.specs.declared.Server.{Server}
-use Rattle.cluster.proofs.Stamped as TP
+use Rattle.calendar.proofs.Stamped as TP
 use Rattle.cluster.proofs.Server as TS
 use Rattle.cluster.proofs.Server.Laws as TS′
 use Rattle.cluster.proofs.Sizes.{value-fits}

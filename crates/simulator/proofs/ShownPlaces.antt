@@ -9,7 +9,7 @@ use native.Mathlib.Omega.{arith}
 use lib.ListN.{length, take, drop, getD, set, replicate, length-append, length-drop, length-map, drop-of-length-le}
 use lib.Seq.{drop-cons, take-suc, take-all, length-take-le, append-snoc, set-at}
 use Rattle.plan.specs.Packed.{storeDepth}
-use Rattle.cluster.specs.declared.Stamped.{Stamped as Place}
+use Rattle.calendar.specs.declared.Stamped.{Stamped as Place}
 use Rattle.simulator.specs.Look.{Stamped, placeWith, emptyPlace, placesOf}
 use Rattle.simulator.specs.Numbered.{shownIn}
 

@@ -6,7 +6,7 @@ use Prim.Native.Nat.{ℕ}
 use Rattle.register.specs.Server.{Status, faulty, cured, correct}
 use Rattle.plan.specs.Check.{Outcome, refused, result}
 use Rattle.plan.specs.Numbered.{refusalNumber}
-use Rattle.cluster.specs.declared.Stamped.{Stamped as Place}
+use Rattle.calendar.specs.declared.Stamped.{Stamped as Place}
 use Rattle.simulator.specs.declared.play.Played.{Played}
 use Rattle.simulator.specs.declared.play.Played.the-variants as P
 use Rattle.simulator.specs.declared.look.Seen.{Seen}

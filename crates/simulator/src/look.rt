@@ -4,14 +4,12 @@ ghost use mathlib.Core.List.{[]};
 ghost use Rattle.cluster.specs.Stored.{statusOf};
 ghost use Rattle.simulator.specs.Look.{placesOf, lookOf};
 ghost use Rattle.simulator.specs.Numbered.{looked, seenOf, shownIn};
-use cluster::Stamped;
+use calendar::DEPTH;
+use calendar::Stamped;
 use cluster::Status;
 use plan::Checked;
 use plan::Refusal;
 use plan::header::Shape;
-
-// How many pairs a server keeps at most.
-pub const STORE_DEPTH: usize = 3;
 
 // What Look sees: a server's condition, or the first refusal that applies: Check's; 10; 11.
 pub enum Seen {
@@ -26,7 +24,7 @@ pub enum Seen {
 // The server's pairs stand beside it, highest number first, then empty places; beside a refusal all places are empty.
 pub struct Looked {
     pub seen: Seen,
-    pub places: [Stamped; STORE_DEPTH],
+    pub places: [Stamped; DEPTH],
 }
 
 fn condition(status: Status) -> Seen
@@ -39,7 +37,7 @@ fn condition(status: Status) -> Seen
     }
 }
 
-fn empty_places() -> [Stamped; STORE_DEPTH]
+fn empty_places() -> [Stamped; DEPTH]
     ensures { λ r. ⌜ r ≡ placesOf [] ⌝ }
 {
     let empty = Stamped {
@@ -47,16 +45,16 @@ fn empty_places() -> [Stamped; STORE_DEPTH]
         number: 0,
         value: 0,
     };
-    [empty; 3]
+    [empty; DEPTH]
 }
 
 // The pairs of a store, which stand before its first empty place, and nothing behind them.
-fn shown_places(kept: [Stamped; STORE_DEPTH]) -> [Stamped; 3]
+fn shown_places(kept: [Stamped; DEPTH]) -> [Stamped; DEPTH]
     ensures { λ r. ⌜ r ≡ placesOf (shownIn kept) ⌝ }
 {
     let mut shown = empty_places();
     let mut i: usize = 0;
-    while i < STORE_DEPTH {
+    while i < DEPTH {
         let p = kept[i];
         if !p.kept {
             return shown;

@@ -1,5 +1,5 @@
 // Bytes lent to an operation, and whether it left them as they were.
-use simulator::look::STORE_DEPTH;
+use calendar::DEPTH;
 
 // Room for more answers than a plan has reads.
 pub const ANSWERS: usize = 1300;
@@ -8,7 +8,7 @@ pub const ANSWERS: usize = 1300;
 pub const WORKSPACE: usize = 60010;
 
 // Room for all pairs of a server.
-pub const PAIRS: usize = codes::PAIR_BYTES * STORE_DEPTH;
+pub const PAIRS: usize = codes::PAIR_BYTES * DEPTH;
 
 // What each lent byte holds before the call.
 pub const FILLER: u8 = 165;

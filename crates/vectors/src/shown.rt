@@ -1,7 +1,7 @@
 // What is printed: words, numbers, results as `codes` has them.
 use super::lent;
+use calendar::DEPTH;
 use libc::STDOUT_FILENO;
-use simulator::look::STORE_DEPTH;
 
 pub fn word(text: &[u8]) {
     io::write_all(STDOUT_FILENO, text);
@@ -54,7 +54,7 @@ pub fn kept(is_kept: bool) {
 
 // Pair i of those that Look shows: value, number.
 fn pair(pairs: &[u8; lent::PAIRS], i: usize) {
-    if STORE_DEPTH <= i {
+    if DEPTH <= i {
         return;
     }
     let at = 8 * codes::PAIR_BYTES * i;

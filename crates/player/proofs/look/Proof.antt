@@ -1,42 +1,57 @@
 -- `look` meets its contract: the ticks up to the one looked at, and the server after it.
+use borrow.Author.Needs.{needs}
+use native.Mathlib.Omega.{arith}
 use mathlib.Core.Path.{refl}
 use Prim.Native.Nat.{_<_}
-use native.Mathlib.Omega.{arith}
-use borrow.Author.Needs.{needs}
 use Rattle.player.proofs.Playing.{ready, ticks-few, servers-few, ticks-are, seen}
 use Rattle.player.proofs.look.Statement.{statement}
 use Rattle.player.proofs.look.Tie as tie
 
 read-requires : tie.Need-read-requires
-read-requires c κs = search needs
+read-requires c κs = let s = c .before .before .before in (s .pre .0, omega (arith, s .pre .1))
+
+start-requires : tie.Need-start-requires
+start-requires c κs = let s = c .before .before .before .before .before .before .before in (omega arith, omega (arith, s .pre .1, c .before .before .before .read .ensures .forged .filled .size))
+
+start-requires-2 : tie.Need-start-requires-2
+start-requires-2 c κs = search needs
+
+slice-aggregate-run : tie.Need-slice-aggregate-run
+slice-aggregate-run c = search needs
 
 add-run : tie.Need-add-run
 add-run c =
-    let s = c .before .before .before .before .before .before .before in
-    let h = ticks-few _ _ _ _ (s .pre .0) (s .pre .1) (c .before .before .before .read .ensures) in
+    let s = c .before .before .before .before .before .before .before .before .before .before .before .before .before in
+    let h = ticks-few _ _ _ _ _ (s .pre .0) (s .pre .1) (c .before .before .before .before .before .before .before .before .before .read .ensures) (c .before .before .before .before .before .start .ensures .0) in
     let l : s .args .tick < 128 = omega (arith, h, s .pre .3) in
     search needs
 
 run-requires : tie.Need-run-requires
 run-requires c κs =
-    let s = c .before .before .before .before .before .before .before in
-    let x = c .before .before .before .read in
-    (ready _ _ _ _ (s .pre .0) (s .pre .1) (x .ensures), omega (arith, s .pre .3, ticks-are _ _ _ _ (s .pre .0) (s .pre .1) (x .ensures)))
+    let s = c .before .before .before .before .before .before .before .before .before .before .before .before .before in
+    let x = c .before .before .before .before .before .before .before .before .before .read .ensures in
+    let y = c .before .before .before .before .before .start .ensures in (
+      ready _ _ _ _ _ (s .pre .0) (s .pre .1) x (y .0),
+      omega (arith, s .pre .3, ticks-are _ _ _ _ _ (s .pre .0) (s .pre .1) x (y .0)),
+      c .before .before .start2 .ensures,
+      y .1,
+      omega (arith, x .reads .few),
+    )
 
 zero-requires : tie.Need-zero-requires
-zero-requires c κs = search needs
+zero-requires c κs = omega (arith, c .before .before .before .before .before .before .before .before .before .before .before .before .before .before .before .before .before .before .pre .1, c .before .before .before .before .before .before .before .before .before .before .before .before .before .before .read .ensures .forged .filled .size, c .before .before .before .before .before .before .before .before .before .before .start .ensures .0 .size, c .before .before .before .before .run .ensures .kept .size)
 
 mul-result : tie.Need-mul-result
 mul-result c =
-    let s = c .before .before .before .before .before .before .before .before .before .before .before .before .before .before in
-    let h = servers-few _ _ _ _ (s .pre .0) (s .pre .1) (c .before .before .before .before .before .before .before .before .before .before .read .ensures) in
+    let s = c .before .before .before .before .before .before .before .before .before .before .before .before .before .before .before .before .before .before .before .before .before .before in
+    let h = servers-few _ _ _ _ _ (s .pre .0) (s .pre .1) (c .before .before .before .before .before .before .before .before .before .before .before .before .before .before .before .before .before .before .read .ensures) (c .before .before .before .before .before .before .before .before .before .before .before .before .before .before .start .ensures .0) in
     let l : s .args .server < 16 = omega (arith, h, s .pre .2) in
     search needs
 
 element-copy-out-result : tie.Need-element-copy-out-result
 element-copy-out-result c =
-    let s = c .before .before .before .before .before .before .before .before .before .before .before .before .before .before in
-    let h = servers-few _ _ _ _ (s .pre .0) (s .pre .1) (c .before .before .before .before .before .before .before .before .before .before .read .ensures) in
+    let s = c .before .before .before .before .before .before .before .before .before .before .before .before .before .before .before .before .before .before .before .before .before .before in
+    let h = servers-few _ _ _ _ _ (s .pre .0) (s .pre .1) (c .before .before .before .before .before .before .before .before .before .before .before .before .before .before .before .before .before .before .read .ensures) (c .before .before .before .before .before .before .before .before .before .before .before .before .before .before .start .ensures .0) in
     let l : s .args .server < 16 = omega (arith, h, s .pre .2) in
     search needs
 
@@ -44,15 +59,16 @@ same-length : tie.Need-same-length
 same-length c = search needs
 
 returns : tie.Need-returns
-returns c =
-    let s = c .before .before .before .before .before .before .before .before .before .before .before .before .before .before .before in
-    seen _ _ _ _ (s .pre .0) (s .pre .1) (c .before .before .before .before .before .before .before .before .before .before .before .read .ensures) _ _ _ (c .before .before .before .before .before .before .before .run .ensures) (s .args .server) (s .args .tick) _ (s .pre .2) refl (c .before .before .before .zero .ensures)
+returns c = let s = c .before .before .before .before .before .before .before .before .before .before .before .before .before .before .before .before .before .before .before .before .before .before .before in seen _ _ _ _ _ (s .pre .0) (s .pre .1) (c .before .before .before .before .before .before .before .before .before .before .before .before .before .before .before .before .before .before .before .read .ensures) (c .before .before .before .before .before .before .before .before .before .before .before .before .before .before .before .start .ensures .0) _ _ _ _ _ (c .before .before .before .before .before .before .before .before .before .run .ensures) (s .args .server) (s .args .tick) _ (s .pre .2) refl (c .before .before .before .before .zero .ensures)
 
 pub look-spec : {M : Type 1} → statement M
 look-spec =
     tie.close
     (tie.spec
     read-requires
+    start-requires
+    start-requires-2
+    slice-aggregate-run
     add-run
     run-requires
     zero-requires

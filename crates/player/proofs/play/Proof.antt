@@ -1,31 +1,29 @@
--- `play` meets its contract: the ticks, then the answers.
-use mathlib.Core.Path.{refl, ap, _∙_}
-use mathlib.Core.List.{_++_}
-use Prim.Native.Nat.{ℕ, _*_}
-use native.Mathlib.Omega.{arith}
-use lib.ListN.{drop}
+-- `play` meets its contract: the ticks, in which the answers are written.
 use borrow.Author.Needs.{needs}
-use Rattle.answers.specs.Answers.{answersOf}
-use Rattle.player.proofs.Playing.{ready, over, all-zeroed}
+use native.Mathlib.Omega.{arith}
+use mathlib.Core.Path.{refl}
+use Rattle.player.proofs.Playing.{ready, all-there}
 use Rattle.player.proofs.play.Statement.{statement}
 use Rattle.player.proofs.play.Tie as tie
 
 read-requires : tie.Need-read-requires
-read-requires c κs = search needs
+read-requires c κs = let s = c .before .before .before .before in (s .pre .0, omega (arith, s .pre .2))
+
+start-requires : tie.Need-start-requires
+start-requires c κs = let s = c .before .before .before .before .before .before .before .before in (omega arith, omega (arith, s .pre .2, c .before .before .before .read .ensures .forged .filled .size))
+
+start-requires-2 : tie.Need-start-requires-2
+start-requires-2 c κs = search needs
 
 run-requires : tie.Need-run-requires
 run-requires c κs =
-    let s = c .before .before .before .before .before .before .before .before .before in
-    (ready _ _ _ _ (s .pre .0) (s .pre .2) (c .before .before .before .before .read .ensures), omega arith)
-
-answer-all-requires : tie.Need-answer-all-requires
-answer-all-requires c κs =
-    let s = c .before .before .before .before .before .before .before .before .before .before .before .before .before .before in
-    let x = c .before .before .before .before .before .before .before .before .before .read in
-    (over _ _ _ _ (s .pre .0) (s .pre .2) (x .ensures) _ _ _ (c .before .before .before .before .run .ensures) refl, omega (arith, x .ensures .reads .count, s .pre .1))
+    let s = c .before .before .before .before .before .before .before .before .before .before .before .before .before .before .before in
+    let x = c .before .before .before .before .before .before .before .before .before .before .read .ensures in
+    let y = c .before .before .before .before .before .before .start .ensures in
+    (ready _ _ _ _ _ (s .pre .0) (s .pre .2) x (y .0), omega arith, c .before .before .start2 .ensures, y .1, omega (arith, x .reads .count, s .pre .1))
 
 zero-requires : tie.Need-zero-requires
-zero-requires c κs = search needs
+zero-requires c κs = omega (arith, c .before .before .before .before .before .before .before .before .before .before .before .before .before .before .before .before .before .before .before .before .before .pre .2, c .before .before .before .before .before .before .before .before .before .before .before .before .before .before .before .before .read .ensures .forged .filled .size, c .before .before .before .before .before .before .before .before .before .before .before .before .start .ensures .0 .size, c .before .before .before .before .before .run .ensures .kept .size)
 
 same-length : tie.Need-same-length
 same-length c = search needs
@@ -34,21 +32,16 @@ same-length-2 : tie.Need-same-length-2
 same-length-2 c = search needs
 
 returns : tie.Need-returns
-returns c =
-    let s = c .before .before .before .before .before .before .before .before .before .before .before .before .before .before .before .before .before .before .before .before .before in
-    let x = c .before .before .before .before .before .before .before .before .before .before .before .before .before .before .before .before .read in
-    record {
-      answers = c .before .before .before .before .before .before .answer-all .ensures ∙ ap (λ (k : ℕ). answersOf 16 (s .args .plan .now) ++ drop (5 * k) (s .args .answers .now)) (x .ensures .reads .count);
-      workspace = all-zeroed _ _ _ _ (s .pre .0) (s .pre .2) (x .ensures) _ _ _ (c .before .before .before .before .before .before .before .before .before .before .before .run .ensures) _ (c .before .before .zero .ensures);
-    }
+returns c = let s = c .before .before .before .before .before .before .before .before .before .before .before .before .before .before .before .before .before .before .before .before .before .before .before .before in all-there _ _ _ _ _ (s .pre .0) (s .pre .2) (c .before .before .before .before .before .before .before .before .before .before .before .before .before .before .before .before .before .before .before .read .ensures) (c .before .before .before .before .before .before .before .before .before .before .before .before .before .before .before .start .ensures .0) _ _ _ _ _ (c .before .before .before .before .before .before .before .before .run .ensures) refl _ (c .before .before .zero .ensures)
 
 pub play-spec : {M : Type 1} → statement M
 play-spec =
     tie.close
     (tie.spec
     read-requires
+    start-requires
+    start-requires-2
     run-requires
-    answer-all-requires
     zero-requires
     same-length
     same-length-2

@@ -13,6 +13,9 @@ forgeries-at-requires c κs = let s = c .before .before in shape-ranged (s .args
 cast-count : tie.Need-cast-count
 cast-count c = search needs
 
+cast-fill : tie.Need-cast-fill
+cast-fill c = search needs
+
 sub-fill : tie.Need-sub-fill
 sub-fill c =
     let s = c .before .before .before .before .before .before .before in
@@ -31,14 +34,14 @@ part-fill-end c = search needs
 
 fill-requires : tie.Need-fill-requires
 fill-requires c κs =
-    let s = c .before .before .before .before .before .before .before .before .before in
-    fillable (s .args .plan .now) (s .pre .0) (c .before .before .before .before .before .before .forgeries-at .result) (s .args .header .forgeries)
-    (c .before .before .before .before .before .before .forgeries-at .ensures .0 ∙ ap (λ (h : Header). operationAt 16 h (h .operations)) (s .pre .1)) (ap (λ (h : Header). h .forgeries) (s .pre .1))
-    (s .args .links) (links-same (s .args .plan .now) (s .args .header) (s .args .links) (s .pre .1) (s .pre .2)) _ _ (s .pre .3) (s .pre .4)
+    let s = c .before .before .before .before .before .before .before .before .before .before in
+    fillable (s .args .plan .now) (s .pre .0) (c .before .before .before .before .before .before .before .forgeries-at .result) (s .args .header .forgeries)
+    (c .before .before .before .before .before .before .before .forgeries-at .ensures .0 ∙ ap (λ (h : Header). operationAt 16 h (h .operations)) (s .pre .1)) (ap (λ (h : Header). h .forgeries) (s .pre .1))
+    (s .args .links) (links-same (s .args .plan .now) (s .args .header) (s .args .links) (s .pre .1) (s .pre .2)) _ _ _ (ap (λ (h : Header). h .n) (s .pre .1)) (s .pre .3) (s .pre .4)
 
 starts-requires : tie.Need-starts-requires
 starts-requires c κs =
-    let s = c .before .before .before .before .before .before .before .before .before .before .before .before .before in
+    let s = c .before .before .before .before .before .before .before .before .before .before .before .before .before .before in
     (shape-ranged (s .args .plan .now) (s .pre .0) (s .args .header) (s .pre .1) .forgeries-hi, omega (arith, s .pre .3, c .before .before .before .fill .ensures .size))
 
 same-length : tie.Need-same-length
@@ -46,8 +49,8 @@ same-length c = search needs
 
 returns : tie.Need-returns
 returns c =
-    let s = c .before .before .before .before .before .before .before .before .before .before .before .before .before .before in
-    let f = c .before .before .before .before .before .before .before .before .before .before .before .forgeries-at in
+    let s = c .before .before .before .before .before .before .before .before .before .before .before .before .before .before .before in
+    let f = c .before .before .before .before .before .before .before .before .before .before .before .before .forgeries-at in
     forged (s .args .plan .now) (s .pre .0) (f .result) (s .args .header .forgeries)
     (f .ensures .0 ∙ ap (λ (h : Header). operationAt 16 h (h .operations)) (s .pre .1)) (ap (λ (h : Header). h .forgeries) (s .pre .1))
     (s .args .links) (links-same (s .args .plan .now) (s .args .header) (s .args .links) (s .pre .1) (s .pre .2)) _ _ _ _ _
@@ -62,6 +65,7 @@ forge-spec =
     sub-fill
     part-fill-start
     part-fill-end
+    cast-fill
     fill-requires
     starts-requires
     same-length

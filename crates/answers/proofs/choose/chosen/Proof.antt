@@ -3,13 +3,15 @@ use borrow.Author.Needs.{needs}
 use native.Mathlib.Omega.{arith}
 use mathlib.Core.Path.{_≡_, refl}
 use Prim.Native.Nat.{_≤_, _-_}
+use Rattle.cluster.specs.Bits.{sets}
 use Rattle.answers.specs.Choosing.{highestOf}
 use Rattle.answers.proofs.Chosen.{highest-more}
+use Rattle.answers.proofs.Sizes.{sets-fit}
 use Rattle.answers.proofs.choose.chosen.Statement.{statement}
 use Rattle.answers.proofs.choose.chosen.Tie as tie
 
 abbrev Inv-loop : tie.InvT-loop
-Inv-loop m reply names best₀ j₀ best j = (j ≤ m) × (best ≡ highestOf names reply j)
+Inv-loop m reply names best₀ j₀ best j = (j ≤ m) × (best ≡ highestOf (sets names) reply j)
 
 abbrev μ-loop : tie.MeasureT-loop
 μ-loop m reply names best₀ j₀ best j = m - j
@@ -40,7 +42,7 @@ loop-again : tie.Need-loop-again Inv-loop μ-loop
 loop-again c =
     let h = c .before .before .loop .inv in
     let a = c .before .before .before .args in
-    (omega arith, highest-more (a .t1) (a .reply) _ _ _ (h .1) (c .better .ensures))
+    (omega arith, highest-more (a .t1) (a .reply) _ _ _ (sets-fit (a .t1) (c .before .before .before .good .0) _) (h .1) (c .better .ensures))
 
 returns : tie.Need-returns Inv-loop μ-loop
 returns c =

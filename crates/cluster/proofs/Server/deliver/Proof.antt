@@ -2,7 +2,8 @@
 use borrow.Author.Needs.{needs}
 use mathlib.Core.Path.{sym, _∙_}
 use Rattle.cluster.proofs.StageLaws.{lost-law, delivered-law, replied-law, pending-law}
-use Rattle.cluster.specs.Bits.{bit, sets}
+use Rattle.calendar.specs.Bits.{bit}
+use Rattle.cluster.specs.Bits.{sets}
 use Rattle.cluster.proofs.Server.deliver.Tie as tie
 use Rattle.cluster.proofs.Server.deliver.Statement.{statement}
 use Rattle.cluster.specs.Stored.{server, saidBy, pairOf}

@@ -1,105 +1,72 @@
--- `store::insert` meets its contract: each return is read off the path of tests that leads to it, one place of the store at a time.
-use borrow.Author.Tests.{not-true, not-false}
+-- `store::insert` meets its contract. The loop's invariant: every place before i is higher than the pair's.
+use mathlib.Core.Path.{_≡_, sym, _∙_}
+use Prim.Native.Nat.{_≤_, _<_, _-_}
 use native.Mathlib.Omega.{arith}
+use lib.ListN.{length}
 use borrow.Author.Needs.{needs}
-use mathlib.Core.Path.{refl}
-use Rattle.cluster.proofs.StoreLaws.{three, changed, unchanged, at-empty, at-same, at-lower, below, too-low}
+use Rattle.calendar.specs.Layout.{depth}
+use Rattle.cluster.specs.Stored.{placeOf}
+use Rattle.cluster.proofs.StoreLaws.{Above, above-more, put-lower, put-same, put-none}
 use Rattle.cluster.proofs.store.insert.Statement.{statement}
-use Rattle.cluster.proofs.StoreLaws.{three, changed, unchanged, at-empty, at-same, at-lower, below}
 use Rattle.cluster.proofs.store.insert.Tie as tie
 
-array-copy-out-x : tie.Need-array-copy-out-x
-array-copy-out-x c = search needs
+abbrev Inv-loop : tie.InvT-loop
+Inv-loop p kept mine i₀ i = (i ≤ depth) × (length kept ≡ depth) × (mine ≡ placeOf p) × Above p i kept
 
-array-copy-out-y : tie.Need-array-copy-out-y
-array-copy-out-y c = search needs
+abbrev μ-loop : tie.MeasureT-loop
+μ-loop p kept mine i₀ i = depth - i
 
-array-copy-out-z : tie.Need-array-copy-out-z
-array-copy-out-z c = search needs
+place-requires : tie.Need-place-requires Inv-loop μ-loop
+place-requires c κs = search needs
 
-rank-requires : tie.Need-rank-requires
-rank-requires c κs = search needs
+loop-holds : tie.Need-loop-holds Inv-loop μ-loop
+loop-holds c = (omega arith, c .before .good .0 .1 .0 .1, c .place .ensures, λ j h. absurd (omega arith))
 
-rank-requires-2 : tie.Need-rank-requires-2
-rank-requires-2 c κs = search needs
+mul-place : tie.Need-mul-place Inv-loop μ-loop
+mul-place c = search needs
 
-rank-requires-3 : tie.Need-rank-requires-3
-rank-requires-3 c κs = search needs
+array-copy-out-place : tie.Need-array-copy-out-place Inv-loop μ-loop
+array-copy-out-place c = search needs
 
-rank-requires-4 : tie.Need-rank-requires-4
-rank-requires-4 c κs = search needs
+place-requires-2 : tie.Need-place-requires-2 Inv-loop μ-loop
+place-requires-2 c κs = search needs
 
-returns : tie.Need-returns
-returns c = let a = c .before .before .before .before .before .before .before .before .before .args in
-    let k = c .before .before .before .before .before .before .before .before .before .pre in
-    changed (a .p) k (a .t1) (three (a .t1) (c .before .before .before .before .before .before .before .before .before .good .0 .1 .0 .1)) _
-    (at-empty (a .p) k _ _ (not-true _ (c .if1 .taken)))
+returns : tie.Need-returns Inv-loop μ-loop
+returns c =
+    let s = c .before .before .before .before .before .before in
+    let l = c .before .before .before .before .loop in
+    put-same (s .args .p) (s .pre) depth (s .args .t1) (l .inv .1) (l .i) (c .before .before .before .loop-test .taken) (l .inv .3) (rw (c .before .place2 .ensures, l .inv .2) at (c .if1 .taken))
 
-returns-2 : tie.Need-returns-2
-returns-2 c = let a = c .before .before .before .before .before .before .before .before .before .before .args in
-    let k = c .before .before .before .before .before .before .before .before .before .before .pre in
-    unchanged (a .p) k (a .t1) (three (a .t1) (c .before .before .before .before .before .before .before .before .before .before .good .0 .1 .0 .1)) _
-    (at-same (a .p) k _ _ (not-false _ (c .before .if1 .left)) (omega arith)) refl
+put-at-requires : tie.Need-put-at-requires Inv-loop μ-loop
+put-at-requires c κs = c .before .before .before .before .loop-test .taken
 
-returns-3 : tie.Need-returns-3
-returns-3 c = let a = c .before .before .before .before .before .before .before .before .before .before .before .args in
-    let k = c .before .before .before .before .before .before .before .before .before .before .before .pre in
-    changed (a .p) k (a .t1) (three (a .t1) (c .before .before .before .before .before .before .before .before .before .before .before .good .0 .1 .0 .1)) _
-    (at-lower (a .p) k _ _ (not-false _ (c .before .before .if1 .left)) (omega arith))
+returns-2 : tie.Need-returns-2 Inv-loop μ-loop
+returns-2 c =
+    let s = c .before .before .before .before .before .before .before .before in
+    let l = c .before .before .before .before .before .before .loop in
+    put-lower (s .args .p) (s .pre) depth (s .args .t1) (l .inv .1) (l .i) (c .before .before .before .before .before .loop-test .taken) (l .inv .3) (rw (c .before .before .before .place2 .ensures, l .inv .2) at (c .before .if2 .taken)) _ (c .put-at .ensures)
 
-returns-4 : tie.Need-returns-4
-returns-4 c = let a = c .before .before .before .before .before .before .before .before .before .before .before .before .before .args in
-    let k = c .before .before .before .before .before .before .before .before .before .before .before .before .before .pre in
-    changed (a .p) k (a .t1) (three (a .t1) (c .before .before .before .before .before .before .before .before .before .before .before .before .before .good .0 .1 .0 .1)) _
-    (below (a .p) k _ _ _ (not-false _ (c .before .before .before .before .if1 .left)) (omega arith) (at-empty (a .p) k _ _ (not-true _ (c .if4 .taken))))
+add-i : tie.Need-add-i Inv-loop μ-loop
+add-i c = search needs
 
-returns-5 : tie.Need-returns-5
-returns-5 c = let a = c .before .before .before .before .before .before .before .before .before .before .before .before .before .before .args in
-    let k = c .before .before .before .before .before .before .before .before .before .before .before .before .before .before .pre in
-    unchanged (a .p) k (a .t1) (three (a .t1) (c .before .before .before .before .before .before .before .before .before .before .before .before .before .before .good .0 .1 .0 .1)) _
-    (below (a .p) k _ _ _ (not-false _ (c .before .before .before .before .before .if1 .left)) (omega arith) (at-same (a .p) k _ _ (not-false _ (c .before .if4 .left)) (omega arith))) refl
+loop-less : tie.Need-loop-less Inv-loop μ-loop
+loop-less c = search needs
 
-returns-6 : tie.Need-returns-6
-returns-6 c = let a = c .before .before .before .before .before .before .before .before .before .before .before .before .before .before .before .args in
-    let k = c .before .before .before .before .before .before .before .before .before .before .before .before .before .before .before .pre in
-    changed (a .p) k (a .t1) (three (a .t1) (c .before .before .before .before .before .before .before .before .before .before .before .before .before .before .before .good .0 .1 .0 .1)) _
-    (below (a .p) k _ _ _ (not-false _ (c .before .before .before .before .before .before .if1 .left)) (omega arith) (at-lower (a .p) k _ _ (not-false _ (c .before .before .if4 .left)) (omega arith)))
+loop-again : tie.Need-loop-again Inv-loop μ-loop
+loop-again c =
+    let s = c .before .before .before .before .before .before .before in
+    let l = c .before .before .before .before .before .loop in
+    let h : c .before .before .before .before .before .before .place .result < c .before .before .place2 .result = omega (arith, c .before .if1 .left, c .if2 .left) in
+    (omega arith, l .inv .1, l .inv .2, above-more (s .args .p) (l .i) (s .args .t1) (l .inv .3) (rw (c .before .before .place2 .ensures, l .inv .2) at h))
 
-returns-7 : tie.Need-returns-7
-returns-7 c = let a = c .before .before .before .before .before .before .before .before .before .before .before .before .before .before .before .before .before .args in
-    let k = c .before .before .before .before .before .before .before .before .before .before .before .before .before .before .before .before .before .pre in
-    changed (a .p) k (a .t1) (three (a .t1) (c .before .before .before .before .before .before .before .before .before .before .before .before .before .before .before .before .before .good .0 .1 .0 .1)) _
-    (below (a .p) k _ _ _ (not-false _ (c .before .before .before .before .before .before .before .before .if1 .left)) (omega arith)
-    (below (a .p) k _ _ _ (not-false _ (c .before .before .before .before .if4 .left)) (omega arith) (at-empty (a .p) k _ _ (not-true _ (c .if7 .taken)))))
-
-returns-8 : tie.Need-returns-8
-returns-8 c = let a = c .before .before .before .before .before .before .before .before .before .before .before .before .before .before .before .before .before .before .args in
-    let k = c .before .before .before .before .before .before .before .before .before .before .before .before .before .before .before .before .before .before .pre in
-    changed (a .p) k (a .t1) (three (a .t1) (c .before .before .before .before .before .before .before .before .before .before .before .before .before .before .before .before .before .before .good .0 .1 .0 .1)) _
-    (below (a .p) k _ _ _ (not-false _ (c .before .before .before .before .before .before .before .before .before .if1 .left)) (omega arith)
-    (below (a .p) k _ _ _ (not-false _ (c .before .before .before .before .before .if4 .left)) (omega arith) (at-lower (a .p) k _ _ (not-false _ (c .before .if7 .left)) (omega arith))))
-
-returns-9 : tie.Need-returns-9
-returns-9 c = let a = c .before .before .before .before .before .before .before .before .before .before .before .before .before .before .before .before .before .before .args in
-    too-low (a .p) (c .before .before .before .before .before .before .before .before .before .before .before .before .before .before .before .before .before .before .pre) (a .t1) (three (a .t1) (c .before .before .before .before .before .before .before .before .before .before .before .before .before .before .before .before .before .before .good .0 .1 .0 .1)) (not-false _ (c .before .before .before .before .before .before .before .before .before .if1 .left)) (not-false _ (c .before .before .before .before .before .if4 .left)) (not-false _ (c .before .if7 .left)) (omega arith) (omega arith) (omega arith)
+returns-3 : tie.Need-returns-3 Inv-loop μ-loop
+returns-3 c =
+    let s = c .before .before .before in
+    let l = c .before .loop in
+    let e : l .i ≡ depth = omega arith in
+    put-none (s .args .p) (s .pre) depth (s .args .t1) (l .inv .1) (rw e at (l .inv .3))
 
 pub insert-spec : {M : Type 1} → statement M
 insert-spec =
     tie.close
-    (tie.spec
-    array-copy-out-x
-    array-copy-out-y
-    array-copy-out-z
-    rank-requires
-    rank-requires-2
-    rank-requires-3
-    rank-requires-4
-    returns
-    returns-2
-    returns-3
-    returns-4
-    returns-5
-    returns-6
-    returns-7
-    returns-8
-    returns-9)
+    (tie.spec Inv-loop μ-loop place-requires loop-holds mul-place array-copy-out-place place-requires-2 returns put-at-requires returns-2 add-i loop-less loop-again returns-3)

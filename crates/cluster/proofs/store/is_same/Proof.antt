@@ -1,80 +1,80 @@
--- `store::is_same` meets its contract.
-use mathlib.Core.Path.{_∙_}
+-- `store::is_same` meets its contract. The loop's invariant: the stores are the same if they are from place i on.
+use mathlib.Core.Path.{_≡_, refl, sym, ap, _∙_}
+use Prim.Native.Nat.{_≤_, _-_}
+use native.Mathlib.Omega.{arith}
+use lib.ListN.{length}
 use borrow.Author.Needs.{needs}
+use Rattle.calendar.specs.Layout.{depth}
+use Rattle.cluster.proofs.StoreLaws.{sameFrom, same-past, same-no, same-end, same-on}
 use Rattle.cluster.proofs.store.is_same.Statement.{statement}
-use Rattle.cluster.proofs.StoreLaws.{three, same-three}
 use Rattle.cluster.proofs.store.is_same.Tie as tie
 
-array-copy-out-place : tie.Need-array-copy-out-place
+abbrev Inv-loop : tie.InvT-loop
+Inv-loop a b i₀ i = (i ≤ depth) × (length a ≡ depth) × (length b ≡ depth) × (sameFrom a b i ≡ sameFrom a b 0)
+
+abbrev μ-loop : tie.MeasureT-loop
+μ-loop a b i₀ i = depth - i
+
+loop-holds : tie.Need-loop-holds Inv-loop μ-loop
+loop-holds c = (omega arith, c .good .0 .1 .0 .1, c .good .1 .0 .1 .0 .1, refl)
+
+mul-place : tie.Need-mul-place Inv-loop μ-loop
+mul-place c = search needs
+
+array-copy-out-place : tie.Need-array-copy-out-place Inv-loop μ-loop
 array-copy-out-place c = search needs
 
-place-requires : tie.Need-place-requires
+place-requires : tie.Need-place-requires Inv-loop μ-loop
 place-requires c κs = search needs
 
-array-copy-out-place-2 : tie.Need-array-copy-out-place-2
+mul-place-2 : tie.Need-mul-place-2 Inv-loop μ-loop
+mul-place-2 c = search needs
+
+array-copy-out-place-2 : tie.Need-array-copy-out-place-2 Inv-loop μ-loop
 array-copy-out-place-2 c = search needs
 
-place-requires-2 : tie.Need-place-requires-2
+place-requires-2 : tie.Need-place-requires-2 Inv-loop μ-loop
 place-requires-2 c κs = search needs
 
-array-copy-out-place-3 : tie.Need-array-copy-out-place-3
-array-copy-out-place-3 c = search needs
+returns : tie.Need-returns Inv-loop μ-loop
+returns c =
+    let s = c .before .before .before .before .before .before .before .args in
+    let l = c .before .before .before .before .before .before .loop in
+    let h = c .before .before .before .before .before .loop-test .taken in
+    let d = rw (c .before .before .before .place .ensures, c .before .place2 .ensures) at (c .if1 .taken) in
+    sym (same-no (s .t1) (s .t2) (l .i) (omega (arith, h, l .inv .1)) (omega (arith, h, l .inv .2)) d) ∙ l .inv .3
 
-place-requires-3 : tie.Need-place-requires-3
-place-requires-3 c κs = search needs
+returns-2 : tie.Need-returns-2 Inv-loop μ-loop
+returns-2 c =
+    let s = c .before .before .before .before .before .before .before .before .args in
+    let l = c .before .before .before .before .before .before .before .loop in
+    let h = c .before .before .before .before .before .before .loop-test .taken in
+    let e = rw (c .before .before .before .before .place .ensures, c .before .before .place2 .ensures) at (c .before .if1 .left) in
+    let z = rw (c .before .before .before .before .place .ensures) at (c .if2 .taken) in
+    sym (same-end (s .t1) (s .t2) (l .i) (omega (arith, h, l .inv .1)) (omega (arith, h, l .inv .2)) e z) ∙ l .inv .3
 
-array-copy-out-place-4 : tie.Need-array-copy-out-place-4
-array-copy-out-place-4 c = search needs
+add-i : tie.Need-add-i Inv-loop μ-loop
+add-i c = search needs
 
-place-requires-4 : tie.Need-place-requires-4
-place-requires-4 c κs = search needs
+loop-less : tie.Need-loop-less Inv-loop μ-loop
+loop-less c = search needs
 
-array-copy-out-place-5 : tie.Need-array-copy-out-place-5
-array-copy-out-place-5 c = search needs
+loop-again : tie.Need-loop-again Inv-loop μ-loop
+loop-again c =
+    let s = c .before .before .before .before .before .before .before .before .args in
+    let l = c .before .before .before .before .before .before .before .loop in
+    let h = c .before .before .before .before .before .before .loop-test .taken in
+    let e = rw (c .before .before .before .before .place .ensures, c .before .before .place2 .ensures) at (c .before .if1 .left) in
+    let d = rw (c .before .before .before .before .place .ensures) at (c .if2 .left) in
+    (omega (arith, h), l .inv .1, l .inv .2, same-on (s .t1) (s .t2) (l .i) (omega (arith, h, l .inv .1)) (omega (arith, h, l .inv .2)) e d ∙ l .inv .3)
 
-place-requires-5 : tie.Need-place-requires-5
-place-requires-5 c κs = search needs
-
-array-copy-out-place-6 : tie.Need-array-copy-out-place-6
-array-copy-out-place-6 c = search needs
-
-place-requires-6 : tie.Need-place-requires-6
-place-requires-6 c κs = search needs
-
-is-level-requires : tie.Need-is-level-requires
-is-level-requires c κs = search needs
-
-is-level-requires-2 : tie.Need-is-level-requires-2
-is-level-requires-2 c κs = search needs
-
-is-level-requires-3 : tie.Need-is-level-requires-3
-is-level-requires-3 c κs = search needs
-
-returns : tie.Need-returns
-returns c = let a = c .before .before .before .before .before .before .before .before .before .before .before .before .before .before .before .args .t1 in
-    let b = c .before .before .before .before .before .before .before .before .before .before .before .before .before .before .before .args .t2 in
-    c .is-level3 .ensures ∙ rw (c .before .before .before .before .before .before .before .before .before .before .before .before .before .place .ensures, c .before .before .before .before .before .before .before .place4 .ensures)
-    (same-three a b (three a (c .before .before .before .before .before .before .before .before .before .before .before .before .before .before .before .good .0 .1 .0 .1)) (three b (c .before .before .before .before .before .before .before .before .before .before .before .before .before .before .before .good .1 .0 .1 .0 .1)) (c .before .before .is-level .result) (c .before .is-level2 .result)
-    (c .before .before .is-level .ensures ∙ rw (c .before .before .before .before .before .before .before .before .before .place3 .ensures, c .before .before .before .place6 .ensures))
-    (c .before .is-level2 .ensures ∙ rw (c .before .before .before .before .before .before .before .before .before .before .before .place2 .ensures, c .before .before .before .before .before .place5 .ensures)))
+returns-3 : tie.Need-returns-3 Inv-loop μ-loop
+returns-3 c =
+    let s = c .before .before .args in
+    let l = c .before .loop in
+    sym (same-past (s .t1) (s .t2) (l .i) (omega (arith, l .inv .1)) (omega (arith, l .inv .2))) ∙ l .inv .3
 
 pub is-same-spec : {M : Type 1} → statement M
 is-same-spec =
     tie.close
-    (tie.spec
-    array-copy-out-place
-    place-requires
-    array-copy-out-place-2
-    place-requires-2
-    array-copy-out-place-3
-    place-requires-3
-    array-copy-out-place-4
-    place-requires-4
-    array-copy-out-place-5
-    place-requires-5
-    array-copy-out-place-6
-    place-requires-6
-    is-level-requires
-    is-level-requires-2
-    is-level-requires-3
-    returns)
+    (tie.spec Inv-loop μ-loop loop-holds mul-place array-copy-out-place place-requires mul-place-2 array-copy-out-place-2 place-requires-2 returns returns-2 add-i loop-less loop-again returns-3)

@@ -43,7 +43,8 @@ use denote.Exit.{yes}
 use Rattle.cluster.specs.declared.Cluster.{Cluster}
 use Rattle.cluster.specs.declared.Feed.{Feed}
 use Rattle.cluster.specs.Inputs.{Sized}
-use Rattle.cluster.specs.Tick.{Ticked, feedOf}
+use Rattle.cluster.specs.Settled.{CalmlyTicked}
+use Rattle.cluster.specs.Tick.{feedOf}
 use Rattle.cluster.proofs.Cluster as T
 use Rattle.cluster.proofs.Cluster.Laws as T′
 use Rattle.cluster.proofs.Feed as F
@@ -71,10 +72,10 @@ vals = LL.vals T.the-type T′.the-laws
 
 -- what is asked of `fed`, and what it says
 abbrev Asked : RefT (List ℕ) → RefT (List ℕ) → Feed → Type 0
-Asked w p f = Sized (now p) (now w) (f .t) (f .rules) (f .known) (f .links) (f .window)
+Asked w p f = Sized (now p) (now w) (f .t) (f .rules) (f .known) (f .links)
 
 abbrev Said : Cluster → RefT (List ℕ) → RefT (List ℕ) → Feed → Cluster → List ℕ → Type 0
-Said h w p f r zs = Ticked (feedOf (now p) (now w) f) (h .servers) (r .servers) zs (f .rules .n)
+Said h w p f r zs = CalmlyTicked (feedOf (now p) (now w) f) h r zs
 
 abbrev Fed : {M : Type 1} (𝓤 : URA M) (H : Heap 𝓤) (A : Atoms 𝓤) (at-mem : Memory → SProp 𝓤) (run : Routine → Fun 𝓤) → Contract 𝓤
 Fed 𝓤 H A at-mem run = tripleOf 𝓤 H A fed.signature (fed.spec 𝓤 H A at-mem run)

@@ -10,11 +10,11 @@ use Rattle.script.proofs.forged.fill.Statement.{statement}
 use Rattle.script.proofs.forged.fill.Tie as tie
 
 abbrev Inv-loop : tie.InvT-loop
-Inv-loop work₀ part offset count plan links values m e₀ work e =
+Inv-loop work₀ part offset count plan links n values m e₀ work e =
     (e ≤ count) × Filled work₀ work e (λ i. forgedBits part (offset + 40 * i)) (λ i. delayOf plan links part (offset + 40 * i)) (λ i. numberOf values m part (offset + 40 * i))
 
 abbrev μ-loop : tie.MeasureT-loop
-μ-loop work₀ part offset count plan links values m e₀ work e = count - e
+μ-loop work₀ part offset count plan links n values m e₀ work e = count - e
 
 loop-holds : tie.Need-loop-holds Inv-loop μ-loop
 loop-holds c = (search needs, filled-none _ _ _ _)
@@ -44,9 +44,9 @@ delay-requires : tie.Need-delay-requires Inv-loop μ-loop
 delay-requires c κs =
     let s = c .before .before .before .before .before .before .before .before .before .before in
     let E = c .before .before .before .before .message-at .ensures in
-    let R = reach-same (s .args .plan .now) (s .args .links) _ _ _ _ _ _ (s .pre .reach (c .before .before .before .before .before .before .loop .e) (c .before .before .before .before .before .loop-test .taken))
+    let R = reach-same (s .args .plan .now) (s .args .links) (s .args .n) _ _ _ _ _ _ (s .pre .reach (c .before .before .before .before .before .before .loop .e) (c .before .before .before .before .before .loop-test .taken))
     (E .sent) (E .sender) (E .receiver) in
-    (R .inside, R .start, R .few, R .tick, R .sender, R .receiver)
+    (R .linked, R .sender, R .receiver)
 
 mul-put-entry : tie.Need-mul-put-entry Inv-loop μ-loop
 mul-put-entry c = search needs

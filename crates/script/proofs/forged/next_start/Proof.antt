@@ -2,7 +2,7 @@
 use Prim.Native.Nat.{ℕ, _-_, _≤_, _<_}
 use native.Mathlib.Omega.{arith}
 use borrow.Author.Needs.{needs}
-use Rattle.cluster.specs.Layout.{entryAt}
+use Rattle.script.specs.Forged.{entryAt}
 use Rattle.script.proofs.Entries.{start-found, start-passed, start-last}
 use Rattle.script.proofs.forged.next_start.Statement.{statement}
 use Rattle.script.proofs.forged.next_start.Tie as tie

@@ -4,8 +4,7 @@ use Prim.Native.Nat.{ℕ, _-_, _≤_, _<_}
 use native.Mathlib.Omega.{arith}
 use lib.ListN.{length, length-set, getD}
 use borrow.Author.Needs.{needs}
-use Rattle.cluster.specs.Layout.{entryAt}
-use Rattle.script.specs.Forged.{Start}
+use Rattle.script.specs.Forged.{entryAt, Start}
 use Rattle.script.proofs.Entries.{start-whole}
 use Rattle.script.proofs.Tables.{each-more}
 use Rattle.script.proofs.forged.starts.Statement.{statement}

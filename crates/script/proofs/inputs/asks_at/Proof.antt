@@ -8,7 +8,7 @@ use lib.ListN.{getD}
 use lib.Dec.{ltb}
 use borrow.Author.Tests.{lt-ltb}
 use borrow.Author.Needs.{needs}
-use Rattle.cluster.specs.Bits.{bit}
+use Rattle.calendar.specs.Bits.{bit}
 use Rattle.script.specs.Inputs.{askedBy}
 use Rattle.script.proofs.Arriving.{reach, set-none, set-more, set-same, asked-due, asked-none}
 use Rattle.script.proofs.inputs.asks_at.Statement.{statement}

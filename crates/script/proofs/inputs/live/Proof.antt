@@ -8,7 +8,7 @@ use lib.ListN.{getD}
 use lib.Dec.{eqb, ltb}
 use borrow.Author.Tests.{le-ltb, lt-ltb, eq-eqb, ne-eqb}
 use borrow.Author.Needs.{needs}
-use Rattle.cluster.specs.Bits.{bit}
+use Rattle.calendar.specs.Bits.{bit}
 use Rattle.cluster.proofs.BitLaws.{bit-zero}
 use Rattle.script.proofs.Arriving.{set-more, set-same}
 use Rattle.script.proofs.inputs.live.Statement.{statement}

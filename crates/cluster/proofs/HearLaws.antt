@@ -1,0 +1,109 @@
+-- The readers note what arrives one after the other, and their rows of the calendar are taken. It stands on the calendar's laws of clearing.
+use mathlib.Core.Path.{_≡_, refl, sym, ap, _∙_}
+use mathlib.Core.Bool.{Bool, true, false, not, _&&_, _||_}
+use mathlib.Core.List.{List}
+use Prim.Native.Nat.{ℕ, _+_, _*_, _/_, _%_, _≤_, _<_}
+use native.Mathlib.Omega.{arith}
+use native.Mathlib.Decide.{decLe, ℕ-discrete}
+use lib.Dec.{eqb, leb, ltb}
+use lib.ListN.{length, getD, set, length-set}
+use lib.Seq.{getD-set-same, getD-set-other}
+use borrow.Author.Tests.{eq-eqb, ne-eqb, lt-ltb, le-ltb, le-leb, lt-leb}
+use Rattle.calendar.specs.Layout.{receivers, rows, places, rowOf, sender}
+use Rattle.calendar.specs.View.{SamePast, Spanned, Cleared}
+use Rattle.calendar.proofs.Laws.{and-none}
+use Rattle.calendar.proofs.Posting.{same-row}
+use Rattle.calendar.proofs.Spans.{cleared-cells, cleared-spanned}
+use Rattle.cluster.specs.declared.Reader.{Reader}
+use Rattle.cluster.specs.Tick.{noReader, Noted, Hearing, Heard}
+
+-- the rows of the first n readers in tick t
+unfoldable pub taken : ℕ → ℕ → ℕ → Bool
+taken t n y = eqb (y / receivers) (t % 16) && (leb 16 (y % receivers) && ltb (y % receivers) (16 + n))
+
+taken-more : (t x y : ℕ) → y < rows → x < 4 → (b : Bool) → not (eqb y (rowOf t (16 + x))) && (not (taken t x y) && b) ≡ not (taken t (x + 1) y) && b
+unfolding taken
+taken-more t x y h l b = rw (same-row y t (16 + x) h (omega arith)) (go (ℕ-discrete (t % 16) (y / receivers)) (ℕ-discrete (y % receivers) (16 + x)))
+  where
+    go : Dec (t % 16 ≡ y / receivers) → Dec (y % receivers ≡ 16 + x)
+        → not (eqb (y % receivers) (16 + x) && eqb (t % 16) (y / receivers)) && (not (eqb (y / receivers) (t % 16) && (leb 16 (y % receivers) && ltb (y % receivers) (16 + x))) && b)
+        ≡ not (eqb (y / receivers) (t % 16) && (leb 16 (y % receivers) && ltb (y % receivers) (16 + (x + 1)))) && b
+    go (no d) e = rw (ne-eqb (t % 16) (y / receivers) d, ne-eqb (y / receivers) (t % 16) (λ q. d (sym q)), and-none (eqb (y % receivers) (16 + x)))
+    go (yes d) (yes e) =
+        rw (
+          eq-eqb (t % 16) (y / receivers) d,
+          eq-eqb (y / receivers) (t % 16) (sym d),
+          eq-eqb (y % receivers) (16 + x) e,
+          le-leb 16 (y % receivers) (omega arith),
+          lt-ltb (y % receivers) (16 + (x + 1)) (omega arith),
+        )
+    go (yes d) (no e) = rw (ne-eqb (y % receivers) (16 + x) e) (or (decLe (y % receivers) (16 + x)))
+      where
+        or : Dec (y % receivers ≤ 16 + x)
+            → not (eqb (y / receivers) (t % 16) && (leb 16 (y % receivers) && ltb (y % receivers) (16 + x))) && b
+            ≡ not (eqb (y / receivers) (t % 16) && (leb 16 (y % receivers) && ltb (y % receivers) (16 + (x + 1)))) && b
+        or (yes q) = rw (lt-ltb (y % receivers) (16 + x) (omega arith), lt-ltb (y % receivers) (16 + (x + 1)) (omega arith))
+        or (no q) = rw (le-ltb (y % receivers) (16 + x) (omega arith), le-ltb (y % receivers) (16 + (x + 1)) (omega arith))
+
+-- the first n readers have noted what arrives, and their rows are taken
+pub record Hearing-to (work : List ℕ) (t : ℕ) (s r : List Reader) (after : List ℕ) (n : ℕ) : Type 0 where
+  pub readers : Hearing work t s r n
+  pub rest : SamePast work after
+  pub spans : Spanned after places
+  pub cells : (y j i : ℕ) → y < rows → j < places → sender after y j i ≡ not (taken t n y) && sender work y j i
+
+pub hearing-none : (work : List ℕ) (t : ℕ) (s : List Reader) → Spanned work places → Hearing-to work t s s work 0
+unfolding taken
+hearing-none work t s S = record {
+  readers = record { size = refl; each = λ x l. absurd (omega arith); rest = λ x l. refl };
+  rest = record { size = refl; past = λ k l. refl };
+  spans = S;
+  cells = λ y j i l h. none y (sender work y j i) (decLe 16 (y % receivers));
+}
+  where
+    none : (y : ℕ) (b : Bool) → Dec (16 ≤ y % receivers) → b ≡ not (eqb (y / receivers) (t % 16) && (leb 16 (y % receivers) && ltb (y % receivers) (16 + 0))) && b
+    none y b (yes q) = rw (le-ltb (y % receivers) (16 + 0) (omega arith), and-none (leb 16 (y % receivers)), and-none (eqb (y / receivers) (t % 16)))
+    none y b (no q) = rw (lt-leb 16 (y % receivers) (omega arith), and-none (eqb (y / receivers) (t % 16)))
+
+module _ (work : List ℕ) (t : ℕ) (s r : List Reader) (now : List ℕ) (x : ℕ) (l : x < 4) (long : length s ≡ 4) (H : Hearing-to work t s r now x) where
+  -- its row is as it was
+  still : (j i : ℕ) → j < places → sender now (rowOf t (16 + x)) j i ≡ sender work (rowOf t (16 + x)) j i
+  unfolding taken
+  still j i h =
+      let e : rowOf t (16 + x) % receivers ≡ 16 + x = omega arith in
+      H .cells (rowOf t (16 + x)) j i (omega arith) h
+      ∙ rw (e, le-ltb (16 + x) (16 + x) (omega arith), and-none (leb 16 (16 + x)), and-none (eqb (rowOf t (16 + x) / receivers) (t % 16)))
+
+  pub hearing-more : (q : Reader) (after : List ℕ) → Noted now (rowOf t (16 + x)) (getD r x noReader) q → Cleared now after (rowOf t (16 + x))
+      → Hearing-to work t s (set r x q) after (x + 1)
+  hearing-more q after N C = record {
+    readers = record {
+      size = length-set r x q ∙ H .readers .size;
+      each = λ y h. each y h (ℕ-discrete y x);
+      rest = λ y h. getD-set-other r x y q noReader (λ e. omega arith) ∙ H .readers .rest y (omega arith);
+    };
+    rest = record { size = C .rest .size ∙ H .rest .size; past = λ k h. C .rest .past k h ∙ H .rest .past k h };
+    spans = cleared-spanned now after (rowOf t (16 + x)) places (omega arith) C (H .spans);
+    cells = λ y j i h d. cleared-cells now after (rowOf t (16 + x)) places (omega arith) C (H .spans) y j i h d ∙ rw (H .cells y j i h d) (taken-more t x y h l (sender work y j i));
+  }
+    where
+      here : Noted work (rowOf t (16 + x)) (getD s x noReader) q
+      here = let e = H .readers .rest x (omega arith) in
+          record { end = rw (← e) (N .end); named = λ j i h. rw (← e, ← still j i h) (N .named j i h) }
+
+      each : (y : ℕ) → y < x + 1 → Dec (y ≡ x) → Noted work (rowOf t (16 + y)) (getD s y noReader) (getD (set r x q) y noReader)
+      each y h (yes e) = rw (e, getD-set-same r x q noReader (omega (arith, H .readers .size))) here
+      each y h (no d) = rw (getD-set-other r x y q noReader d) (H .readers .each y (omega arith))
+
+pub hearing-all : (work : List ℕ) (t : ℕ) (s r : List Reader) (after : List ℕ) → Hearing-to work t s r after 4 → Heard work after t s r
+unfolding taken
+hearing-all work t s r after H = record {
+  readers = H .readers;
+  rest = H .rest;
+  spans = H .spans;
+  cells = λ y j i h d. H .cells y j i h d ∙ rw (lt-ltb (y % receivers) (16 + 4) (omega arith)) (ap (λ (b : Bool). not (eqb (y / receivers) (t % 16) && b) && sender work y j i) (and-true (leb 16 (y % receivers))));
+}
+  where
+    and-true : (a : Bool) → a && true ≡ a
+    and-true true = refl
+    and-true false = refl

@@ -1,0 +1,195 @@
+-- A settled server that nothing reaches has done the tick as it stands: its stages change nothing, and it sends nothing.
+-- It stands on Settled and StageLaws.
+use mathlib.Core.Path.{_≡_, refl, sym, ap, _∙_, fun-ext}
+use mathlib.Core.Bool.{Bool, true, false, not, _&&_, _||_, cond}
+use mathlib.Core.List.{List, [], _∷_}
+use Prim.Native.Nat.{ℕ, _-_, _/_, _%_, _≤_, _<_}
+use native.Mathlib.Omega.{arith}
+use lib.Bits.{bitAnd}
+use lib.Dec.{eqb, leb, ltb}
+use lib.ListN.{getD}
+use borrow.Author.Tests.{le-ltb, eq-eqb, ne-eqb, eqb-true, ltb-false, not-false}
+use Rattle.register.specs.Lists.{sameList}
+use Rattle.register.specs.Server.{Status, isFaulty, isCorrect, curedAt}
+use Rattle.calendar.specs.Bits.{bit}
+use Rattle.calendar.specs.Layout.{receivers, places, rowOf, highOf, sender}
+use Rattle.calendar.specs.View.{Spanned}
+use Rattle.calendar.proofs.Laws.{and-none, or-none}
+use Rattle.cluster.specs.declared.Server.{Server}
+use Rattle.cluster.specs.declared.Rules.{Rules}
+use Rattle.cluster.specs.declared.Row.{Row}
+use Rattle.cluster.specs.declared.Links.{Links}
+use Rattle.cluster.specs.declared.Arrivals.{Arrivals}
+use Rattle.cluster.specs.declared.Movement.{Movement}
+use Rattle.cluster.specs.Sends.{reaches, sendsVote, sendsReply, sends}
+use Rattle.cluster.specs.Stored.{Plain, Both, server, saidBy, statusOf, pairOf}
+use Rattle.cluster.specs.Stages.{nobody, voting, taken, withWrite, repliesTo, stageOne, stageTwo, stagesOf}
+use Rattle.cluster.specs.Settled.{Settled, reached}
+use Rattle.cluster.specs.Tick.{Feed, Small, Turned}
+use Rattle.cluster.proofs.BitLaws.{bit-zero, bit-and}
+use Rattle.cluster.proofs.StageLaws.{zero-set, delivered-law, lost-law}
+use Rattle.cluster.proofs.Settled.{taken-none}
+
+neither : (a b : Bool) → a || b ≡ false → (a ≡ false) × (b ≡ false)
+neither false b e = (refl, e)
+neither true b e = absurd (never e)
+  where
+    never : true ≡ false → ⊥
+    never e = let z : _≡_ {A = ℕ} 1 0 = ap (λ (x : Bool). cond x 1 0) e in omega arith
+
+-- what it means that nothing reaches a server
+module _ (work : List ℕ) (b : ℕ) (arrivals : Arrivals) (movement : Movement) (t delta : ℕ) (status : Status) (pending : ℕ) where
+  pub record Unreached : Type 0 where
+    pub moving : movement .moving ≡ false
+    pub asks : getD (arrivals .asks) b 0 ≡ 0
+    pub wrote : places ≤ getD (arrivals .wrote) b 0
+    pub live : bitAnd pending (arrivals .live) ≡ pending
+    pub cured : curedAt delta t status ≡ false
+    pub high : highOf work (rowOf t b) ≡ 0
+
+  pub unreached : reached work b arrivals movement t delta status pending ≡ false → Unreached
+  unfolding reached
+  unreached e =
+      let a = neither _ _ e in
+      let c = neither _ _ (a .1) in
+      let d = neither _ _ (c .1) in
+      let f = neither _ _ (d .1) in
+      let g = neither _ _ (f .1) in
+      record {
+        moving = a .0;
+        asks = eqb-true _ _ (not-false _ (c .0));
+        wrote = ltb-false _ _ (d .0);
+        live = eqb-true _ _ (not-false _ (f .0));
+        cured = g .0;
+        high = eqb-true _ _ (not-false _ (g .1));
+      }
+
+-- ---- what it sends
+
+-- no vote for a known pair, and no reply
+module _ (plan : List ℕ) (links : Links) (n t : ℕ) (ends : List ℕ) (i : ℕ) (row : Row) (wrote : places ≤ row .wrote) (echoed : row .echoed ≡ false) (readers : row .readers ≡ 0) where
+  pub sends-none : (x j : ℕ) → j < places → sends plan links n t ends i row x j ≡ false
+  unfolding sendsVote sendsReply
+  sends-none x j l =
+      rw (
+        ne-eqb j (row .wrote) (λ e. omega arith),
+        echoed,
+        readers,
+        bit-zero (x % receivers - 15),
+        and-none (eqb (reaches plan links n t ends i row (x % receivers) % 16) (x / receivers)),
+        and-none (not (eqb (x % receivers) i)),
+        and-none (ltb (x % receivers) n),
+      )
+      (and-none (leb 16 (x % receivers)))
+
+-- ---- its stages
+
+same-as-itself : (l : List ℕ) → sameList l l ≡ true
+unfolding sameList
+same-as-itself [] = refl
+same-as-itself (x ∷ l) = rw (eq-eqb x x refl) (same-as-itself l)
+
+no-replies : (c : Bool) (asks list : ℕ → Bool) → asks ≡ nobody → nobody ≡ repliesTo c true asks list
+no-replies true asks list e = sym e
+no-replies false asks list e = refl
+
+-- without a movement and the end of a cure, stage 1 is all
+only-first : (g : ℕ → ℕ) (m : ℕ) (rules : Rules) (w : ℕ) (votes : ℕ → ℕ → Bool) (asks live : ℕ → Bool) (moving h : Bool) (t : ℕ) (s : Plain) (o : Both)
+    → moving ≡ false → curedAt (rules .delta) t (o .server .status) ≡ false → o ≡ stageOne g m (rules .echo) (rules .reply) w votes asks live s
+    → o ≡ stagesOf g m rules w votes asks live moving h t s
+unfolding stagesOf stageTwo
+only-first g m rules w votes asks live moving h t s o e d one = rw (e, ← one) (still o d)
+  where
+    still : (o : Both) → curedAt (rules .delta) t (o .server .status) ≡ false → o ≡ stageTwo (rules .delta) t o
+    still o d = rw d
+
+module _ (F : Feed) (ends : List ℕ) (b : ℕ) (s : Server) (l : b < 16) (S : Spanned (F .work) places) (few : F .known .m ≤ places)
+    (U : Unreached (F .work) b (F .arrivals) (F .movement) (F .t) (F .rules .delta) (statusOf (s .status)) (s .pending))
+    (K : Settled (pairOf (F .known .values)) (F .known .m) (F .rules .echo) (F .rules .reply) (server s)) where
+  -- nothing arrives in its row
+  empty : (j i : ℕ) → j < places → sender (F .work) (rowOf (F .t) b) j i ≡ false
+  empty j i m = go (sender (F .work) (rowOf (F .t) b) j i) refl
+    where
+      go : (c : Bool) → sender (F .work) (rowOf (F .t) b) j i ≡ c → c ≡ false
+      go true e = absurd (omega (arith, S .within (rowOf (F .t) b) j i (omega arith) m e .1, U .high))
+      go false e = refl
+
+  abbrev w : ℕ
+  w = getD (F .arrivals .wrote) b 0
+
+  abbrev asked : ℕ → Bool
+  asked x = bit x (getD (F .arrivals .asks) b 0)
+
+  abbrev going : ℕ → Bool
+  going x = bit x (F .arrivals .live)
+
+  none-asked : asked ≡ nobody
+  none-asked = fun-ext (λ x. rw (U .asks) (bit-zero x))
+
+  pend : server s .pending ≡ (λ x. (bit x (s .pending) && going x) || asked x)
+  pend = fun-ext (λ x. rw (U .asks, bit-zero x) (each x))
+    where
+      each : (x : ℕ) → bit x (s .pending) ≡ (bit x (s .pending) && bit x (F .arrivals .live)) || false
+      each x = ap (bit x) (sym (U .live)) ∙ (bit-and x (s .pending) (F .arrivals .live) ∙ or-none _)
+
+  no-write : server s ≡ withWrite (pairOf (F .known .values)) (F .known .m) w (server s)
+  no-write = rw (le-ltb w (F .known .m) (omega (arith, U .wrote)))
+
+  none-taken : server s .kept ≡ taken (voting (F .rules .echo) (F .rules .reply) (server s .fresh) (server s .old)) (pairOf (F .known .values)) (F .known .m) (server s .kept)
+  none-taken = sym (taken-none _ (pairOf (F .known .values)) (F .known .m) (server s .kept) (K .same))
+
+  -- the row of a server that says nothing
+  quiet : Bool → Row
+  quiet true = record { wrote = 255; echoed = false; readers = 0; kept = [] }
+  quiet false = record { wrote = w; echoed = false; readers = 0; kept = s .kept }
+
+  first : (c : Bool) → isFaulty (statusOf (s .status)) ≡ c
+      → record { server = server s; said = saidBy (quiet c) } ≡ stageOne (pairOf (F .known .values)) (F .known .m) (F .rules .echo) (F .rules .reply) w (server s .fresh) asked going (server s)
+  unfolding quiet Rattle.cluster.specs.Stored.keys
+  first true e = lost-law (pairOf (F .known .values)) (F .known .m) (F .rules .echo) (F .rules .reply) w (server s .fresh) asked going (server s) (saidBy (quiet true)) e (rw zero-set)
+  first false e = delivered-law (pairOf (F .known .values)) (F .known .m) (F .rules .echo) (F .rules .reply) w (server s .fresh) asked going (server s) (server s) (server s .kept) (server s .pending) (λ x. bit x 0)
+      e no-write none-taken pend (zero-set ∙ rw (same-as-itself (server s .kept)) (no-replies (isCorrect (statusOf (s .status))) asked (server s .pending) none-asked))
+
+  quiet-wrote : (c : Bool) → places ≤ quiet c .wrote
+  unfolding quiet
+  quiet-wrote true = omega arith
+  quiet-wrote false = U .wrote
+
+  quiet-echoed : (c : Bool) → quiet c .echoed ≡ false
+  unfolding quiet
+  quiet-echoed true = refl
+  quiet-echoed false = refl
+
+  quiet-readers : (c : Bool) → quiet c .readers ≡ 0
+  unfolding quiet
+  quiet-readers true = refl
+  quiet-readers false = refl
+
+  quiet-small : (c : Bool) → Small (s .kept) → Small (quiet c .kept)
+  unfolding quiet
+  quiet-small true h = (omega arith, λ q. omega arith)
+  quiet-small false h = h
+
+  none-cleared : (x j i : ℕ) → j < places → sender (F .work) x j i ≡ not (eqb x (rowOf (F .t) b)) && sender (F .work) x j i
+  none-cleared x j i m = go (eqb x (rowOf (F .t) b)) refl
+    where
+      go : (c : Bool) → eqb x (rowOf (F .t) b) ≡ c → sender (F .work) x j i ≡ not c && sender (F .work) x j i
+      go true e = rw (eqb-true x (rowOf (F .t) b) e) (empty j i m)
+      go false e = refl
+
+  pub idle-turned : Small (s .kept) → Turned F ends b s s (F .work)
+  idle-turned small =
+      let c : Bool = isFaulty (statusOf (s .status)) in
+      record {
+        out = record { server = s; row = quiet c };
+        done = record {
+          votes = server s .fresh;
+          came = λ h j i m. rw (empty j i m) (or-none (server s .fresh j i));
+          stages = only-first (pairOf (F .known .values)) (F .known .m) (F .rules) w (server s .fresh) asked going (F .movement .moving) (bit (15 - b) (F .movement .faulty)) (F .t) (server s) _ (U .moving) (U .cured) (first c refl);
+        };
+        next = refl;
+        small = quiet-small c small;
+        rest = record { size = refl; past = λ k h. refl };
+        spans = S;
+        cells = λ x j i h m. rw (sends-none (F .plan) (F .links) (F .rules .n) (F .t) ends b (quiet c) (quiet-wrote c) (quiet-echoed c) (quiet-readers c) x j m, and-none (eqb i b), ← or-none (not (eqb x (rowOf (F .t) b)) && sender (F .work) x j i)) (none-cleared x j i m);
+      }

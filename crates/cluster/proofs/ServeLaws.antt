@@ -1,0 +1,339 @@
+-- The loop over the servers in a tick: its start, a turn, and what it has done at its end. Nothing that is sent in a tick arrives in it, so a
+-- later server finds its row as it was. It stands on the calendar's laws of posting and clearing.
+use mathlib.Core.Path.{_≡_, refl, sym, ap, subst, _∙_}
+use mathlib.Core.Bool.{Bool, true, false, not, _&&_, _||_, cond}
+use mathlib.Core.List.{List, []}
+use Prim.Native.Nat.{ℕ, _+_, _-_, _/_, _%_, _≤_, _<_}
+use native.Mathlib.Omega.{arith}
+use native.Mathlib.Decide.{decLe, ℕ-discrete}
+use lib.Dec.{eqb, leb, ltb}
+use lib.ListN.{length, getD, set, length-set}
+use lib.Seq.{getD-set-same, getD-set-other, set-getD}
+use borrow.Author.Tests.{lt-ltb, le-ltb, lt-leb, eq-eqb, ne-eqb, eqb-true, eqb-false, ltb-true, leb-true}
+use Rattle.bits.proofs.Laws.{field-lt}
+use Rattle.calendar.specs.Bits.{bit}
+use Rattle.calendar.specs.Layout.{receivers, rows, places, rowOf, sender}
+use Rattle.calendar.specs.View.{SamePast, Spanned, Posted, Cleared}
+use Rattle.calendar.specs.Posts.{held}
+use Rattle.calendar.proofs.Laws.{and-none, or-none, or-assoc, ltb-more}
+use Rattle.calendar.proofs.Posting.{same-row}
+use Rattle.calendar.proofs.Spans.{posted-spanned, cleared-cells, cleared-spanned}
+use Rattle.cluster.specs.declared.Server.{Server}
+use Rattle.cluster.specs.declared.Reader.{Reader}
+use Rattle.cluster.specs.declared.Cluster.{Cluster}
+use Rattle.cluster.specs.declared.Rules.{Rules}
+use Rattle.cluster.specs.declared.Known.{Known}
+use Rattle.cluster.specs.declared.Row.{Row}
+use Rattle.cluster.specs.declared.Step.{Step}
+use Rattle.cluster.specs.declared.Links.{Links}
+use Rattle.cluster.specs.Links.{delayAt, linkBit}
+use Rattle.cluster.specs.Sends.{votesFor, reaches, sendsVote, sendsReply, sends}
+use Rattle.cluster.specs.Stored.{server, both, statusOf, absent}
+use Rattle.cluster.specs.Inputs.{Sized}
+use Rattle.cluster.specs.Settled.{Calm, reached, CalmlyServed, CalmlyTicked}
+use Rattle.cluster.specs.Tick.{Feed, Small, Heard, Stepped, Turned, Served, Ticked, endsOf, present}
+use Rattle.cluster.proofs.IdleLaws.{unreached, idle-turned}
+
+-- ---- nothing arrives in the tick in which it is sent
+
+module _ (plan : List ℕ) (links : Links) (n t : ℕ) (ends : List ℕ) (i : ℕ) (row : Row) (few : n < links .parties) (own : i < n)
+    (later : (q : ℕ) → q < links .parties → (q ≡ i → ⊥) → (q ≡ n → ⊥) → 1 ≤ delayAt plan links t i q) where
+  other-tick : (x q : ℕ) → q < links .parties → (q ≡ i → ⊥) → (q ≡ n → ⊥) → x / receivers ≡ t % 16
+      → eqb (reaches plan links n t ends i row q % 16) (x / receivers) ≡ false
+  other-tick x q l d w e = ne-eqb (reaches plan links n t ends i row q % 16) (x / receivers) (λ p. never p (later q l d w) (field-lt plan (linkBit links t i q) 4))
+    where
+      never : (t + delayAt plan links t i q) % 16 ≡ x / receivers → 1 ≤ delayAt plan links t i q → delayAt plan links t i q < 16 → ⊥
+      never p a b = omega (arith, e)
+
+  no-vote : (x j : ℕ) → x / receivers ≡ t % 16 → sendsVote plan links n t ends i row x j ≡ false
+  unfolding sendsVote
+  no-vote x j e = go (ltb (x % receivers) n) (eqb (x % receivers) i) refl refl
+    where
+      go : (a b : Bool) → ltb (x % receivers) n ≡ a → eqb (x % receivers) i ≡ b
+          → a && (not b && (eqb (reaches plan links n t ends i row (x % receivers) % 16) (x / receivers) && votesFor row j)) ≡ false
+      go false b p q = refl
+      go true true p q = refl
+      go true false p q =
+          let l = ltb-true (x % receivers) n p in
+          rw (other-tick x (x % receivers) (omega arith) (eqb-false (x % receivers) i q) (λ w. omega arith) e)
+
+  no-reply : (x j : ℕ) → x / receivers ≡ t % 16 → sendsReply plan links n t ends i row x j ≡ false
+  unfolding sendsReply
+  no-reply x j e = go (leb 16 (x % receivers)) (bit (x % receivers - 15) (row .readers)) (ltb (n + (x % receivers - 15)) (links .parties)) refl refl
+    where
+      q : ℕ
+      q = n + (x % receivers - 15)
+
+      late : Bool
+      late = leb (reaches plan links n t ends i row q) (getD ends (x % receivers - 16) 0)
+
+      go : (a b c : Bool) → leb 16 (x % receivers) ≡ a → ltb q (links .parties) ≡ c
+          → a && (b && (c && (late && (eqb (reaches plan links n t ends i row q % 16) (x / receivers) && held (row .kept) j)))) ≡ false
+      go false b c p r = refl
+      go true false c p r = refl
+      go true true false p r = refl
+      go true true true p r =
+          let l = leb-true 16 (x % receivers) p in
+          rw (other-tick x q (ltb-true q (links .parties) r) (λ w. omega arith) (λ w. omega arith) e) (and-none late)
+
+  none-now : (x j : ℕ) → x / receivers ≡ t % 16 → sends plan links n t ends i row x j ≡ false
+  none-now x j e = rw (no-vote x j e, no-reply x j e)
+
+-- the same of the servers before b
+pub none-before : (F : Feed) (ends : List ℕ) → Sized (F .plan) (F .work) (F .t) (F .rules) (F .known) (F .links) → (b : ℕ) → b < F .rules .n → (i x j : ℕ) (row : Row) → i < b
+    → x / receivers ≡ F .t % 16 → sends (F .plan) (F .links) (F .rules .n) (F .t) ends i row x j ≡ false
+none-before F ends Z b l i x j row h e =
+    none-now (F .plan) (F .links) (F .rules .n) (F .t) ends i row (Z .linked .writer) (omega arith) (λ q u v w. Z .delays i q (omega arith) u v w) x j e
+
+-- ---- one server
+
+-- the feed of a later server: the workspace as the servers before it leave it
+abbrev pub feedAt : Feed → List ℕ → Feed
+feedAt F work = record {
+  plan = F .plan;
+  work = work;
+  t = F .t;
+  rules = F .rules;
+  known = F .known;
+  links = F .links;
+  arrivals = F .arrivals;
+  movement = F .movement;
+}
+
+-- what arrived is cleared, and what it sends is posted
+pub turned-here : (F : Feed) (ends : List ℕ) (b : ℕ) (s : Server) (o : Step) (cleared after : List ℕ) → Spanned (F .work) places
+    → Stepped (F .work) b (F .arrivals) (F .movement) (F .t) (F .rules) (F .known .values) (F .known .m) (server s) (both o)
+    → Cleared (F .work) cleared (rowOf (F .t) b) → Posted cleared after (λ x j k. eqb k b && sends (F .plan) (F .links) (F .rules .n) (F .t) ends b (o .row) x j)
+    → Small (o .row .kept) → Turned F ends b s (o .server) after
+turned-here F ends b s o cleared after S T C P small = record {
+  out = o;
+  done = T;
+  next = refl;
+  small = small;
+  rest = record { size = P .rest .size ∙ C .rest .size; past = λ k h. P .rest .past k h ∙ C .rest .past k h };
+  spans = posted-spanned cleared after _ places (omega arith) P (λ x j k h m q. m) (cleared-spanned (F .work) cleared (rowOf (F .t) b) places (omega arith) C S);
+  cells = λ x j i h m. P .cells x j i h m ∙ rw (cleared-cells (F .work) cleared (rowOf (F .t) b) places (omega arith) C S x j i h m);
+}
+
+-- ---- the loop over the servers
+
+-- before any server has done the tick
+noStep : Step
+noStep = record { server = absent; row = record { wrote = 0; echoed = false; readers = 0; kept = [] } }
+
+module _ (F : Feed) (ends : List ℕ) (c : List Server) where
+  abbrev sent : ℕ → Row → ℕ → ℕ → Bool
+  sent i row x j = sends (F .plan) (F .links) (F .rules .n) (F .t) ends i row x j
+
+  -- the first n servers have done the tick, if all were settled; the others are as they were
+  pub record Serving (r : List Server) (work : List ℕ) (n : ℕ) : Type 0 where
+    pub past : SamePast (F .work) work
+    pub spans : Spanned work places
+    pub rest : (b : ℕ) → n ≤ b → getD r b absent ≡ getD c b absent
+    pub served : Calm (F .rules) (F .known) c → Served F ends c r work n
+
+  pub serving-none : Spanned (F .work) places → Serving c (F .work) 0
+  serving-none S = record {
+    past = record { size = refl; past = λ k l. refl };
+    spans = S;
+    rest = λ b l. refl;
+    served = λ calm. record {
+      outs = λ b. noStep;
+      size = refl;
+      done = λ b l. absurd (omega arith);
+      next = λ b l. absurd (omega arith);
+      small = λ b l. absurd (omega arith);
+      rest = record { size = refl; past = λ k l. refl };
+      spans = S;
+      cells = λ x j i l m.
+          rw (le-ltb (x % receivers) 0 (omega arith), le-ltb i 0 (omega arith), and-none (eqb (x / receivers) (F .t % 16))) (or-none (sender (F .work) x j i));
+    };
+  }
+
+  module _ (r : List Server) (work : List ℕ) (b : ℕ) (l : b < 16) (size : length c ≡ 16) (same : getD r b absent ≡ getD c b absent) (S : Served F ends c r work b)
+      (now : (i x j : ℕ) (row : Row) → i < b → x / receivers ≡ F .t % 16 → sent i row x j ≡ false) where
+    -- no server before it has sent anything that arrives now
+    none-yet : (x j i : ℕ) → x / receivers ≡ F .t % 16 → ltb i b && sent i (S .outs i .row) x j ≡ false
+    none-yet x j i e = go (ltb i b) refl
+      where
+        go : (a : Bool) → ltb i b ≡ a → a && sent i (S .outs i .row) x j ≡ false
+        go false p = refl
+        go true p = now i x j (S .outs i .row) (ltb-true i b p) e
+
+    -- its row is as it was
+    still : (j i : ℕ) → j < places → sender work (rowOf (F .t) b) j i ≡ sender (F .work) (rowOf (F .t) b) j i
+    still j i m =
+        let e : rowOf (F .t) b / receivers ≡ F .t % 16 = omega arith in
+        let d : rowOf (F .t) b % receivers ≡ b = omega arith in
+        S .cells (rowOf (F .t) b) j i (omega arith) m
+        ∙ rw (none-yet (rowOf (F .t) b) j i e, d, le-ltb b b (omega arith), and-none (eqb (rowOf (F .t) b / receivers) (F .t % 16)))
+        (sym (or-none (sender (F .work) (rowOf (F .t) b) j i)))
+
+    -- the rows taken, with one more
+    taken-more : (x : ℕ) → x < rows → (s : Bool)
+        → not (eqb x (rowOf (F .t) b)) && (not (eqb (x / receivers) (F .t % 16) && ltb (x % receivers) b) && s)
+        ≡ not (eqb (x / receivers) (F .t % 16) && ltb (x % receivers) (b + 1)) && s
+    taken-more x h s = rw (same-row x (F .t) b h (omega arith)) (go (ℕ-discrete (F .t % 16) (x / receivers)) (ℕ-discrete (x % receivers) b))
+      where
+        go : Dec (F .t % 16 ≡ x / receivers) → Dec (x % receivers ≡ b)
+            → not (eqb (x % receivers) b && eqb (F .t % 16) (x / receivers)) && (not (eqb (x / receivers) (F .t % 16) && ltb (x % receivers) b) && s)
+            ≡ not (eqb (x / receivers) (F .t % 16) && ltb (x % receivers) (b + 1)) && s
+        go (no d) e = rw (ne-eqb (F .t % 16) (x / receivers) d, ne-eqb (x / receivers) (F .t % 16) (λ q. d (sym q)), and-none (eqb (x % receivers) b))
+        go (yes d) (yes e) =
+            rw (
+              eq-eqb (F .t % 16) (x / receivers) d,
+              eq-eqb (x / receivers) (F .t % 16) (sym d),
+              eq-eqb (x % receivers) b e,
+              lt-ltb (x % receivers) (b + 1) (omega arith),
+            )
+        go (yes d) (no e) = rw (ne-eqb (x % receivers) b e) (or (decLe (x % receivers) b))
+          where
+            or : Dec (x % receivers ≤ b)
+                → not (eqb (x / receivers) (F .t % 16) && ltb (x % receivers) b) && s ≡ not (eqb (x / receivers) (F .t % 16) && ltb (x % receivers) (b + 1)) && s
+            or (yes q) = rw (lt-ltb (x % receivers) b (omega arith), lt-ltb (x % receivers) (b + 1) (omega arith))
+            or (no q) = rw (le-ltb (x % receivers) b (omega arith), le-ltb (x % receivers) (b + 1) (omega arith))
+
+    module _ (q : Server) (after : List ℕ) (T : Turned (feedAt F work) ends b (getD r b absent) q after) where
+      outs : ℕ → Step
+      outs i = cond (eqb i b) (T .out) (S .outs i)
+
+      out-here : outs b ≡ T .out
+      unfolding outs
+      out-here = rw (eq-eqb b b refl)
+
+      out-there : (i : ℕ) → (i ≡ b → ⊥) → outs i ≡ S .outs i
+      unfolding outs
+      out-there i d = rw (ne-eqb i b d)
+
+      stepped : Stepped (F .work) b (F .arrivals) (F .movement) (F .t) (F .rules) (F .known .values) (F .known .m) (server (getD c b absent)) (both (T .out))
+      stepped = let U = rw same at (T .done) in
+          record { votes = U .votes; came = λ h j i m. U .came h j i m ∙ rw (still j i m); stages = U .stages }
+
+      cells : (x j i : ℕ) → x < rows → j < places
+          → sender after x j i ≡ (not (eqb (x / receivers) (F .t % 16) && ltb (x % receivers) (b + 1)) && sender (F .work) x j i) || (ltb i (b + 1) && sent i (outs i .row) x j)
+      cells x j i h m =
+          T .cells x j i h m
+          ∙ rw (S .cells x j i h m)
+          (ap (λ (y : Bool). y || (eqb i b && sent b (T .out .row) x j)) (apart (eqb x (rowOf (F .t) b)) (not (eqb (x / receivers) (F .t % 16) && ltb (x % receivers) b) && sender (F .work) x j i) (ltb i b && sent i (S .outs i .row) x j) (λ e. none-yet x j i (its (eqb-true x (rowOf (F .t) b) e))))
+          ∙ rw (taken-more x h (sender (F .work) x j i))
+          (or-assoc (not (eqb (x / receivers) (F .t % 16) && ltb (x % receivers) (b + 1)) && sender (F .work) x j i) (ltb i b && sent i (S .outs i .row) x j) (eqb i b && sent b (T .out .row) x j)
+          ∙ rw (by-all (ℕ-discrete i b))))
+        where
+          apart : (a u f : Bool) → (a ≡ true → f ≡ false) → not a && (u || f) ≡ (not a && u) || f
+          apart true u f e = sym (e refl)
+          apart false u f e = refl
+
+          its : x ≡ rowOf (F .t) b → x / receivers ≡ F .t % 16
+          its e = omega arith
+
+          by-all : Dec (i ≡ b) → (ltb i b && sent i (S .outs i .row) x j) || (eqb i b && sent b (T .out .row) x j) ≡ ltb i (b + 1) && sent i (outs i .row) x j
+          by-all (yes e) = rw (e, out-here, le-ltb b b (omega arith), eq-eqb b b refl, lt-ltb b (b + 1) (omega arith))
+          by-all (no d) = rw (out-there i d, ne-eqb i b d) (rw (ne-eqb i b d) at (ltb-more i b (sent i (S .outs i .row) x j)))
+
+      served-turn : Served F ends c (set r b q) after (b + 1)
+      served-turn = record {
+        outs = outs;
+        size = length-set r b q ∙ S .size;
+        done = λ i h. done i h (ℕ-discrete i b);
+        next = λ i h. next i h (ℕ-discrete i b);
+        small = λ i h. fits i h (ℕ-discrete i b);
+        rest = record { size = T .rest .size ∙ S .rest .size; past = λ k h. T .rest .past k h ∙ S .rest .past k h };
+        spans = T .spans;
+        cells = cells;
+      }
+        where
+          done : (i : ℕ) → i < b + 1 → Dec (i ≡ b)
+              → Stepped (F .work) i (F .arrivals) (F .movement) (F .t) (F .rules) (F .known .values) (F .known .m) (server (getD c i absent)) (both (outs i))
+          done i h (yes e) = rw (e, out-here) stepped
+          done i h (no d) = rw (out-there i d) (S .done i (omega arith))
+
+          fits : (i : ℕ) → i < b + 1 → Dec (i ≡ b) → Small (outs i .row .kept)
+          fits i h (yes e) = rw (e, out-here) (T .small)
+          fits i h (no d) = rw (out-there i d) (S .small i (omega arith))
+
+          next : (i : ℕ) → i < b + 1 → Dec (i ≡ b) → getD (set r b q) i absent ≡ outs i .server
+          next i h (yes e) = rw (e, out-here) (getD-set-same r b q absent (omega (arith, S .size)) ∙ T .next)
+          next i h (no d) = rw (out-there i d) (getD-set-other r b i q absent d ∙ S .next i (omega arith))
+
+  module _ (r : List Server) (work : List ℕ) (b : ℕ) (l : b < 16) (size : length c ≡ 16) (H : Serving r work b)
+      (now : (i x j : ℕ) (row : Row) → i < b → x / receivers ≡ F .t % 16 → sent i row x j ≡ false) where
+    -- a server that something reaches
+    pub serving-turn : (q : Server) (after : List ℕ) → Turned (feedAt F work) ends b (getD r b absent) q after → Serving (set r b q) after (b + 1)
+    serving-turn q after T = record {
+      past = record { size = T .rest .size ∙ H .past .size; past = λ k h. T .rest .past k h ∙ H .past .past k h };
+      spans = T .spans;
+      rest = λ i h. getD-set-other r b i q absent (λ e. omega arith) ∙ H .rest i (omega arith);
+      served = λ calm. served-turn r work b l size (H .rest b (omega arith)) (H .served calm) now q after T;
+    }
+
+    -- a server that nothing reaches
+    pub serving-idle : b < F .rules .n → F .known .m ≤ places → Small (getD c b absent .kept) → (any : Bool)
+        → any ≡ reached work b (F .arrivals) (F .movement) (F .t) (F .rules .delta) (statusOf (getD r b absent .status)) (getD r b absent .pending) → any ≡ false
+        → Serving r work (b + 1)
+    serving-idle own few small any e none = record {
+      past = H .past;
+      spans = H .spans;
+      rest = λ i h. H .rest i (omega arith);
+      served = λ calm. subst (λ (x : List Server). Served F ends c x work (b + 1)) (set-getD r b absent)
+          (served-turn r work b l size (H .rest b (omega arith)) (H .served calm) now (getD r b absent) work (idle calm));
+    }
+      where
+        idle : Calm (F .rules) (F .known) c → Turned (feedAt F work) ends b (getD r b absent) (getD r b absent) work
+        idle calm = idle-turned (feedAt F work) ends b (getD r b absent) l (H .spans) few (unreached work b (F .arrivals) (F .movement) (F .t) (F .rules .delta) (statusOf (getD r b absent .status)) (getD r b absent .pending) (sym e ∙ none))
+            (rw (H .rest b (omega arith)) (calm b own)) (rw (H .rest b (omega arith)) small)
+
+-- ---- the whole tick
+
+pub sized-after : (plan work after : List ℕ) (t : ℕ) (rules : Rules) (known : Known) (links : Links)
+    → Sized plan work t rules known links → SamePast work after → Spanned after places → Sized plan after t rules known links
+sized-after plan work after t rules known links Z P S = record {
+  room = omega (arith, Z .room, P .size);
+  spans = S;
+  tick = Z .tick;
+  servers = Z .servers;
+  delta = Z .delta;
+  pairs = Z .pairs;
+  echo = Z .echo;
+  reply = Z .reply;
+  linked = Z .linked;
+  delays = Z .delays;
+}
+
+module _ (F : Feed) (c : Cluster) (heard : List Reader) (served : List Server) (noted work : List ℕ) (n : ℕ) (few : n ≤ 16) (size : length (c .servers) ≡ 16)
+    (H : Heard (F .work) noted (F .t) (c .readers) heard) (S : Served (feedAt F noted) (endsOf (c .readers)) (c .servers) served work n) where
+  -- a server's row is not a reader's
+  same-votes : (b j i : ℕ) → b < 16 → j < places → sender noted (rowOf (F .t) b) j i ≡ sender (F .work) (rowOf (F .t) b) j i
+  same-votes b j i l m =
+      let d : rowOf (F .t) b % receivers ≡ b = omega arith in
+      H .cells (rowOf (F .t) b) j i (omega arith) m ∙ rw (d, lt-leb 16 b l, and-none (eqb (rowOf (F .t) b / receivers) (F .t % 16)))
+
+  two-taken : (a b c s : Bool) → not (a && b) && (not (a && c) && s) ≡ not (a && (b || c)) && s
+  two-taken true true c s = refl
+  two-taken true false c s = refl
+  two-taken false b c s = refl
+
+  ticked-all : Ticked F c (record { servers = served; readers = heard }) work n
+  unfolding present
+  ticked-all = record {
+    outs = S .outs;
+    servers = S .size ∙ size;
+    done = λ b l.
+        let T = S .done b l in
+        record { votes = T .votes; came = λ h j i m. T .came h j i m ∙ rw (same-votes b j i (omega arith) m); stages = T .stages };
+    next = S .next;
+    small = S .small;
+    heard = H .readers;
+    rest = record { size = S .rest .size ∙ H .rest .size; past = λ k l. S .rest .past k l ∙ H .rest .past k l };
+    spans = S .spans;
+    cells = λ x j i l m. S .cells x j i l m
+        ∙ rw (H .cells x j i l m, two-taken (eqb (x / receivers) (F .t % 16)) (ltb (x % receivers) n) (leb 16 (x % receivers)) (sender (F .work) x j i));
+  }
+
+pub calmly-ticked : (F : Feed) (c : Cluster) (heard : List Reader) (served : List Server) (noted work : List ℕ) → F .rules .n ≤ 16 → length (c .servers) ≡ 16
+    → Heard (F .work) noted (F .t) (c .readers) heard → CalmlyServed (feedAt F noted) (endsOf (c .readers)) (c .servers) served work
+    → CalmlyTicked F c (record { servers = served; readers = heard }) work
+calmly-ticked F c heard served noted work few size H S = record {
+  rest = record { size = S .rest .size ∙ H .rest .size; past = λ k l. S .rest .past k l ∙ H .rest .past k l };
+  spans = S .spans;
+  ticked = λ calm. ticked-all F c heard served noted work (F .rules .n) few size H (S .served calm);
+}

@@ -1,0 +1,225 @@
+-- A server that has taken in every pair with a quorum stays so: at the start, and through all stages of a tick.
+-- It stands on register's laws of counting.
+use mathlib.Core.Path.{_≡_, refl, sym, ap, subst, _∙_}
+use mathlib.Core.Bool.{Bool, true, false, _||_, cond}
+use mathlib.Core.Logic.{_⊎_, inl, inr}
+use mathlib.Core.List.{List, [], _∷_}
+use Prim.Native.Nat.{ℕ, zero, suc, _≤_, _<_}
+use native.Mathlib.Omega.{arith}
+use native.Mathlib.Decide.{ℕ-discrete}
+use lib.Dec.{eqb, leb, ltb}
+use lib.ListN.{length, take, length-take, getD}
+use lib.Seq.{take-all}
+use borrow.Author.Tests.{le-ltb, le-leb, lt-leb, eq-eqb, ne-eqb, eqb-true, eqb-false, ltb-true, ltb-false, leb-true}
+use Rattle.register.specs.Lists.{count}
+use Rattle.register.specs.Server.{faulty, correct, isFaulty, curedAt, insert}
+use Rattle.register.proofs.Logic.{or-l}
+use Rattle.register.proofs.Counting.{count-none, count-mono}
+use Rattle.calendar.specs.Layout.{depth}
+use Rattle.cluster.specs.declared.Cluster.{Cluster}
+use Rattle.cluster.specs.declared.Rules.{Rules}
+use Rattle.cluster.specs.Stored.{Plain, Both, server, pairOf, absent}
+use Rattle.cluster.specs.Stages.{noVotes, silent, blankAs, resetAt, restated, turned, taken, voting, withWrite, delivered, stageOne, stageTwo, movedOn, stageFour, stagesOf}
+use Rattle.cluster.specs.Settled.{Settled}
+use Rattle.cluster.specs.Tick.{Feed, Ticked, firstOf}
+use Rattle.cluster.proofs.StageLaws.{write-kept}
+
+-- ---- putting a pair in changes nothing
+
+-- in the first n places p stands in its order, or n pairs that come before it
+unfoldable Stands : ℕ → List ℕ → ℕ → Type 0
+Stands p l zero = Unit {0}
+Stands p [] (suc n) = ⊥
+Stands p (x ∷ xs) (suc n) = (x ≡ p) ⊎ ((p < x) × Stands p xs n)
+
+stands-same : (n p : ℕ) (l : List ℕ) → length l ≤ n → Stands p l n → take n (insert p l) ≡ l
+unfolding Stands insert
+stands-same zero p [] h w = refl
+stands-same zero p (x ∷ l) h w = absurd (omega arith)
+stands-same (suc n) p [] h w = absurd w
+stands-same (suc n) p (x ∷ l) h (inl e) = rw (e, le-ltb p p (omega arith), eq-eqb p p refl) (ap (λ (k : List ℕ). p ∷ k) (take-all n l (omega arith)))
+stands-same (suc n) p (x ∷ l) h (inr w) =
+    rw (le-ltb x p (omega (arith, w .0)), ne-eqb x p (λ e. omega (arith, w .0))) (ap (λ (k : List ℕ). x ∷ k) (stands-same n p l (omega arith) (w .1)))
+
+-- fewer places
+stands-cut : (n p : ℕ) (l : List ℕ) → Stands p l n → Stands p (take n l) n
+unfolding Stands
+stands-cut zero p l w = tt
+stands-cut (suc n) p [] w = w
+stands-cut (suc n) p (x ∷ l) (inl e) = inl e
+stands-cut (suc n) p (x ∷ l) (inr w) = inr (w .0, stands-cut n p l (w .1))
+
+stands-fewer : (n p : ℕ) (l : List ℕ) → Stands p l (suc n) → Stands p (take n l) n
+unfolding Stands
+stands-fewer zero p l w = tt
+stands-fewer (suc n) p [] w = absurd w
+stands-fewer (suc n) p (x ∷ l) (inl e) = inl e
+stands-fewer (suc n) p (x ∷ l) (inr w) = inr (w .0, stands-fewer n p l (w .1))
+
+-- a pair that is put in stands, and other pairs leave it so
+stands-in : (n p : ℕ) (l : List ℕ) → Stands p (take n (insert p l)) n
+unfolding Stands insert
+stands-in zero p l = tt
+stands-in (suc n) p [] = inl refl
+stands-in (suc n) p (x ∷ l) = go (ltb x p) (eqb x p) refl refl (stands-in n p l)
+  where
+    go : (a b : Bool) → ltb x p ≡ a → eqb x p ≡ b → Stands p (take n (insert p l)) n → Stands p (take (suc n) (cond a (p ∷ x ∷ l) (cond b (x ∷ l) (x ∷ insert p l)))) (suc n)
+    go true b d e w = inl refl
+    go false true d e w = inl (eqb-true x p e)
+    go false false d e w = inr (omega (arith, ltb-false x p d, eqb-false x p e), w)
+
+stands-more : (n p q : ℕ) (l : List ℕ) → Stands p l n → Stands p (take n (insert q l)) n
+unfolding Stands insert
+stands-more zero p q l w = tt
+stands-more (suc n) p q [] w = absurd w
+stands-more (suc n) p q (x ∷ l) w = go (ltb x q) (eqb x q) refl (λ v. stands-more n p q l v) w
+  where
+    first : x < q → Stands p (x ∷ l) (suc n) → p < q
+    first h (inl e) = omega arith
+    first h (inr v) = omega (arith, v .0)
+
+    go : (a b : Bool) → ltb x q ≡ a → (Stands p l n → Stands p (take n (insert q l)) n) → Stands p (x ∷ l) (suc n)
+        → Stands p (take (suc n) (cond a (q ∷ x ∷ l) (cond b (x ∷ l) (x ∷ insert q l)))) (suc n)
+    go true b d ih w = inr (first (ltb-true x q d) w, stands-fewer n p (x ∷ l) w)
+    go false true d ih (inl e) = inl e
+    go false true d ih (inr v) = inr (v .0, stands-cut n p l (v .1))
+    go false false d ih (inl e) = inl e
+    go false false d ih (inr v) = inr (v .0, ih (v .1))
+
+-- ---- taking in by number
+
+taken-few : (c : ℕ → Bool) (g : ℕ → ℕ) (m : ℕ) (l : List ℕ) → length l ≤ depth → length (taken c g m l) ≤ depth
+unfolding taken
+taken-few c g zero l h = h
+taken-few c g (suc j) l h = go (c j) (taken-few c g j l h)
+  where
+    go : (b : Bool) → length (taken c g j l) ≤ depth → length (cond b (take depth (insert (g j) (taken c g j l))) (taken c g j l)) ≤ depth
+    go true k = omega (arith, length-take depth (insert (g j) (taken c g j l)))
+    go false k = k
+
+taken-stands : (c : ℕ → Bool) (g : ℕ → ℕ) (m : ℕ) (l : List ℕ) (j : ℕ) → j < m → c j ≡ true → Stands (g j) (taken c g m l) depth
+unfolding taken
+taken-stands c g zero l j h e = absurd (omega arith)
+taken-stands c g (suc m) l j h e = go (ℕ-discrete j m) (λ d. taken-stands c g m l j d e)
+  where
+    later : (b : Bool) → Stands (g j) (taken c g m l) depth → Stands (g j) (cond b (take depth (insert (g m) (taken c g m l))) (taken c g m l)) depth
+    later true w = stands-more depth (g j) (g m) (taken c g m l) w
+    later false w = w
+
+    go : Dec (j ≡ m) → (j < m → Stands (g j) (taken c g m l) depth) → Stands (g j) (cond (c m) (take depth (insert (g m) (taken c g m l))) (taken c g m l)) depth
+    go (yes d) ih = rw (← d, e) (stands-in depth (g j) (taken c g j l))
+    go (no d) ih = later (c m) (ih (omega arith))
+
+-- what was settled is taken in to no effect
+pub taken-none : (c : ℕ → Bool) (g : ℕ → ℕ) (m : ℕ) (l : List ℕ) → ((j : ℕ) → j < m → c j ≡ true → take depth (insert (g j) l) ≡ l) → taken c g m l ≡ l
+unfolding taken
+taken-none c g zero l h = refl
+taken-none c g (suc m) l h = rw (taken-none c g m l (λ j a. h j (omega arith))) (go (c m) refl)
+  where
+    go : (b : Bool) → c m ≡ b → cond b (take depth (insert (g m) l)) l ≡ l
+    go true e = h m (omega arith) e
+    go false e = refl
+
+-- ---- the stages
+
+module _ (g : ℕ → ℕ) (m e r : ℕ) (he : 1 ≤ e) (hr : 1 ≤ r) where
+  abbrev Fine : Plain → Type 0
+  Fine s = Settled g m e r s
+
+  -- no votes, no quorum
+  none-voting : (j : ℕ) → voting e r noVotes noVotes j ≡ false
+  none-voting j = rw (count-none 16, lt-leb e 0 he, lt-leb r 0 hr)
+
+  unvoted-settled : (s : Plain) → length (s .kept) ≤ depth → s .fresh ≡ noVotes → s .old ≡ noVotes → Fine s
+  unvoted-settled s h f o = record { few = h; same = λ j l v. absurd (never (sym (none-voting j) ∙ rw (f, o) at v)) }
+    where
+      never : false ≡ true → ⊥
+      never e = let z : _≡_ {A = ℕ} 0 1 = ap (λ (x : Bool). cond x 1 0) e in omega arith
+
+  pub first-settled : (v : ℕ) → Fine (firstOf v)
+  first-settled v = unvoted-settled (firstOf v) (omega arith) refl refl
+
+  delivered-settled : (w : ℕ) (votes : ℕ → ℕ → Bool) (asks live : ℕ → Bool) (s : Plain) → length (s .kept) ≤ depth → Fine (delivered g m e r w votes asks live s .server)
+  unfolding delivered
+  delivered-settled w votes asks live s h = record {
+    few = small;
+    same = λ j l v. stands-same depth (g j) _ small (taken-stands (voting e r votes (s .old)) g m (withWrite g m w s .kept) j l v);
+  }
+    where
+      wrote : length (withWrite g m w s .kept) ≤ depth
+      wrote = rw (write-kept g m w s) (go (ltb w m))
+        where
+          go : (b : Bool) → length (cond b (take depth (insert (g w) (s .kept))) (s .kept)) ≤ depth
+          go true = omega (arith, length-take depth (insert (g w) (s .kept)))
+          go false = h
+
+      small : length (taken (voting e r votes (s .old)) g m (withWrite g m w s .kept)) ≤ depth
+      small = taken-few (voting e r votes (s .old)) g m (withWrite g m w s .kept) wrote
+
+  one-settled : (w : ℕ) (votes : ℕ → ℕ → Bool) (asks live : ℕ → Bool) (s : Plain) → Fine s → Fine (stageOne g m e r w votes asks live s .server)
+  unfolding stageOne
+  one-settled w votes asks live s S = go (isFaulty (s .status))
+    where
+      go : (b : Bool) → Fine (cond b (record { server = s; said = silent }) (delivered g m e r w votes asks live s) .server)
+      go true = S
+      go false = delivered-settled w votes asks live s (S .few)
+
+  two-settled : (delta t : ℕ) (o : Both) → Fine (o .server) → Fine (stageTwo delta t o .server)
+  unfolding stageTwo
+  two-settled delta t o S = go (curedAt delta t (o .server .status))
+    where
+      go : (b : Bool) → Fine (cond b (record {
+        server = restated correct (o .server);
+        said = record { wrote = o .said .wrote; echoed = o .said .echoed; readers = o .server .pending; pairs = o .server .kept };
+      }) o .server)
+      go true = record { few = S .few; same = S .same }
+      go false = S
+
+  turned-settled : (two : Bool) (s : Plain) → Fine s → Fine (turned two s)
+  turned-settled false s S = unvoted-settled (turned false s) (S .few) refl refl
+  turned-settled true s S = record { few = S .few; same = λ j l v. S .same j l (before j v) }
+    where
+      more : (j : ℕ) → count (s .fresh j) 16 ≤ count (λ i. s .fresh j i || s .old j i) 16
+      more j = count-mono (s .fresh j) (λ i. s .fresh j i || s .old j i) 16 (λ i l t. or-l (s .fresh j i) (s .old j i) t)
+
+      either : (a : Bool) → a || true ≡ true
+      either true = refl
+      either false = refl
+
+      before : (j : ℕ) → voting e r noVotes (s .fresh) j ≡ true → voting e r (s .fresh) (s .old) j ≡ true
+      before j v =
+          let q : leb r (count (s .fresh j) 16) ≡ true = rw (count-none 16, lt-leb e 0 he) at v in
+          rw (le-leb r (count (λ i. s .fresh j i || s .old j i) 16) (omega (arith, leb-true r (count (s .fresh j) 16) q, more j))) (either (leb e (count (s .fresh j) 16)))
+
+  moved-settled : (two h : Bool) (t : ℕ) (s : Plain) → Fine s → Fine (movedOn two h t s)
+  unfolding movedOn
+  moved-settled two true t s S = unvoted-settled (blankAs faulty) (omega arith) refl refl
+  moved-settled two false t s S = go (isFaulty (s .status))
+    where
+      go : (b : Bool) → Fine (cond b (resetAt t) (turned two s))
+      go true = unvoted-settled (resetAt t) (omega arith) refl refl
+      go false = turned-settled two s S
+
+pub stages-settled : (g : ℕ → ℕ) (m : ℕ) (rules : Rules) → 1 ≤ rules .echo → 1 ≤ rules .reply → (w : ℕ) (votes : ℕ → ℕ → Bool) (asks live : ℕ → Bool) (moving h : Bool) (t : ℕ) (s : Plain)
+    → Settled g m (rules .echo) (rules .reply) s → Settled g m (rules .echo) (rules .reply) (stagesOf g m rules w votes asks live moving h t s .server)
+unfolding stagesOf stageFour
+stages-settled g m rules he hr w votes asks live moving h t s S = go moving
+  where
+    second : Both
+    second = stageTwo (rules .delta) t (stageOne g m (rules .echo) (rules .reply) w votes asks live s)
+
+    after : Settled g m (rules .echo) (rules .reply) (second .server)
+    after = two-settled g m (rules .echo) (rules .reply) he hr (rules .delta) t _ (one-settled g m (rules .echo) (rules .reply) he hr w votes asks live s S)
+
+    go : (b : Bool) → Settled g m (rules .echo) (rules .reply) (cond b (stageFour (rules .two) h t second) second .server)
+    go true = moved-settled g m (rules .echo) (rules .reply) he hr (rules .two) h t (second .server) after
+    go false = after
+
+-- a server that has done a tick
+pub settled-next : (F : Feed) (c r : Cluster) (work : List ℕ) (n b : ℕ) → 1 ≤ F .rules .echo → 1 ≤ F .rules .reply → Ticked F c r work n → b < n
+    → Settled (pairOf (F .known .values)) (F .known .m) (F .rules .echo) (F .rules .reply) (server (getD (c .servers) b absent))
+    → Settled (pairOf (F .known .values)) (F .known .m) (F .rules .echo) (F .rules .reply) (server (getD (r .servers) b absent))
+settled-next F c r work n b he hr T l S =
+    let D = T .done b l in
+    rw (T .next b l) (subst (λ (o : Both). Settled (pairOf (F .known .values)) (F .known .m) (F .rules .echo) (F .rules .reply) (o .server)) (sym (D .stages))
+    (stages-settled (pairOf (F .known .values)) (F .known .m) (F .rules) he hr _ (D .votes) _ _ _ _ (F .t) _ S))

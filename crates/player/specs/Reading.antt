@@ -1,0 +1,59 @@
+-- Reads end and begin: which of the table's reads, the bytes of an answer, and the readers afterwards.
+use mathlib.Core.Path.{_≡_}
+use mathlib.Core.List.{List, _++_}
+use Prim.Native.Nat.{ℕ, zero, suc, _+_, _*_, _-_, _≤_, _<_}
+use lib.ListN.{getD, set, take, drop, replicate}
+use Rattle.calendar.specs.Layout.{places}
+use Rattle.cluster.specs.declared.Known.{Known}
+use Rattle.cluster.specs.declared.Reader.{Reader}
+use Rattle.cluster.specs.Bits.{sets}
+use Rattle.cluster.specs.Inputs.{pairAt}
+use Rattle.cluster.specs.Tick.{noReader}
+use Rattle.script.specs.declared.operations.Reads.{Reads}
+use Rattle.register.specs.Plan.{Read}
+use Rattle.answers.specs.Answers.{answerSize, answerBytes}
+use Rattle.answers.specs.Choosing.{highestOf, answerBy}
+
+-- from read k on, the reads before r begin before tick u, and read r does not
+pub record Until (reads : Reads) (k u r : ℕ) : Type 0 where
+  pub from : k ≤ r
+  pub few : r ≤ reads .m
+  pub below : (i : ℕ) → k ≤ i → i < r → getD (reads .begun) i 0 < u
+  pub next : r < reads .m → u ≤ getD (reads .begun) r 0
+
+-- read i of the table
+abbrev pub readAt : Reads → ℕ → Read
+readAt reads i = record { begun = getD (reads .begun) i 0; reader = getD (reads .reader) i 0 }
+
+-- the reads from .. to - 1 are there, and each has its reader
+pub record There (reads : Reads) (from to : ℕ) : Type 0 where
+  pub ordered : from ≤ to
+  pub few : to ≤ 255
+  pub readers : (i : ℕ) → from ≤ i → i < to → (1 ≤ getD (reads .reader) i 0) × (getD (reads .reader) i 0 ≤ 4)
+
+-- ---- answers
+
+-- the bytes of read i's answer: its reader chooses of what it has noted
+abbrev pub chosenBytes : List Reader → Reads → Known → ℕ → ℕ → List ℕ
+chosenBytes readers reads known reply i =
+    answerBytes 16 (readAt reads i) (answerBy (pairAt known) (highestOf (sets (getD readers (getD (reads .reader) i 0 - 1) noReader .named)) reply (known .m)))
+
+-- the buffer with the answer i at its own five bytes
+abbrev pub placedAt : ℕ → List ℕ → List ℕ → List ℕ
+placedAt i bytes b = take (answerSize 16 * i) b ++ (bytes ++ drop (answerSize 16) (drop (answerSize 16 * i) b))
+
+-- with the answers from k on, n of them
+unfoldable pub placed : (ℕ → List ℕ) → ℕ → ℕ → List ℕ → List ℕ
+placed f k zero b = b
+placed f k (suc n) b = placedAt (k + n) (f (k + n)) (placed f k n b)
+
+-- ---- begins
+
+-- a reader whose read ends in this tick and has noted nothing
+abbrev pub freshReader : ℕ → Reader
+freshReader end = record { end = end; named = replicate places 0 }
+
+-- the readers with those of the reads from k on, n of them, set up
+unfoldable pub begunBy : Reads → ℕ → ℕ → ℕ → List Reader → List Reader
+begunBy reads end k zero rs = rs
+begunBy reads end k (suc n) rs = set (begunBy reads end k n rs) (getD (reads .reader) (k + n) 0 - 1) (freshReader end)

@@ -1,0 +1,57 @@
+// Stage 5 of a tick: 'faulty servers send what the plan lists'. The forged messages stand decoded in the workspace.
+ghost use mathlib.Core.Path.{_≡_};
+ghost use Prim.Native.Nat.{ℕ, _≤_, _<_};
+ghost use lib.ListN.{length};
+ghost use Rattle.calendar.specs.View.{Posted};
+ghost use Rattle.script.specs.Forged.{entryAt, entriesEnd, mostEntries};
+ghost use Rattle.player.specs.Forging.{forgedEntry, forges};
+use super::size_of;
+use cluster::READERS;
+use cluster::Reader;
+use script::forged;
+
+// Byte k of entry e.
+fn byte(work: &[u8], e: usize, k: usize) -> u8
+    requires { ⌜ (e < mostEntries) × (k < 8) × (entriesEnd ≤ length (now work)) ⌝ }
+    ensures { λ r. ⌜ r ≡ entryAt (now (work .entry)) e k ⌝ }
+{
+    work[forged::ENTRIES + 8 * e + k]
+}
+
+// Entry e is under way: a vote, or a reply if it arrives by the end of its reader's read.
+fn post_entry(work: &mut [u8], readers: [Reader; READERS], n: usize, e: usize)
+    requires { ⌜ (n ≤ 16) × (e < mostEntries) × (entriesEnd ≤ length (now work)) × (entryAt (now work) e 3 < 16) ⌝ }
+    ensures { λ _. ⌜ Posted (now (work .entry)) (now (work .exit)) (forgedEntry readers n (now (work .entry)) e) ⌝ }
+{
+    let arrival = size_of(byte(work, e, 1));
+    let receiver = size_of(byte(work, e, 2));
+    let sender = size_of(byte(work, e, 3));
+    let number = byte(work, e, 4);
+    if receiver < n {
+        calendar::post(work, calendar::row(arrival, receiver), number, sender);
+        return;
+    }
+    if receiver <= n {
+        return;
+    }
+    let y = receiver - n;
+    if 4 < y {
+        return;
+    }
+    if size_of(readers[y - 1].end) < arrival {
+        return;
+    }
+    calendar::post(work, calendar::row(arrival, 15 + y), number, sender);
+}
+
+// The entries from .. to - 1 are.
+pub fn forge(work: &mut [u8], readers: [Reader; READERS], n: usize, from: usize, to: usize)
+    requires { ⌜ (n ≤ 16) × (from ≤ to) × (to ≤ mostEntries) × (entriesEnd ≤ length (now work)) × ((e : ℕ) → e < to → entryAt (now work) e 3 < 16) ⌝ }
+    ensures { λ _. ⌜ Posted (now (work .entry)) (now (work .exit)) (forges readers n (now (work .entry)) from to) ⌝ }
+{
+    let mut e = from;
+    while e < to {
+        post_entry(work, readers, n, e);
+        e += 1;
+    }
+}
