@@ -10,7 +10,7 @@
  * Of check, play, look and judge a result of REGISTER_REFUSED or more is a refusal:
  * REGISTER_REFUSED plus its number.  A refusal leaves all lent bytes as they were.
  *
- * Stack: play and look take under 30 KB, the other functions under 3 KB (measured with the longest
+ * Stack: play takes under 32 KB, look under 38 KB, the other functions under 3 KB (measured with the longest
  * plan, on x86-64).  Nothing is allocated.
  * Threads: there is no global state and nothing is kept between calls.  Calls may run at once if
  * none writes to bytes that another one uses.
