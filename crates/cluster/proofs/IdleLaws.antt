@@ -1,5 +1,5 @@
--- A settled server that nothing reaches has done the tick as it stands: its stages change nothing, and it sends nothing.
--- It stands on Settled and StageLaws.
+-- A settled server that nothing new reaches has done the tick as it stands, once its row is empty: its stages change nothing, and it sends
+-- nothing. It stands on Settled and StageLaws.
 use mathlib.Core.Path.{_≡_, refl, sym, ap, _∙_, fun-ext}
 use mathlib.Core.Bool.{Bool, true, false, not, _&&_, _||_, cond}
 use mathlib.Core.List.{List, [], _∷_}
@@ -9,12 +9,12 @@ use lib.Bits.{bitAnd}
 use lib.Dec.{eqb, leb, ltb}
 use lib.ListN.{getD}
 use borrow.Author.Tests.{le-ltb, eq-eqb, ne-eqb, eqb-true, ltb-false, not-false}
-use Rattle.register.specs.Lists.{sameList}
 use Rattle.register.specs.Server.{Status, isFaulty, isCorrect, curedAt}
 use Rattle.calendar.specs.Bits.{bit}
-use Rattle.calendar.specs.Layout.{receivers, places, rowOf, highOf, sender}
-use Rattle.calendar.specs.View.{Spanned}
+use Rattle.calendar.specs.Layout.{receivers, rows, places, rowOf, lowOf, highOf, sender}
+use Rattle.calendar.specs.View.{Inside, Spanned, Cleared}
 use Rattle.calendar.proofs.Laws.{and-none, or-none}
+use Rattle.calendar.proofs.Spans.{cleared-cells, cleared-spanned}
 use Rattle.cluster.specs.declared.Server.{Server}
 use Rattle.cluster.specs.declared.Rules.{Rules}
 use Rattle.cluster.specs.declared.Row.{Row}
@@ -22,11 +22,12 @@ use Rattle.cluster.specs.declared.Links.{Links}
 use Rattle.cluster.specs.declared.Arrivals.{Arrivals}
 use Rattle.cluster.specs.declared.Movement.{Movement}
 use Rattle.cluster.specs.Sends.{reaches, sendsVote, sendsReply, sends}
-use Rattle.cluster.specs.Stored.{Plain, Both, server, saidBy, statusOf, pairOf}
-use Rattle.cluster.specs.Stages.{nobody, voting, taken, withWrite, repliesTo, stageOne, stageTwo, stagesOf}
+use Rattle.cluster.specs.Stored.{Plain, Both, server, saidBy, statusOf, keys, pairOf}
+use Rattle.cluster.specs.Stages.{nobody, voting, isNew, anyNew, taken, withWrite, repliesTo, stageOne, stageTwo, stagesOf}
 use Rattle.cluster.specs.Settled.{Settled, reached}
-use Rattle.cluster.specs.Tick.{Feed, Small, Turned}
+use Rattle.cluster.specs.Tick.{Feed, Small, Emptied, Turned}
 use Rattle.cluster.proofs.BitLaws.{bit-zero, bit-and}
+use Rattle.cluster.proofs.StoreLaws.{same-as-itself, some-new}
 use Rattle.cluster.proofs.StageLaws.{zero-set, delivered-law, lost-law}
 use Rattle.cluster.proofs.Settled.{taken-none}
 
@@ -38,31 +39,64 @@ neither true b e = absurd (never e)
     never e = let z : _≡_ {A = ℕ} 1 0 = ap (λ (x : Bool). cond x 1 0) e in omega arith
 
 -- what it means that nothing reaches a server
-module _ (work : List ℕ) (b : ℕ) (arrivals : Arrivals) (movement : Movement) (t delta : ℕ) (status : Status) (pending : ℕ) where
+module _ (work : List ℕ) (b : ℕ) (arrivals : Arrivals) (movement : Movement) (t delta : ℕ) (g : ℕ → ℕ) (status : Status) (pending : ℕ) (kept : List ℕ) where
   pub record Unreached : Type 0 where
     pub moving : movement .moving ≡ false
     pub asks : getD (arrivals .asks) b 0 ≡ 0
     pub wrote : places ≤ getD (arrivals .wrote) b 0
     pub live : bitAnd pending (arrivals .live) ≡ pending
     pub cured : curedAt delta t status ≡ false
-    pub high : highOf work (rowOf t b) ≡ 0
+    pub known : isFaulty status ≡ false → (j : ℕ) → Inside work (rowOf t b) j → isNew (g j) kept ≡ false
 
-  pub unreached : reached work b arrivals movement t delta status pending ≡ false → Unreached
+  none-arrives : (f : Bool) → not f && anyNew g kept (lowOf work (rowOf t b)) (highOf work (rowOf t b)) ≡ false → f ≡ false → (j : ℕ) → Inside work (rowOf t b) j → isNew (g j) kept ≡ false
+  none-arrives f e h j i = go (isNew (g j) kept) refl
+    where
+      go : (c : Bool) → isNew (g j) kept ≡ c → c ≡ false
+      go true n = sym (some-new g kept _ _ j (i .0) (i .1) n) ∙ rw h at e
+      go false n = refl
+
+  pub unreached : reached work b arrivals movement t delta g status pending kept ≡ false → Unreached
   unfolding reached
   unreached e =
       let a = neither _ _ e in
       let c = neither _ _ (a .1) in
       let d = neither _ _ (c .1) in
       let f = neither _ _ (d .1) in
-      let g = neither _ _ (f .1) in
+      let k = neither _ _ (f .1) in
       record {
         moving = a .0;
         asks = eqb-true _ _ (not-false _ (c .0));
         wrote = ltb-false _ _ (d .0);
         live = eqb-true _ _ (not-false _ (f .0));
-        cured = g .0;
-        high = eqb-true _ _ (not-false _ (g .1));
+        cured = k .0;
+        known = none-arrives (isFaulty status) (k .1);
       }
+
+-- ---- its row
+
+module _ (work : List ℕ) (row : ℕ) (S : Spanned work places) where
+  pub emptied-now : (after : List ℕ) → Cleared work after row → Emptied work after row
+  emptied-now after C = record {
+    rest = C .rest;
+    spans = cleared-spanned work after row places (omega arith) C S;
+    cells = λ x j i h m. cleared-cells work after row places (omega arith) C S x j i h m;
+  }
+
+  -- nothing arrives in a row without a span
+  pub emptied-before : row < rows → highOf work row ≡ 0 → Emptied work work row
+  emptied-before l none = record {
+    rest = record { size = refl; past = λ k h. refl };
+    spans = S;
+    cells = λ x j i h m. go x j i m (eqb x row) refl;
+  }
+    where
+      empty : (j i : ℕ) → j < places → (c : Bool) → sender work row j i ≡ c → c ≡ false
+      empty j i m true e = absurd (omega (arith, S .within row j i l m e .1))
+      empty j i m false e = refl
+
+      go : (x j i : ℕ) → j < places → (c : Bool) → eqb x row ≡ c → sender work x j i ≡ not c && sender work x j i
+      go x j i m true e = rw (eqb-true x row e) (empty j i m (sender work row j i) refl)
+      go x j i m false e = refl
 
 -- ---- what it sends
 
@@ -84,11 +118,6 @@ module _ (plan : List ℕ) (links : Links) (n t : ℕ) (ends : List ℕ) (i : �
 
 -- ---- its stages
 
-same-as-itself : (l : List ℕ) → sameList l l ≡ true
-unfolding sameList
-same-as-itself [] = refl
-same-as-itself (x ∷ l) = rw (eq-eqb x x refl) (same-as-itself l)
-
 no-replies : (c : Bool) (asks list : ℕ → Bool) → asks ≡ nobody → nobody ≡ repliesTo c true asks list
 no-replies true asks list e = sym e
 no-replies false asks list e = refl
@@ -104,14 +133,14 @@ only-first g m rules w votes asks live moving h t s o e d one = rw (e, ← one) 
     still o d = rw d
 
 module _ (F : Feed) (ends : List ℕ) (b : ℕ) (s : Server) (l : b < 16) (S : Spanned (F .work) places) (few : F .known .m ≤ places)
-    (U : Unreached (F .work) b (F .arrivals) (F .movement) (F .t) (F .rules .delta) (statusOf (s .status)) (s .pending))
+    (U : Unreached (F .work) b (F .arrivals) (F .movement) (F .t) (F .rules .delta) (pairOf (F .known .values)) (statusOf (s .status)) (s .pending) (keys (s .kept)))
     (K : Settled (pairOf (F .known .values)) (F .known .m) (F .rules .echo) (F .rules .reply) (server s)) where
-  -- nothing arrives in its row
-  empty : (j i : ℕ) → j < places → sender (F .work) (rowOf (F .t) b) j i ≡ false
-  empty j i m = go (sender (F .work) (rowOf (F .t) b) j i) refl
+  -- no vote for a new pair arrives
+  none-new : isFaulty (statusOf (s .status)) ≡ false → (j i : ℕ) → j < places → isNew (pairOf (F .known .values) j) (keys (s .kept)) ≡ true → sender (F .work) (rowOf (F .t) b) j i ≡ false
+  none-new h j i m n = go (sender (F .work) (rowOf (F .t) b) j i) refl
     where
       go : (c : Bool) → sender (F .work) (rowOf (F .t) b) j i ≡ c → c ≡ false
-      go true e = absurd (omega (arith, S .within (rowOf (F .t) b) j i (omega arith) m e .1, U .high))
+      go true e = sym n ∙ U .known h j (S .within (rowOf (F .t) b) j i (omega arith) m e)
       go false e = refl
 
   abbrev w : ℕ
@@ -145,7 +174,7 @@ module _ (F : Feed) (ends : List ℕ) (b : ℕ) (s : Server) (l : b < 16) (S : S
 
   first : (c : Bool) → isFaulty (statusOf (s .status)) ≡ c
       → record { server = server s; said = saidBy (quiet c) } ≡ stageOne (pairOf (F .known .values)) (F .known .m) (F .rules .echo) (F .rules .reply) w (server s .fresh) asked going (server s)
-  unfolding quiet Rattle.cluster.specs.Stored.keys
+  unfolding quiet keys
   first true e = lost-law (pairOf (F .known .values)) (F .known .m) (F .rules .echo) (F .rules .reply) w (server s .fresh) asked going (server s) (saidBy (quiet true)) e (rw zero-set)
   first false e = delivered-law (pairOf (F .known .values)) (F .known .m) (F .rules .echo) (F .rules .reply) w (server s .fresh) asked going (server s) (server s) (server s .kept) (server s .pending) (λ x. bit x 0)
       e no-write none-taken pend (zero-set ∙ rw (same-as-itself (server s .kept)) (no-replies (isCorrect (statusOf (s .status))) asked (server s .pending) none-asked))
@@ -170,26 +199,19 @@ module _ (F : Feed) (ends : List ℕ) (b : ℕ) (s : Server) (l : b < 16) (S : S
   quiet-small true h = (omega arith, λ q. omega arith)
   quiet-small false h = h
 
-  none-cleared : (x j i : ℕ) → j < places → sender (F .work) x j i ≡ not (eqb x (rowOf (F .t) b)) && sender (F .work) x j i
-  none-cleared x j i m = go (eqb x (rowOf (F .t) b)) refl
-    where
-      go : (c : Bool) → eqb x (rowOf (F .t) b) ≡ c → sender (F .work) x j i ≡ not c && sender (F .work) x j i
-      go true e = rw (eqb-true x (rowOf (F .t) b) e) (empty j i m)
-      go false e = refl
-
-  pub idle-turned : Small (s .kept) → Turned F ends b s s (F .work)
-  idle-turned small =
+  pub idle-turned : Small (s .kept) → (after : List ℕ) → Emptied (F .work) after (rowOf (F .t) b) → Turned F ends b s s after
+  idle-turned small after E =
       let c : Bool = isFaulty (statusOf (s .status)) in
       record {
         out = record { server = s; row = quiet c };
         done = record {
           votes = server s .fresh;
-          came = λ h j i m. rw (empty j i m) (or-none (server s .fresh j i));
+          came = λ h j i m n. rw (none-new h j i m n) (or-none (server s .fresh j i));
           stages = only-first (pairOf (F .known .values)) (F .known .m) (F .rules) w (server s .fresh) asked going (F .movement .moving) (bit (15 - b) (F .movement .faulty)) (F .t) (server s) _ (U .moving) (U .cured) (first c refl);
         };
         next = refl;
         small = quiet-small c small;
-        rest = record { size = refl; past = λ k h. refl };
-        spans = S;
-        cells = λ x j i h m. rw (sends-none (F .plan) (F .links) (F .rules .n) (F .t) ends b (quiet c) (quiet-wrote c) (quiet-echoed c) (quiet-readers c) x j m, and-none (eqb i b), ← or-none (not (eqb x (rowOf (F .t) b)) && sender (F .work) x j i)) (none-cleared x j i m);
+        rest = E .rest;
+        spans = E .spans;
+        cells = λ x j i h m. rw (sends-none (F .plan) (F .links) (F .rules .n) (F .t) ends b (quiet c) (quiet-wrote c) (quiet-echoed c) (quiet-readers c) x j m, and-none (eqb i b), ← or-none (not (eqb x (rowOf (F .t) b)) && sender (F .work) x j i)) (E .cells x j i h m);
       }

@@ -1,7 +1,7 @@
 -- Stages 3 and 4 of the engine keep the relation with the step rules, at a movement and in any other tick. They stand on Told.
 use mathlib.Core.Path.{_≡_, refl, sym, _∙_}
 use mathlib.Core.Bool.{Bool, true, false, not, cond}
-use mathlib.Core.List.{[], _++_}
+use mathlib.Core.List.{List, [], _++_}
 use Prim.Native.Nat.{ℕ, suc, _+_, _/_, _<_}
 use native.Mathlib.Omega.{arith}
 use lib.Dec.{T, ltb, eqb}
@@ -17,9 +17,9 @@ use Rattle.calendar.proofs.Laws.{and-none, or-none}
 use Rattle.cluster.proofs.Told.{Mid, End}
 
 module _ (P : Plan) (g : ℕ → ℕ) (m : ℕ) where
-  no-votes : Votes P g m [] noVotes
+  no-votes : (l : List ℕ) → Votes P g m l [] noVotes
   unfolding has any
-  no-votes j i h = sym (and-none (ltb i (P .n)))
+  no-votes l j i h n = sym (and-none (ltb i (P .n)))
 
   moved-rep : (t : ℕ) (h : Bool) (x : Server) (s : Plain) → Rep P g m (suc t) x s → Rep P g m (suc t) (moved P t h x) (movedOn (eqb (kk P) 2) h t s)
   unfolding moved movedOn any
@@ -27,17 +27,17 @@ module _ (P : Plan) (g : ℕ → ℕ) (m : ℕ) where
     status = refl;
     kept = refl;
     short = omega arith;
-    fresh = no-votes;
-    old = no-votes;
+    fresh = no-votes [];
+    old = no-votes [];
     heard = λ r i a b. refl;
     unheard = λ r i a. refl;
     empty = λ y. (refl, refl);
   }
   moved-rep t false x s R = rw (R .status) (go (isFaulty (s .status)) refl (eqb (kk P) 2))
     where
-      olds : (k : Bool) → Votes P g m (cond k (x .fresh) []) (cond k (s .fresh) noVotes)
+      olds : (k : Bool) → Votes P g m (x .kept) (cond k (x .fresh) []) (cond k (s .fresh) noVotes)
       olds true = R .fresh
-      olds false = no-votes
+      olds false = no-votes (x .kept)
 
       go : (b : Bool) → isFaulty (s .status) ≡ b → (k : Bool) → Rep P g m (suc t)
           (cond b (blank (cured t)) (record { status = s .status; kept = x .kept; pending = x .pending; fresh = []; old = cond k (x .fresh) [] }))
@@ -46,8 +46,8 @@ module _ (P : Plan) (g : ℕ → ℕ) (m : ℕ) where
         status = refl;
         kept = refl;
         short = omega arith;
-        fresh = no-votes;
-        old = no-votes;
+        fresh = no-votes [];
+        old = no-votes [];
         heard = λ r i a b. refl;
         unheard = λ r i a. refl;
         empty = λ y. absurd y;
@@ -56,7 +56,7 @@ module _ (P : Plan) (g : ℕ → ℕ) (m : ℕ) where
         status = refl;
         kept = R .kept;
         short = R .short;
-        fresh = no-votes;
+        fresh = no-votes (x .kept);
         old = olds k;
         heard = R .heard;
         unheard = R .unheard;

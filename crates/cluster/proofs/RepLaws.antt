@@ -1,5 +1,5 @@
 -- Stages 1 and 2 of the engine keep the relation with the step rules: what they make of a server that stands for the definitions' server
--- stands for what the definitions make of it. Every quorate pair is genuine, and so a known one. It stands on Order and on register's safety.
+-- stands for what the definitions make of it. Every quorate pair is genuine, and so a known one. It stands on Order, Settled and register's safety.
 use mathlib.Core.Path.{_≡_, refl, sym, ap, _∙_, fun-ext}
 use mathlib.Core.Bool.{Bool, true, false, not, _&&_, _||_, cond}
 use mathlib.Core.Logic.{inl, inr}
@@ -22,7 +22,7 @@ use Rattle.register.proofs.Stores.{Falling}
 use Rattle.register.proofs.Claims.{quorum-named}
 use Rattle.register.proofs.Safety.{FreshSafe, OldSafe, ServerSafe, voted-genuine}
 use Rattle.cluster.specs.Stored.{Plain, Both}
-use Rattle.cluster.specs.Stages.{restated, silent, quorate, taken, voting, withWrite, repliesTo, delivered, stageOne, stageTwo}
+use Rattle.cluster.specs.Stages.{restated, silent, quorate, isNew, taken, voting, withWrite, repliesTo, delivered, stageOne, stageTwo}
 use Rattle.cluster.specs.Inputs.{Knows}
 use Rattle.cluster.specs.State.{Votes, Rep}
 use Rattle.cluster.proofs.StageLaws.{write-kept}
@@ -30,6 +30,7 @@ use Rattle.cluster.proofs.Told.{Mid, Came}
 use Rattle.calendar.specs.Layout.{depth}
 use Rattle.calendar.proofs.Laws.{and-none, or-none}
 use Rattle.cluster.proofs.Order.{by-number}
+use Rattle.cluster.proofs.Settled.{written-alike, new-before}
 
 -- ---- counting by masks
 
@@ -73,28 +74,28 @@ module _ (P : Plan) (G : Good P) (g : ℕ → ℕ) (m : ℕ) (K : Knows P g m) w
   -- what is taken in
   kept-rep : (t c : ℕ) (x : Server) (ws : List ℕ) (fresh : List Claim) (w : ℕ) (votes old : ℕ → ℕ → Bool) → Falling (x .kept) → length (x .kept) ≤ depth
       → ((p : ℕ) → In p ws → Genuine P t p) → ((v : Claim) → In v fresh → FreshSafe P t c v) → ((v : Claim) → In v (x .old) → OldSafe P t c v)
-      → Votes P g m fresh votes → Votes P g m (x .old) old → ((j : ℕ) → j < m → member (g j) ws ≡ eqb j w)
+      → Votes P g m (x .kept) fresh votes → Votes P g m (x .kept) (x .old) old → ((j : ℕ) → j < m → member (g j) ws ≡ eqb j w)
       → takeIn depth (ws ++ votedIn P fresh (x .old)) (x .kept) ≡ taken (voting (echoQuorum P) (replyQuorum P) votes old) g m (cond (ltb w m) (take depth (insert (g w) (x .kept))) (x .kept))
   unfolding votedIn
   kept-rep t c x ws fresh w votes old d l wok vok ook ev eo ew =
-      by-number cnd g m w (ws ++ qs) (x .kept) d l to from
+      by-number meant g m w (ws ++ qs) (x .kept) d l to from
+      ∙ written-alike g m w (x .kept) l meant (voting (echoQuorum P) (replyQuorum P) votes old)
+      (λ j h n. sym (quorate-is fresh (x .old) (votes j) (old j) (g j) (λ i. ev j i h n) (λ i. eo j i h n)))
     where
       qs : List ℕ
       qs = filter (quorum P fresh (x .old)) (pairsOf (fresh ++ x .old))
 
-      cnd : ℕ → Bool
-      cnd j = quorate (echoQuorum P) (replyQuorum P) (votes j) (old j)
+      -- what the step rules take in, new or not
+      meant : ℕ → Bool
+      meant j = quorum P fresh (x .old) (g j)
 
-      same : (j : ℕ) → j < m → cnd j ≡ quorum P fresh (x .old) (g j)
-      same j h = quorate-is fresh (x .old) (votes j) (old j) (g j) (λ i. ev j i h) (λ i. eo j i h)
-
-      by-write : (q j : ℕ) → j < m → q ≡ g j → In q ws → T (eqb j w || cnd j)
+      by-write : (q j : ℕ) → j < m → q ≡ g j → In q ws → T (eqb j w || meant j)
       by-write q j h e i = or-l (eqb j w) _ (rw (ew j h) at (in-any (λ p. eqb p (g j)) q ws i (rw e (eqb-refl (g j)))))
 
-      by-votes : (q j : ℕ) → j < m → q ≡ g j → T (quorum P fresh (x .old) q) → T (eqb j w || cnd j)
-      by-votes q j h e y = or-r (eqb j w) _ (rw (same j h) (rw e at y))
+      by-votes : (q j : ℕ) → j < m → q ≡ g j → T (quorum P fresh (x .old) q) → T (eqb j w || meant j)
+      by-votes q j h e y = or-r (eqb j w) _ (rw e at y)
 
-      to : (q : ℕ) → In q (ws ++ qs) → (j : ℕ) × (j < m) × T (eqb j w || cnd j) × (q ≡ g j)
+      to : (q : ℕ) → In q (ws ++ qs) → (j : ℕ) × (j < m) × T (eqb j w || meant j) × (q ≡ g j)
       to q i = elim (in-append q ws qs i) [
         | inl a ↦ (let k = genuine-known t q (wok q a) in (k .0, k .1, by-write q (k .0) (k .1) (k .2) a, k .2))
         | inr a ↦ (let f = in-filter (quorum P fresh (x .old)) q (pairsOf (fresh ++ x .old)) a in
@@ -102,13 +103,12 @@ module _ (P : Plan) (G : Good P) (g : ℕ → ℕ) (m : ℕ) (K : Knows P g m) w
             (k .0, k .1, by-votes q (k .0) (k .1) (k .2) (f .1), k .2))
       ]
 
-      from : (j : ℕ) → j < m → T (eqb j w || cnd j) → In (g j) (ws ++ qs)
+      from : (j : ℕ) → j < m → T (eqb j w || meant j) → In (g j) (ws ++ qs)
       from j h y = elim (or-e (eqb j w) _ y) [
         | inl a ↦ (let e : T (member (g j) ws) = rw (ew j h) a in
             let r = any-in (λ p. eqb p (g j)) ws e in
             in-left (g j) ws qs (rw (eqb→eq (r .0) (g j) (r .2)) at (r .1)))
-        | inr a ↦ (let e : T (quorum P fresh (x .old) (g j)) = rw (same j h) at a in
-            in-right (g j) ws qs (filter-in (quorum P fresh (x .old)) (g j) (pairsOf (fresh ++ x .old)) (quorum-named P fresh (x .old) (g j) e) e))
+        | inr a ↦ in-right (g j) ws qs (filter-in (quorum P fresh (x .old)) (g j) (pairsOf (fresh ++ x .old)) (quorum-named P fresh (x .old) (g j) a) a)
       ]
 
   -- ---- stage 1
@@ -161,12 +161,19 @@ module _ (P : Plan) (G : Good P) (g : ℕ → ℕ) (m : ℕ) (K : Knows P g m) w
         kept' : List ℕ
         kept' = takeIn (P .depth) cs (x .kept)
 
-        eqk : isFaulty (s .status) ≡ false → kept' ≡ taken (voting e q votes (s .old)) g m (withWrite g m w s .kept)
-        eqk h =
+        eqx : isFaulty (s .status) ≡ false → kept' ≡ taken (voting e q votes (s .old)) g m (cond (ltb w m) (take depth (insert (g w) (x .kept))) (x .kept))
+        eqx h =
             ap (λ (d : ℕ). takeIn d cs (x .kept)) (K .depth)
             ∙ kept-rep t c x ws (x .fresh ++ vs) w votes (s .old) (ok .falling) (R .short) wok vok (ok .old) (I .tally (ap isFaulty (R .status) ∙ h)) (R .old) (I .wrote)
+
+        eqk : isFaulty (s .status) ≡ false → kept' ≡ taken (voting e q votes (s .old)) g m (withWrite g m w s .kept)
+        eqk h =
+            eqx h
             ∙ ap (λ (l : List ℕ). taken (voting e q votes (s .old)) g m (cond (ltb w m) (take depth (insert (g w) l)) l)) (R .kept)
             ∙ ap (taken (voting e q votes (s .old)) g m) (sym (write-kept g m w s))
+
+        was-new : isFaulty (s .status) ≡ false → (p : ℕ) → isNew p kept' ≡ true → isNew p (x .kept) ≡ true
+        was-new h p n = new-before g m w (x .kept) (R .short) (voting e q votes (s .old)) p (rw (eqx h) at n)
 
         lst : ℕ → Bool
         lst y = (s .pending y && live y) || asks y
@@ -202,8 +209,8 @@ module _ (P : Plan) (G : Good P) (g : ℕ → ℕ) (m : ℕ) (K : Knows P g m) w
                 status = R .status;
                 kept = eqk h;
                 short = small;
-                fresh = I .tally (ap isFaulty (R .status) ∙ h);
-                old = R .old;
+                fresh = λ j i l n. I .tally (ap isFaulty (R .status) ∙ h) j i l (was-new h (g j) n);
+                old = λ j i l n. R .old j i l (was-new h (g j) n);
                 heard = λ r i a b. list-rep r i (omega arith) (omega arith);
                 unheard = λ r i a. unlisted r i (omega arith);
                 empty = λ y. absurd (T-not (isFaulty (x .status)) (rw (R .status, h) tt) y);

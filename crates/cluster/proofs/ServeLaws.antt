@@ -28,10 +28,10 @@ use Rattle.cluster.specs.declared.Step.{Step}
 use Rattle.cluster.specs.declared.Links.{Links}
 use Rattle.cluster.specs.Links.{delayAt, linkBit}
 use Rattle.cluster.specs.Sends.{votesFor, reaches, sendsVote, sendsReply, sends}
-use Rattle.cluster.specs.Stored.{server, both, statusOf, absent}
+use Rattle.cluster.specs.Stored.{server, both, statusOf, keys, pairOf, absent}
 use Rattle.cluster.specs.Inputs.{Sized}
 use Rattle.cluster.specs.Settled.{Calm, reached, CalmlyServed, CalmlyTicked}
-use Rattle.cluster.specs.Tick.{Feed, Small, Heard, Stepped, Turned, Served, Ticked, endsOf, present}
+use Rattle.cluster.specs.Tick.{Feed, Small, Heard, Emptied, Stepped, Turned, Served, Ticked, endsOf, present}
 use Rattle.cluster.proofs.IdleLaws.{unreached, idle-turned}
 
 -- ---- nothing arrives in the tick in which it is sent
@@ -207,7 +207,7 @@ module _ (F : Feed) (ends : List ℕ) (c : List Server) where
 
       stepped : Stepped (F .work) b (F .arrivals) (F .movement) (F .t) (F .rules) (F .known .values) (F .known .m) (server (getD c b absent)) (both (T .out))
       stepped = let U = rw same at (T .done) in
-          record { votes = U .votes; came = λ h j i m. U .came h j i m ∙ rw (still j i m); stages = U .stages }
+          record { votes = U .votes; came = λ h j i m n. U .came h j i m n ∙ rw (still j i m); stages = U .stages }
 
       cells : (x j i : ℕ) → x < rows → j < places
           → sender after x j i ≡ (not (eqb (x / receivers) (F .t % 16) && ltb (x % receivers) (b + 1)) && sender (F .work) x j i) || (ltb i (b + 1) && sent i (outs i .row) x j)
@@ -266,21 +266,21 @@ module _ (F : Feed) (ends : List ℕ) (c : List Server) where
       served = λ calm. served-turn r work b l size (H .rest b (omega arith)) (H .served calm) now q after T;
     }
 
-    -- a server that nothing reaches
+    -- a server that nothing new reaches
     pub serving-idle : b < F .rules .n → F .known .m ≤ places → Small (getD c b absent .kept) → (any : Bool)
-        → any ≡ reached work b (F .arrivals) (F .movement) (F .t) (F .rules .delta) (statusOf (getD r b absent .status)) (getD r b absent .pending) → any ≡ false
-        → Serving r work (b + 1)
-    serving-idle own few small any e none = record {
-      past = H .past;
-      spans = H .spans;
+        → any ≡ reached work b (F .arrivals) (F .movement) (F .t) (F .rules .delta) (pairOf (F .known .values)) (statusOf (getD r b absent .status)) (getD r b absent .pending) (keys (getD r b absent .kept)) → any ≡ false
+        → (after : List ℕ) → Emptied work after (rowOf (F .t) b) → Serving r after (b + 1)
+    serving-idle own few small any e none after E = record {
+      past = record { size = E .rest .size ∙ H .past .size; past = λ k h. E .rest .past k h ∙ H .past .past k h };
+      spans = E .spans;
       rest = λ i h. H .rest i (omega arith);
-      served = λ calm. subst (λ (x : List Server). Served F ends c x work (b + 1)) (set-getD r b absent)
-          (served-turn r work b l size (H .rest b (omega arith)) (H .served calm) now (getD r b absent) work (idle calm));
+      served = λ calm. subst (λ (x : List Server). Served F ends c x after (b + 1)) (set-getD r b absent)
+          (served-turn r work b l size (H .rest b (omega arith)) (H .served calm) now (getD r b absent) after (idle calm));
     }
       where
-        idle : Calm (F .rules) (F .known) c → Turned (feedAt F work) ends b (getD r b absent) (getD r b absent) work
-        idle calm = idle-turned (feedAt F work) ends b (getD r b absent) l (H .spans) few (unreached work b (F .arrivals) (F .movement) (F .t) (F .rules .delta) (statusOf (getD r b absent .status)) (getD r b absent .pending) (sym e ∙ none))
-            (rw (H .rest b (omega arith)) (calm b own)) (rw (H .rest b (omega arith)) small)
+        idle : Calm (F .rules) (F .known) c → Turned (feedAt F work) ends b (getD r b absent) (getD r b absent) after
+        idle calm = idle-turned (feedAt F work) ends b (getD r b absent) l (H .spans) few (unreached work b (F .arrivals) (F .movement) (F .t) (F .rules .delta) (pairOf (F .known .values)) (statusOf (getD r b absent .status)) (getD r b absent .pending) (keys (getD r b absent .kept)) (sym e ∙ none))
+            (rw (H .rest b (omega arith)) (calm b own)) (rw (H .rest b (omega arith)) small) after E
 
 -- ---- the whole tick
 
@@ -319,7 +319,7 @@ module _ (F : Feed) (c : Cluster) (heard : List Reader) (served : List Server) (
     servers = S .size ∙ size;
     done = λ b l.
         let T = S .done b l in
-        record { votes = T .votes; came = λ h j i m. T .came h j i m ∙ rw (same-votes b j i (omega arith) m); stages = T .stages };
+        record { votes = T .votes; came = λ h j i m n. T .came h j i m n ∙ rw (same-votes b j i (omega arith) m); stages = T .stages };
     next = S .next;
     small = S .small;
     heard = H .readers;

@@ -10,18 +10,20 @@ use native.Mathlib.Decide.{ℕ-discrete}
 use lib.Dec.{eqb, leb, ltb}
 use lib.ListN.{length, take, length-take, getD}
 use lib.Seq.{take-all}
-use borrow.Author.Tests.{le-ltb, le-leb, lt-leb, eq-eqb, ne-eqb, eqb-true, eqb-false, ltb-true, ltb-false, leb-true}
-use Rattle.register.specs.Lists.{count}
+use borrow.Author.Tests.{le-ltb, le-leb, lt-leb, eq-eqb, ne-eqb, eqb-true, eqb-false, ltb-true, ltb-false, leb-true, not-false}
+use Rattle.register.specs.Lists.{count, sameList}
 use Rattle.register.specs.Server.{faulty, correct, isFaulty, curedAt, insert}
 use Rattle.register.proofs.Logic.{or-l}
+use Rattle.register.proofs.Lists.{sameList-eq}
 use Rattle.register.proofs.Counting.{count-none, count-mono}
 use Rattle.calendar.specs.Layout.{depth}
 use Rattle.cluster.specs.declared.Cluster.{Cluster}
 use Rattle.cluster.specs.declared.Rules.{Rules}
 use Rattle.cluster.specs.Stored.{Plain, Both, server, pairOf, absent}
-use Rattle.cluster.specs.Stages.{noVotes, silent, blankAs, resetAt, restated, turned, taken, voting, withWrite, delivered, stageOne, stageTwo, movedOn, stageFour, stagesOf}
+use Rattle.cluster.specs.Stages.{noVotes, silent, blankAs, resetAt, restated, turned, isNew, taken, voting, withWrite, delivered, stageOne, stageTwo, movedOn, stageFour, stagesOf}
 use Rattle.cluster.specs.Settled.{Settled}
 use Rattle.cluster.specs.Tick.{Feed, Ticked, firstOf}
+use Rattle.cluster.proofs.StoreLaws.{same-as-itself}
 use Rattle.cluster.proofs.StageLaws.{write-kept}
 
 -- ---- putting a pair in changes nothing
@@ -86,29 +88,89 @@ stands-more (suc n) p q (x ∷ l) w = go (ltb x q) (eqb x q) refl (λ v. stands-
     go false false d ih (inl e) = inl e
     go false false d ih (inr v) = inr (v .0, ih (v .1))
 
+put-keeps : (b : Bool) (p q : ℕ) (l : List ℕ) → Stands p l depth → Stands p (cond b (take depth (insert q l)) l) depth
+put-keeps true p q l w = stands-more depth p q l w
+put-keeps false p q l w = w
+
+put-few : (b : Bool) (q : ℕ) (l : List ℕ) → length l ≤ depth → length (cond b (take depth (insert q l)) l) ≤ depth
+put-few true q l h = omega (arith, length-take depth (insert q l))
+put-few false q l h = h
+
+-- ---- a pair that is not new to a store stays so
+
+not-new : (p : ℕ) (l : List ℕ) → isNew p l ≡ false → Stands p l depth
+unfolding isNew
+not-new p l e =
+    let same : take depth (insert p l) ≡ l = sameList-eq (take depth (insert p l)) l (rw (not-false (sameList (take depth (insert p l)) l) e) tt) in
+    subst (λ (k : List ℕ). Stands p k depth) same (stands-in depth p l)
+
+stands-known : (p : ℕ) (l : List ℕ) → length l ≤ depth → Stands p l depth → isNew p l ≡ false
+unfolding isNew
+stands-known p l h w = rw (stands-same depth p l h w, same-as-itself l)
+
+-- new to a store that has grown, then new to it before
+new-less : (p : ℕ) (l k : List ℕ) → length k ≤ depth → (Stands p l depth → Stands p k depth) → isNew p k ≡ true → isNew p l ≡ true
+new-less p l k h w n = go (isNew p l) refl
+  where
+    go : (b : Bool) → isNew p l ≡ b → b ≡ true
+    go true e = refl
+    go false e = sym (stands-known p k h (w (not-new p l e))) ∙ n
+
 -- ---- taking in by number
 
 taken-few : (c : ℕ → Bool) (g : ℕ → ℕ) (m : ℕ) (l : List ℕ) → length l ≤ depth → length (taken c g m l) ≤ depth
 unfolding taken
 taken-few c g zero l h = h
-taken-few c g (suc j) l h = go (c j) (taken-few c g j l h)
-  where
-    go : (b : Bool) → length (taken c g j l) ≤ depth → length (cond b (take depth (insert (g j) (taken c g j l))) (taken c g j l)) ≤ depth
-    go true k = omega (arith, length-take depth (insert (g j) (taken c g j l)))
-    go false k = k
+taken-few c g (suc j) l h = put-few (c j) (g j) (taken c g j l) (taken-few c g j l h)
+
+taken-keeps : (c : ℕ → Bool) (g : ℕ → ℕ) (m p : ℕ) (l : List ℕ) → Stands p l depth → Stands p (taken c g m l) depth
+unfolding taken
+taken-keeps c g zero p l w = w
+taken-keeps c g (suc m) p l w = put-keeps (c m) p (g m) (taken c g m l) (taken-keeps c g m p l w)
 
 taken-stands : (c : ℕ → Bool) (g : ℕ → ℕ) (m : ℕ) (l : List ℕ) (j : ℕ) → j < m → c j ≡ true → Stands (g j) (taken c g m l) depth
 unfolding taken
 taken-stands c g zero l j h e = absurd (omega arith)
 taken-stands c g (suc m) l j h e = go (ℕ-discrete j m) (λ d. taken-stands c g m l j d e)
   where
-    later : (b : Bool) → Stands (g j) (taken c g m l) depth → Stands (g j) (cond b (take depth (insert (g m) (taken c g m l))) (taken c g m l)) depth
-    later true w = stands-more depth (g j) (g m) (taken c g m l) w
-    later false w = w
-
     go : Dec (j ≡ m) → (j < m → Stands (g j) (taken c g m l) depth) → Stands (g j) (cond (c m) (take depth (insert (g m) (taken c g m l))) (taken c g m l)) depth
     go (yes d) ih = rw (← d, e) (stands-in depth (g j) (taken c g j l))
-    go (no d) ih = later (c m) (ih (omega arith))
+    go (no d) ih = put-keeps (c m) (g j) (g m) (taken c g m l) (ih (omega arith))
+
+-- whether a pair that is not new is taken in does not matter
+taken-alike : (c d : ℕ → Bool) (g : ℕ → ℕ) (m : ℕ) (l : List ℕ) → length l ≤ depth → ((j : ℕ) → j < m → isNew (g j) l ≡ true → c j ≡ d j) → taken c g m l ≡ taken d g m l
+unfolding taken
+taken-alike c d g zero l h e = refl
+taken-alike c d g (suc m) l h e = rw (taken-alike c d g m l h (λ j a. e j (omega arith))) (go (isNew (g m) l) refl)
+  where
+    k : List ℕ
+    k = taken d g m l
+
+    either : (a b : Bool) → cond a k k ≡ cond b k k
+    either true true = refl
+    either true false = refl
+    either false true = refl
+    either false false = refl
+
+    go : (b : Bool) → isNew (g m) l ≡ b → cond (c m) (take depth (insert (g m) (taken d g m l))) (taken d g m l) ≡ cond (d m) (take depth (insert (g m) (taken d g m l))) (taken d g m l)
+    go true n = rw (e m (omega arith) n)
+    go false n = rw (stands-same depth (g m) (taken d g m l) (taken-few d g m l h) (taken-keeps d g m (g m) l (not-new (g m) l n))) (either (c m) (d m))
+
+-- after the pair of a WRITE
+module _ (g : ℕ → ℕ) (m w : ℕ) (l : List ℕ) (few : length l ≤ depth) where
+  abbrev wrote : List ℕ
+  wrote = cond (ltb w m) (take depth (insert (g w) l)) l
+
+  pub written-alike : (c d : ℕ → Bool) → ((j : ℕ) → j < m → isNew (g j) l ≡ true → c j ≡ d j) → taken c g m (cond (ltb w m) (take depth (insert (g w) l)) l) ≡ taken d g m (cond (ltb w m) (take depth (insert (g w) l)) l)
+  written-alike c d e =
+      taken-alike c d g m wrote (put-few (ltb w m) (g w) l few)
+      (λ j h n. e j h (new-less (g j) l wrote (put-few (ltb w m) (g w) l few) (put-keeps (ltb w m) (g j) (g w) l) n))
+
+  -- what is new to the store afterwards was new before
+  pub new-before : (c : ℕ → Bool) (p : ℕ) → isNew p (taken c g m (cond (ltb w m) (take depth (insert (g w) l)) l)) ≡ true → isNew p l ≡ true
+  new-before c p =
+      new-less p l (taken c g m wrote) (taken-few c g m wrote (put-few (ltb w m) (g w) l few))
+      (λ v. taken-keeps c g m p wrote (put-keeps (ltb w m) p (g w) l v))
 
 -- what was settled is taken in to no effect
 pub taken-none : (c : ℕ → Bool) (g : ℕ → ℕ) (m : ℕ) (l : List ℕ) → ((j : ℕ) → j < m → c j ≡ true → take depth (insert (g j) l) ≡ l) → taken c g m l ≡ l
@@ -147,11 +209,7 @@ module _ (g : ℕ → ℕ) (m e r : ℕ) (he : 1 ≤ e) (hr : 1 ≤ r) where
   }
     where
       wrote : length (withWrite g m w s .kept) ≤ depth
-      wrote = rw (write-kept g m w s) (go (ltb w m))
-        where
-          go : (b : Bool) → length (cond b (take depth (insert (g w) (s .kept))) (s .kept)) ≤ depth
-          go true = omega (arith, length-take depth (insert (g w) (s .kept)))
-          go false = h
+      wrote = rw (write-kept g m w s) (put-few (ltb w m) (g w) (s .kept) h)
 
       small : length (taken (voting e r votes (s .old)) g m (withWrite g m w s .kept)) ≤ depth
       small = taken-few (voting e r votes (s .old)) g m (withWrite g m w s .kept) wrote

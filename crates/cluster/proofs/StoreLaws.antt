@@ -1,21 +1,26 @@
--- Putting a pair into a store, and comparing two stores, for any number of places. It stands on the definition of insert.
+-- Putting a pair into a store, comparing two stores, and pairs that are new to one. It stands on the definition of insert.
 use mathlib.Core.Path.{_≡_, refl, sym, ap, _∙_}
-use mathlib.Core.Bool.{Bool, true, false, _&&_, _||_, cond}
+use mathlib.Core.Bool.{Bool, true, false, not, _&&_, _||_, cond}
 use mathlib.Core.Logic.{_⊎_, inl, inr, _≢_}
 use mathlib.Core.List.{List, [], _∷_}
 use Prim.Native.Nat.{ℕ, zero, suc, _+_, _≤_, _<_}
 use native.Mathlib.Numerals.{add-one}
 use native.Mathlib.Nat.{le-of-suc-le-suc, eq-or-lt-of-le, suc-inj}
 use native.Mathlib.Omega.{arith}
-use lib.Dec.{eqb, eqb·zero-suc, eqb·suc-zero, eqb·suc-suc}
+use native.Mathlib.Decide.{decLe}
+use lib.Dec.{eqb, leb, ltb, eqb·zero-suc, eqb·suc-zero, eqb·suc-suc}
 use lib.ListN.{length, take, drop, getD, set, drop-of-length-le, List·getD-eq-default}
 use lib.Seq.{take-all, take-at, length-take-le, take-suc-set, drop-set-lt, drop-cons, append-snoc}
-use borrow.Author.Tests.{lt-ltb, le-ltb, eq-eqb, ne-eqb}
-use Rattle.register.specs.Lists.{sameList}
+use borrow.Author.Tests.{lt-ltb, le-ltb, le-leb, lt-leb, eq-eqb, ne-eqb}
+use Rattle.register.specs.Lists.{anyUpTo, sameList}
 use Rattle.register.specs.Server.{insert}
+use Rattle.register.proofs.Counting.{anyUpTo-i}
+use Rattle.register.proofs.Logic.{T-eq}
 use Rattle.calendar.specs.declared.Stamped.{Stamped}
+use Rattle.calendar.specs.Layout.{depth}
 use Rattle.calendar.specs.Posts.{vacant}
 use Rattle.cluster.specs.Stored.{keyOf, keys, placeOf, putAt}
+use Rattle.cluster.specs.Stages.{isNew, anyNew}
 
 cut : (b : Bool) (n p : ℕ) (ps : List ℕ) → take (suc n) (cond b (p ∷ ps) []) ≡ cond b (p ∷ take n ps) []
 cut true n p ps = refl
@@ -153,3 +158,75 @@ module _ (a b : List Stamped) where
 
     pub same-on : x ≡ y → x ≢ 0 → sameFrom (i + 1) ≡ sameFrom i
     same-on e d = rw (add-one i) (sym (sym here ∙ rw (eq-eqb x y e, ne-eqb x 0 d)))
+
+-- ---- pairs that are new to a store
+
+pub same-as-itself : (l : List ℕ) → sameList l l ≡ true
+unfolding sameList
+same-as-itself [] = refl
+same-as-itself (x ∷ l) = rw (eq-eqb x x refl) (same-as-itself l)
+
+module _ (p : Stamped) (is : p .kept ≡ true) where
+  -- at a lower place p goes before another pair
+  changed-at : (n i : ℕ) (ps : List Stamped) → i < n → i < length ps → Above p i ps → placeOf (getD ps i vacant) < placeOf p → sameList (take n (insert (keyOf p) (keys ps))) (keys ps) ≡ false
+  unfolding insert keys sameList
+  changed-at zero i ps h k a l = absurd (omega arith)
+  changed-at (suc n) i [] h k a l = absurd (omega arith)
+  changed-at (suc n) zero (x ∷ ps) h k a l = go (x .kept) refl
+    where
+      go : (b : Bool) → x .kept ≡ b → sameList (take (suc n) (insert (keyOf p) (keys (x ∷ ps)))) (keys (x ∷ ps)) ≡ false
+      go false e = rw e
+      go true e =
+          let z : keyOf x < keyOf p = le-of-suc-le-suc (rw (e, is) at l) in
+          rw (e, lt-ltb (keyOf x) (keyOf p) z, ne-eqb (keyOf p) (keyOf x) (λ q. omega arith))
+  changed-at (suc n) (suc i) (x ∷ ps) h k a l = go (x .kept) refl (changed-at n i ps (omega arith) (omega arith) (λ j q. a (suc j) (omega arith)) l)
+    where
+      go : (b : Bool) → x .kept ≡ b → sameList (take n (insert (keyOf p) (keys ps))) (keys ps) ≡ false → sameList (take (suc n) (insert (keyOf p) (keys (x ∷ ps)))) (keys (x ∷ ps)) ≡ false
+      go false e ih = let z : suc (keyOf p) < 0 = rw (e, is) at (a 0 (omega arith)) in absurd (omega arith)
+      go true e ih =
+          let z : keyOf p < keyOf x = le-of-suc-le-suc (rw (e, is) at (a 0 (omega arith))) in
+          rw (e, le-ltb (keyOf x) (keyOf p) (omega arith), ne-eqb (keyOf x) (keyOf p) (λ q. omega arith), eq-eqb (keyOf x) (keyOf x) refl) ih
+
+  module _ (ps : List Stamped) (size : length ps ≡ depth) where
+    new-lower : (i : ℕ) → i < depth → Above p i ps → placeOf (getD ps i vacant) < placeOf p → isNew (keyOf p) (keys ps) ≡ true
+    unfolding isNew
+    new-lower i h a l = rw (changed-at depth i ps h (omega arith) a l)
+
+    unchanged : keys ps ≡ take depth (insert (keyOf p) (keys ps)) → isNew (keyOf p) (keys ps) ≡ false
+    unfolding isNew
+    unchanged e = rw (← e, same-as-itself (keys ps))
+
+    -- at the first place that is not higher
+    pub new-first : (i : ℕ) → i < depth → Above p i ps → placeOf (getD ps i vacant) ≤ placeOf p → ltb (placeOf (getD ps i vacant)) (placeOf p) ≡ isNew (keyOf p) (keys ps)
+    new-first i h a l = go (eq-or-lt-of-le l)
+      where
+        go : (placeOf (getD ps i vacant) ≡ placeOf p) ⊎ (placeOf (getD ps i vacant) < placeOf p) → ltb (placeOf (getD ps i vacant)) (placeOf p) ≡ isNew (keyOf p) (keys ps)
+        go (inl e) = rw (le-ltb (placeOf (getD ps i vacant)) (placeOf p) (omega arith), unchanged (put-same p is depth ps size i h a e))
+        go (inr k) = rw (lt-ltb (placeOf (getD ps i vacant)) (placeOf p) k, new-lower i h a k)
+
+    pub new-none : Above p depth ps → isNew (keyOf p) (keys ps) ≡ false
+    new-none a = unchanged (put-none p is depth ps size a)
+
+-- one of some pairs is
+module _ (g : ℕ → ℕ) (l : List ℕ) (low : ℕ) where
+  pub some-new : (high j : ℕ) → low ≤ j → j < high → isNew (g j) l ≡ true → anyNew g l low high ≡ true
+  some-new high j h k e = T-eq (anyNew g l low high) (anyUpTo-i high (λ i. leb low i && isNew (g i) l) j k (rw (le-leb low j h, e) tt))
+
+  abbrev pub NoneNew : ℕ → Type 0
+  NoneNew high = (j : ℕ) → low ≤ j → j < high → isNew (g j) l ≡ false
+
+  pub none-more : (j : ℕ) → NoneNew j → isNew (g j) l ≡ false → NoneNew (j + 1)
+  none-more j f e i h k = go (eq-or-lt-of-le k)
+    where
+      go : (suc i ≡ j + 1) ⊎ (suc i < j + 1) → isNew (g i) l ≡ false
+      go (inl q) = let z : i ≡ j = omega arith in rw z e
+      go (inr q) = f i h (omega arith)
+
+  pub none-new : (high : ℕ) → NoneNew high → anyNew g l low high ≡ false
+  unfolding anyUpTo
+  none-new zero f = refl
+  none-new (suc j) f = rw (none-new j (λ i h k. f i h (omega arith))) (go (decLe low j))
+    where
+      go : Dec (low ≤ j) → (leb low j && isNew (g j) l) || false ≡ false
+      go (yes h) = rw (le-leb low j h, f j h (omega arith))
+      go (no h) = rw (lt-leb low j (omega arith))

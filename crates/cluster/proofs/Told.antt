@@ -38,7 +38,7 @@ module _ (P : Plan) (g : ℕ → ℕ) (m : ℕ) where
   -- not begin in tick t - 1
   pub record Came (t : ℕ) (x : Server) (ws : List ℕ) (vs : List Claim) (rs : List Read) (w : ℕ) (votes : ℕ → ℕ → Bool) (asks live : ℕ → Bool) : Type 0 where
     pub wrote : (j : ℕ) → j < m → member (g j) ws ≡ eqb j w
-    pub tally : isFaulty (x .status) ≡ false → Votes P g m (x .fresh ++ vs) votes
+    pub tally : isFaulty (x .status) ≡ false → Votes P g m (x .kept) (x .fresh ++ vs) votes
     pub asking : (r : Read) → In r (P .reads) → r .begun < t → t ≤ readEnd P r → any (sameRead r) rs ≡ asks (r .reader)
     pub later : (r : Read) → In r (P .reads) → t ≤ r .begun → any (sameRead r) rs ≡ false
     pub lasting : (r : Read) → In r (P .reads) → suc (r .begun) < t → t ≤ readEnd P r → live (r .reader) ≡ true

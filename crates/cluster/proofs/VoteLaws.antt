@@ -33,7 +33,7 @@ use Rattle.cluster.specs.declared.Rules.{Rules}
 use Rattle.cluster.specs.Links.{delayAt}
 use Rattle.cluster.specs.Sends.{votesFor, sendsVote, sendsReply, sends}
 use Rattle.cluster.specs.Stored.{Plain, Both, keyOf, keys, server, both, absent}
-use Rattle.cluster.specs.Stages.{stageOne, stageTwo, stageFour, stagesOf}
+use Rattle.cluster.specs.Stages.{isNew, stageOne, stageTwo, stageFour, stagesOf}
 use Rattle.cluster.specs.Inputs.{pairAt, Knows, Fits}
 use Rattle.cluster.specs.Tick.{Feed, Small, Stepped, present, Ticked, endsOf}
 use Rattle.cluster.specs.Way.{forgedAs, voteWay}
@@ -147,9 +147,9 @@ module _ (P : Plan) (G : Good P) (F : Feed) (fit : Fits P (F .t) (F .plan) (F .r
         go (yes l) = rw (le-ltb i (P .n) l)
         go (no l) = rw (votes-arrive P G t b (g j) i (omega arith))
 
-    tally : isFaulty (x .status) ≡ false → Votes P g m (x .fresh ++ vs) (step .votes)
-    tally y j i h =
-        step .came (sym (ap isFaulty (R .status)) ∙ y) j i (omega (arith, K .few)) ∙ rw (R .fresh j i h, arrived j i h, has-append (x .fresh) vs (g j) i)
+    tally : isFaulty (x .status) ≡ false → Votes P g m (x .kept) (x .fresh ++ vs) (step .votes)
+    tally y j i h n =
+        step .came (sym (ap isFaulty (R .status)) ∙ y) j i (omega (arith, K .few)) (sym (ap (isNew (g j)) (R .kept)) ∙ n) ∙ rw (R .fresh j i h n, arrived j i h, has-append (x .fresh) vs (g j) i)
         (both-in (ltb i (P .n)) (has (x .fresh) (g j) i) (has vs (g j) i))
       where
         both-in : (a b c : Bool) → (a && b) || (a && c) ≡ a && (b || c)

@@ -1,14 +1,14 @@
 -- Servers that have taken in every pair with a quorum. Taking such a pair in again changes nothing, so a tick in which nothing reaches such a
--- server leaves it as it is.
+-- server, or only votes for pairs that are not new to it, leaves it as it is.
 use mathlib.Core.Path.{_≡_}
-use mathlib.Core.Bool.{Bool, true, not, _||_}
+use mathlib.Core.Bool.{Bool, true, not, _&&_, _||_}
 use mathlib.Core.List.{List}
 use Prim.Native.Nat.{ℕ, _≤_, _<_}
 use lib.Bits.{bitAnd}
 use lib.Dec.{eqb, ltb}
 use lib.ListN.{length, take, getD}
-use Rattle.register.specs.Server.{Status, insert, curedAt}
-use Rattle.calendar.specs.Layout.{places, depth, rowOf, highOf}
+use Rattle.register.specs.Server.{Status, isFaulty, insert, curedAt}
+use Rattle.calendar.specs.Layout.{places, depth, rowOf, lowOf, highOf}
 use Rattle.calendar.specs.View.{SamePast, Spanned}
 use Rattle.cluster.specs.declared.Server.{Server}
 use Rattle.cluster.specs.declared.Cluster.{Cluster}
@@ -17,7 +17,7 @@ use Rattle.cluster.specs.declared.Known.{Known}
 use Rattle.cluster.specs.declared.Arrivals.{Arrivals}
 use Rattle.cluster.specs.declared.Movement.{Movement}
 use Rattle.cluster.specs.Stored.{Plain, server, pairOf, absent}
-use Rattle.cluster.specs.Stages.{voting}
+use Rattle.cluster.specs.Stages.{voting, anyNew}
 use Rattle.cluster.specs.Tick.{Feed, Served, Ticked}
 
 pub record Settled (g : ℕ → ℕ) (m e r : ℕ) (s : Plain) : Type 0 where
@@ -29,15 +29,15 @@ abbrev pub Calm : Rules → Known → List Server → Type 0
 Calm rules known c = (b : ℕ) → b < rules .n → Settled (pairOf (known .values)) (known .m) (rules .echo) (rules .reply) (server (getD c b absent))
 
 -- something reaches server b in tick t, or one of its stages has something to do: a movement, a READ, a WRITE, a read that drops out of its
--- list, the end of its cure, a vote
-unfoldable pub reached : List ℕ → ℕ → Arrivals → Movement → ℕ → ℕ → Status → ℕ → Bool
-reached work b arrivals movement t delta status pending =
+-- list, the end of its cure, a vote for a pair that is new to it; a faulty server loses its votes
+unfoldable pub reached : List ℕ → ℕ → Arrivals → Movement → ℕ → ℕ → (ℕ → ℕ) → Status → ℕ → List ℕ → Bool
+reached work b arrivals movement t delta g status pending kept =
     movement .moving
     || (not (eqb (getD (arrivals .asks) b 0) 0)
     || (ltb (getD (arrivals .wrote) b 0) places
     || (not (eqb (bitAnd pending (arrivals .live)) pending)
     || (curedAt delta t status
-    || not (eqb (highOf work (rowOf t b)) 0)))))
+    || (not (isFaulty status) && anyNew g kept (lowOf work (rowOf t b)) (highOf work (rowOf t b)))))))
 
 module _ (F : Feed) where
   -- the servers have done the tick if they were settled; the workspace is in order in any case

@@ -1,11 +1,11 @@
 -- The engine's stages on a server apart from how it is stored. Pairs are known by number: pair j is g j, j < m; e and r are the quorums.
 use mathlib.Core.Path.{_≡_}
-use mathlib.Core.Bool.{Bool, true, false, _&&_, _||_, cond}
+use mathlib.Core.Bool.{Bool, true, false, not, _&&_, _||_, cond}
 use mathlib.Core.List.{List, []}
 use Prim.Native.Nat.{ℕ, zero, suc, _<_}
 use lib.Dec.{eqb, leb, ltb}
 use lib.ListN.{take}
-use Rattle.register.specs.Lists.{count, sameList}
+use Rattle.register.specs.Lists.{count, anyUpTo, sameList}
 use Rattle.register.specs.Server.{Status, faulty, cured, correct, isFaulty, isCorrect, curedAt, insert}
 use Rattle.calendar.specs.Layout.{places, depth}
 use Rattle.cluster.specs.declared.Rules.{Rules}
@@ -62,6 +62,14 @@ voting e r fresh old j = quorate e r (fresh j) (old j)
 unfoldable pub taken : (ℕ → Bool) → (ℕ → ℕ) → ℕ → List ℕ → List ℕ
 taken c g zero l = l
 taken c g (suc j) l = cond (c j) (take depth (insert (g j) (taken c g j l))) (taken c g j l)
+
+-- putting pair p in changes the store: the store does not have it, and is not full of higher ones
+unfoldable pub isNew : ℕ → List ℕ → Bool
+isNew p l = not (sameList (take depth (insert p l)) l)
+
+-- one of the pairs low .. high - 1 does
+abbrev pub anyNew : (ℕ → ℕ) → List ℕ → ℕ → ℕ → Bool
+anyNew g l low high = anyUpTo high (λ j. leb low j && isNew (g j) l)
 
 -- the WRITE's pair, if its number is a known one
 abbrev pub withWrite : (ℕ → ℕ) → ℕ → ℕ → Plain → Plain

@@ -1,7 +1,8 @@
 -- The engine's state stands for the cluster of the step rules: each server for its server, the calendar for what is under way, each reader for
--- what its open read has noted. Votes and replies are kept for the known pairs only: pair j is g j, j < m.
+-- what its open read has noted. Votes and replies are kept for the known pairs only: pair j is g j, j < m. A server's votes need to be right only
+-- for pairs that are new to its store: a pair that is not stays so until the server is wiped, and its votes change nothing.
 use mathlib.Core.Path.{_≡_}
-use mathlib.Core.Bool.{Bool, false, _&&_}
+use mathlib.Core.Bool.{Bool, true, false, _&&_}
 use mathlib.Core.List.{List, []}
 use Prim.Native.Nat.{ℕ, suc, _+_, _-_, _≤_, _<_}
 use lib.Dec.{T, ltb}
@@ -17,7 +18,7 @@ use Rattle.cluster.specs.declared.Cluster.{Cluster}
 use Rattle.cluster.specs.declared.Reader.{Reader}
 use Rattle.cluster.specs.Bits.{sets}
 use Rattle.cluster.specs.Stored.{Plain, server, absent}
-use Rattle.cluster.specs.Stages.{nobody}
+use Rattle.cluster.specs.Stages.{nobody, isNew}
 use Rattle.cluster.specs.Settled.{Settled}
 use Rattle.cluster.specs.Tick.{noReader}
 use Rattle.cluster.specs.Way.{voteWay, replyWay, heardWay}
@@ -34,17 +35,17 @@ module _ (P : Plan) where
   Idle t x = (r : Read) → In r (P .reads) → r .reader ≡ x → r .begun < t → readEnd P r < t
 
   module _ (g : ℕ → ℕ) (m : ℕ) where
-    -- the sets of voters by number say who voted for the pair of this number
-    abbrev pub Votes : List Claim → (ℕ → ℕ → Bool) → Type 0
-    Votes vs f = (j i : ℕ) → j < m → f j i ≡ (ltb i (P .n) && has vs (g j) i)
+    -- the sets of voters by number say who voted for the pair of this number, if it is new to the store
+    abbrev pub Votes : List ℕ → List Claim → (ℕ → ℕ → Bool) → Type 0
+    Votes kept vs f = (j i : ℕ) → j < m → isNew (g j) kept ≡ true → f j i ≡ (ltb i (P .n) && has vs (g j) i)
 
     -- a server before tick t
     pub record Rep (t : ℕ) (x : Server) (s : Plain) : Type 0 where
       pub status : x .status ≡ s .status
       pub kept : x .kept ≡ s .kept
       pub short : length (x .kept) ≤ depth
-      pub fresh : Votes (x .fresh) (s .fresh)
-      pub old : Votes (x .old) (s .old)
+      pub fresh : Votes (x .kept) (x .fresh) (s .fresh)
+      pub old : Votes (x .kept) (x .old) (s .old)
       -- a read that is open: its reader's bit
       pub heard : (r : Read) → In r (P .reads) → suc (r .begun) < t → t ≤ suc (readEnd P r) → any (sameRead r) (x .pending) ≡ s .pending (r .reader)
       pub unheard : (r : Read) → In r (P .reads) → t ≤ suc (r .begun) → any (sameRead r) (x .pending) ≡ false

@@ -25,7 +25,7 @@ use Rattle.cluster.specs.declared.Movement.{Movement}
 use Rattle.cluster.specs.declared.Feed.{Feed as Fed}
 use Rattle.cluster.specs.Bits.{sets}
 use Rattle.cluster.specs.Stored.{Plain, Both, server, both, pairOf, absent}
-use Rattle.cluster.specs.Stages.{nobody, noVotes, stagesOf}
+use Rattle.cluster.specs.Stages.{nobody, noVotes, isNew, stagesOf}
 use Rattle.cluster.specs.Sends.{sends}
 
 -- ---- the readers
@@ -57,14 +57,20 @@ pub record Heard (work after : List ℕ) (t : ℕ) (s r : List Reader) : Type 0 
 
 -- ---- one server
 
+-- what arrives in a row is taken; the other rows are as they were
+pub record Emptied (work after : List ℕ) (row : ℕ) : Type 0 where
+  pub rest : SamePast work after
+  pub spans : Spanned after places
+  pub cells : (x j i : ℕ) → x < rows → j < places → sender after x j i ≡ (not (eqb x row) && sender work x j i)
+
 -- a store is no deeper than it may be, and its values have 16 bits
 abbrev pub Small : List Stamped → Type 0
 Small kept = (length kept ≤ depth) × ((q : ℕ) → getD kept q vacant .value < 65536)
 
--- the stages of server b in tick t, with the votes that arrive
+-- the stages of server b in tick t, with the votes that arrive for pairs that are new to it; what it notes of other votes changes nothing
 pub record Stepped (work : List ℕ) (b : ℕ) (arrivals : Arrivals) (movement : Movement) (t : ℕ) (rules : Rules) (values : List ℕ) (m : ℕ) (s : Plain) (r : Both) : Type 0 where
   pub votes : ℕ → ℕ → Bool
-  pub came : isFaulty (s .status) ≡ false → (j i : ℕ) → j < places → votes j i ≡ (s .fresh j i || sender work (rowOf t b) j i)
+  pub came : isFaulty (s .status) ≡ false → (j i : ℕ) → j < places → isNew (pairOf values j) (s .kept) ≡ true → votes j i ≡ (s .fresh j i || sender work (rowOf t b) j i)
   pub stages : r ≡ stagesOf (pairOf values) m rules (getD (arrivals .wrote) b 0) votes (λ x. bit x (getD (arrivals .asks) b 0)) (λ x. bit x (arrivals .live))
       (movement .moving) (bit (15 - b) (movement .faulty)) t s
 

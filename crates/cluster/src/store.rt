@@ -2,13 +2,15 @@
 ghost use mathlib.Core.Path.{_≡_};
 ghost use mathlib.Core.Bool.{true};
 ghost use mathlib.Core.List.{[]};
-ghost use Prim.Native.Nat.{_<_};
+ghost use Prim.Native.Nat.{_<_, _≤_};
 ghost use lib.ListN.{take};
 ghost use Rattle.register.specs.Lists.{sameList};
 ghost use Rattle.register.specs.Server.{insert};
-ghost use Rattle.calendar.specs.Layout.{depth};
-ghost use Rattle.cluster.specs.Stored.{keys, keyOf, placeOf, putAt};
+ghost use Rattle.calendar.specs.Layout.{places, depth};
+ghost use Rattle.cluster.specs.Stored.{keys, keyOf, placeOf, pairOf, putAt};
+ghost use Rattle.cluster.specs.Stages.{isNew, anyNew};
 use calendar::DEPTH;
+use calendar::PLACES;
 use calendar::Stamped;
 
 // How many values there are.
@@ -59,6 +61,43 @@ pub fn insert(kept: [Stamped; DEPTH], p: Stamped) -> [Stamped; DEPTH]
         i += 1;
     }
     kept
+}
+
+// Would p change the store: not if the store has it, or is full of higher ones.
+fn is_new(kept: [Stamped; DEPTH], p: Stamped) -> bool
+    requires { ⌜ p .kept ≡ true ⌝ }
+    ensures { λ r. ⌜ r ≡ isNew (keyOf p) (keys kept) ⌝ }
+{
+    let mine = place(p);
+    let mut i: usize = 0;
+    while i < DEPTH {
+        let here = place(kept[i]);
+        if here <= mine {
+            return here < mine;
+        }
+        i += 1;
+    }
+    false
+}
+
+// Would one of the known pairs low .. high - 1 change the store.
+pub fn is_any_new(kept: [Stamped; DEPTH], values: &[u16; PLACES], low: usize, high: usize) -> bool
+    requires { ⌜ high ≤ places ⌝ }
+    ensures { λ r. ⌜ r ≡ anyNew (pairOf (now (values .entry))) (keys kept) low high ⌝ }
+{
+    let mut j = low;
+    while j < high {
+        let p = Stamped {
+            kept: true,
+            number: j as u8,
+            value: values[j],
+        };
+        if is_new(kept, p) {
+            return true;
+        }
+        j += 1;
+    }
+    false
 }
 
 // No pair.

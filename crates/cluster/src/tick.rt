@@ -3,12 +3,12 @@ ghost use mathlib.Core.Path.{_≡_};
 ghost use Prim.Native.Nat.{_<_, _≤_, _+_, _-_};
 ghost use lib.ListN.{length};
 ghost use Rattle.calendar.specs.Bits.{bit};
-ghost use Rattle.calendar.specs.Layout.{rows, places, calendarSize};
+ghost use Rattle.calendar.specs.Layout.{rows, places, calendarSize, rowOf};
 ghost use Rattle.calendar.specs.View.{Spanned};
-ghost use Rattle.cluster.specs.Stored.{server, both, statusOf};
+ghost use Rattle.cluster.specs.Stored.{server, both, statusOf, keys, pairOf};
 ghost use Rattle.cluster.specs.Inputs.{Sized};
 ghost use Rattle.cluster.specs.Settled.{reached, CalmlyServed, CalmlyTicked};
-ghost use Rattle.cluster.specs.Tick.{Stepped, Heard, Turned, Started, endsOf, feedOf};
+ghost use Rattle.cluster.specs.Tick.{Stepped, Heard, Emptied, Turned, Started, endsOf, feedOf};
 use super::Arrivals;
 use super::Cluster;
 use super::Feed;
@@ -23,6 +23,7 @@ use super::Step;
 use super::sending;
 use super::servers;
 use super::store;
+use calendar::DEPTH;
 use calendar::PLACES;
 use calendar::Stamped;
 
@@ -79,7 +80,8 @@ fn hear(readers: [Reader; READERS], work: &mut [u8], t: usize) -> [Reader; READE
     heard
 }
 
-// Does anything reach server b in tick t, or has one of its stages something to do. Most servers in most ticks: no.
+// Does anything that matters reach server b in tick t, or has one of its stages something to do. Most servers in most ticks: no. Votes for pairs
+// that are not new to its store never come to anything.
 fn is_reached(
     work: &[u8],
     b: usize,
@@ -89,9 +91,11 @@ fn is_reached(
     delta: u8,
     status: Status,
     pending: u8,
+    kept: [Stamped; DEPTH],
+    values: &[u16; PLACES],
 ) -> bool
-    requires { ⌜ (b < 16) × (calendarSize ≤ length (now work)) ⌝ }
-    ensures { λ r. ⌜ r ≡ reached (now (work .entry)) b arrivals movement t delta (statusOf status) pending ⌝ }
+    requires { ⌜ (b < 16) × (calendarSize ≤ length (now work)) × Spanned (now work) places ⌝ }
+    ensures { λ r. ⌜ r ≡ reached (now (work .entry)) b arrivals movement t delta (pairOf (now (values .entry))) (statusOf status) pending (keys kept) ⌝ }
 {
     if movement.moving {
         return true;
@@ -108,7 +112,27 @@ fn is_reached(
     if servers::is_cured_at(status, t, delta) {
         return true;
     }
-    calendar::high(work, calendar::row(t as usize, b)) != 0
+    if servers::is_faulty(status) {
+        return false;
+    }
+    let row = calendar::row(t as usize, b);
+    store::is_any_new(
+        kept,
+        values,
+        calendar::low(work, row),
+        calendar::high(work, row),
+    )
+}
+
+// What arrives at server b is taken, to no effect.
+fn pass_over(work: &mut [u8], t: usize, b: usize)
+    requires { ⌜ (b < 16) × (calendarSize ≤ length (now work)) × Spanned (now work) places ⌝ }
+    ensures { λ _. ⌜ Emptied (now (work .entry)) (now (work .exit)) (rowOf t b) ⌝ }
+{
+    let row = calendar::row(t, b);
+    if calendar::high(work, row) != 0 {
+        calendar::clear(work, row);
+    }
 }
 
 // The stages of server b; `ends` has the ticks in which the readers' last reads end.
@@ -137,7 +161,7 @@ fn turn(
     o.server
 }
 
-// The stages of all servers. A settled server that nothing reaches is left alone: its stages would change nothing.
+// The stages of all servers. A settled server that nothing new reaches is left alone: its stages would change nothing that counts.
 fn serve(
     servers: [Server; SERVERS],
     work: &mut [u8],
@@ -154,15 +178,31 @@ fn serve(
     let t = feed.t;
     let arrivals = feed.arrivals;
     let movement = feed.movement;
+    let known = feed.known;
+    let values = known.values;
     let mut served = servers;
     let mut b: usize = 0;
     while b < n {
         let here = served[b];
         let status = here.status;
         let pending = here.pending;
-        if is_reached(work, b, arrivals, movement, t, delta, status, pending) {
+        let kept = here.kept;
+        if is_reached(
+            work,
+            b,
+            arrivals,
+            movement,
+            t,
+            delta,
+            status,
+            pending,
+            kept,
+            &values,
+        ) {
             let s = served[b];
             served[b] = turn(s, work, plan, b, feed, ends);
+        } else {
+            pass_over(work, t as usize, b);
         }
         b += 1;
     }

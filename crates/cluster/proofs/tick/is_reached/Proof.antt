@@ -38,15 +38,30 @@ returns-5 : tie.Need-returns-5
 unfolding reached
 returns-5 c = rw (c .before .before .before .before .before .before .before .if1 .left, eq-eqb _ _ (c .before .before .before .before .before .if2 .left), le-ltb _ _ (c .before .before .before .if3 .left), eq-eqb _ _ (c .before .before .if4 .left), sym (c .before .is-cured-at .ensures) ∙ c .if5 .taken)
 
+is-faulty-requires : tie.Need-is-faulty-requires
+is-faulty-requires c κs = search needs
+
+returns-6 : tie.Need-returns-6
+unfolding reached
+returns-6 c = rw (c .before .before .before .before .before .before .before .before .before .if1 .left, eq-eqb _ _ (c .before .before .before .before .before .before .before .if2 .left), le-ltb _ _ (c .before .before .before .before .before .if3 .left), eq-eqb _ _ (c .before .before .before .before .if4 .left), sym (c .before .before .before .is-cured-at .ensures) ∙ c .before .before .if5 .left, sym (c .before .is-faulty .ensures) ∙ c .if6 .taken)
+
 row-requires : tie.Need-row-requires
 row-requires c κs = search needs
+
+low-requires : tie.Need-low-requires
+low-requires c κs = search needs
 
 high-requires : tie.Need-high-requires
 high-requires c κs = search needs
 
-returns-6 : tie.Need-returns-6
+is-any-new-requires : tie.Need-is-any-new-requires
+is-any-new-requires c κs =
+    let r = c .before .before .row in
+    rw (c .high .ensures .0) (c .before .before .before .before .before .before .before .before .before .before .before .before .before .before .pre .2 .top (r .result) (r .ensures .1))
+
+returns-7 : tie.Need-returns-7
 unfolding reached
-returns-6 c = rw (c .before .before .before .before .before .before .before .before .before .if1 .left, eq-eqb _ _ (c .before .before .before .before .before .before .before .if2 .left), le-ltb _ _ (c .before .before .before .before .before .if3 .left), eq-eqb _ _ (c .before .before .before .before .if4 .left), sym (c .before .before .before .is-cured-at .ensures) ∙ c .before .before .if5 .left, c .high .ensures .0, c .before .row .ensures .0)
+returns-7 c = rw (c .before .before .before .before .before .before .before .before .before .before .before .before .before .if1 .left, eq-eqb _ _ (c .before .before .before .before .before .before .before .before .before .before .before .if2 .left), le-ltb _ _ (c .before .before .before .before .before .before .before .before .before .if3 .left), eq-eqb _ _ (c .before .before .before .before .before .before .before .before .if4 .left), sym (c .before .before .before .before .before .before .before .is-cured-at .ensures) ∙ c .before .before .before .before .before .before .if5 .left, sym (c .before .before .before .before .before .is-faulty .ensures) ∙ c .before .before .before .before .if6 .left, c .is-any-new .ensures, c .before .before .low .ensures .0, c .before .high .ensures .0, c .before .before .before .row .ensures .0)
 
 pub is-reached-spec : {M : Type 1} → statement M
 is-reached-spec =
@@ -61,6 +76,10 @@ is-reached-spec =
     returns-4
     is-cured-at-requires
     returns-5
+    is-faulty-requires
+    returns-6
     row-requires
+    low-requires
     high-requires
-    returns-6)
+    is-any-new-requires
+    returns-7)

@@ -41,7 +41,7 @@ returns c =
     let v = c .before .before .before .before .before .before .before .before .vote in
     record {
       votes = sets (v .result .fresh);
-      came = λ d j i l. v .ensures .fresh d j i l ∙ rw (c .before .before .before .before .before .before .before .before .before .row .ensures .0);
+      came = λ d j i l n. v .ensures .fresh d j i l ∙ rw (c .before .before .before .before .before .before .before .before .before .row .ensures .0);
       stages = stages-moving (pairOf (now (a .values))) (a .m) (a .rules) (getD (a .t4 .wrote) (a .b) 0) (sets (v .result .fresh)) (λ x. bit x (getD (a .t4 .asks) (a .b) 0)) (λ x. bit x (a .t4 .live))
           (a .movement .moving) (bit (15 - a .b) (a .movement .faulty)) (a .t) _ _ _ (v .ensures) _ _ (c .before .before .before .before .deliver .ensures) (c .before .before .before .cure-end .ensures) (c .before .before .if1 .taken) _ (c .before .is-placed .ensures) _ (c .move-on .ensures);
     }
@@ -52,7 +52,7 @@ returns-2 c =
     let v = c .before .before .before .before .before .before .vote in
     record {
       votes = sets (v .result .fresh);
-      came = λ d j i l. v .ensures .fresh d j i l ∙ rw (c .before .before .before .before .before .before .before .row .ensures .0);
+      came = λ d j i l n. v .ensures .fresh d j i l ∙ rw (c .before .before .before .before .before .before .before .row .ensures .0);
       stages = stages-still (pairOf (now (a .values))) (a .m) (a .rules) (getD (a .t4 .wrote) (a .b) 0) (sets (v .result .fresh)) (λ x. bit x (getD (a .t4 .asks) (a .b) 0)) (λ x. bit x (a .t4 .live))
           (a .movement .moving) (bit (15 - a .b) (a .movement .faulty)) (a .t) _ _ _ (v .ensures) _ _ (c .before .before .deliver .ensures) (c .before .cure-end .ensures) (c .if1 .left);
     }
