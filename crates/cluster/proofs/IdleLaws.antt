@@ -24,7 +24,7 @@ use Rattle.cluster.specs.declared.Movement.{Movement}
 use Rattle.cluster.specs.Sends.{reaches, sendsVote, sendsReply, sends}
 use Rattle.cluster.specs.Stored.{Plain, Both, server, saidBy, statusOf, keys, pairOf}
 use Rattle.cluster.specs.Stages.{nobody, voting, isNew, anyNew, taken, withWrite, repliesTo, stageOne, stageTwo, stagesOf}
-use Rattle.cluster.specs.Settled.{Settled, reached}
+use Rattle.cluster.specs.Settled.{Settled, called, reached}
 use Rattle.cluster.specs.Tick.{Feed, Small, Emptied, Turned}
 use Rattle.cluster.proofs.BitLaws.{bit-zero, bit-and}
 use Rattle.cluster.proofs.StoreLaws.{same-as-itself, some-new}
@@ -55,21 +55,21 @@ module _ (work : List ℕ) (b : ℕ) (arrivals : Arrivals) (movement : Movement)
       go true n = sym (some-new g kept _ _ j (i .0) (i .1) n) ∙ rw h at e
       go false n = refl
 
-  pub unreached : reached work b arrivals movement t delta g status pending kept ≡ false → Unreached
-  unfolding reached
-  unreached e =
-      let a = neither _ _ e in
+  pub unreached : (busy : Bool) → busy ≡ called b arrivals movement t delta status pending → reached busy work (rowOf t b) g status kept ≡ false → Unreached
+  unfolding called reached
+  unreached busy q e =
+      let v = neither _ _ e in
+      let a = neither _ _ (sym q ∙ v .0) in
       let c = neither _ _ (a .1) in
       let d = neither _ _ (c .1) in
       let f = neither _ _ (d .1) in
-      let k = neither _ _ (f .1) in
       record {
         moving = a .0;
         asks = eqb-true _ _ (not-false _ (c .0));
         wrote = ltb-false _ _ (d .0);
         live = eqb-true _ _ (not-false _ (f .0));
-        cured = k .0;
-        known = none-arrives (isFaulty status) (k .1);
+        cured = f .1;
+        known = none-arrives (isFaulty status) (v .1);
       }
 
 -- ---- its row

@@ -8,7 +8,7 @@ use lib.Bits.{bitAnd}
 use lib.Dec.{eqb, ltb}
 use lib.ListN.{length, take, getD}
 use Rattle.register.specs.Server.{Status, isFaulty, insert, curedAt}
-use Rattle.calendar.specs.Layout.{places, depth, rowOf, lowOf, highOf}
+use Rattle.calendar.specs.Layout.{places, depth, lowOf, highOf}
 use Rattle.calendar.specs.View.{SamePast, Spanned}
 use Rattle.cluster.specs.declared.Server.{Server}
 use Rattle.cluster.specs.declared.Cluster.{Cluster}
@@ -28,16 +28,19 @@ pub record Settled (g : ℕ → ℕ) (m e r : ℕ) (s : Plain) : Type 0 where
 abbrev pub Calm : Rules → Known → List Server → Type 0
 Calm rules known c = (b : ℕ) → b < rules .n → Settled (pairOf (known .values)) (known .m) (rules .echo) (rules .reply) (server (getD c b absent))
 
--- something reaches server b in tick t, or one of its stages has something to do: a movement, a READ, a WRITE, a read that drops out of its
--- list, the end of its cure, a vote for a pair that is new to it; a faulty server loses its votes
-unfoldable pub reached : List ℕ → ℕ → Arrivals → Movement → ℕ → ℕ → (ℕ → ℕ) → Status → ℕ → List ℕ → Bool
-reached work b arrivals movement t delta g status pending kept =
+-- one of the stages of server b has something to do in tick t: at a movement, for a READ or a WRITE, for a read that drops out of its list, at
+-- the end of its cure
+unfoldable pub called : ℕ → Arrivals → Movement → ℕ → ℕ → Status → ℕ → Bool
+called b arrivals movement t delta status pending =
     movement .moving
     || (not (eqb (getD (arrivals .asks) b 0) 0)
     || (ltb (getD (arrivals .wrote) b 0) places
     || (not (eqb (bitAnd pending (arrivals .live)) pending)
-    || (curedAt delta t status
-    || (not (isFaulty status) && anyNew g kept (lowOf work (rowOf t b)) (highOf work (rowOf t b)))))))
+    || curedAt delta t status)))
+
+-- or a vote reaches it for a pair that is new to its store; a faulty server loses its votes
+unfoldable pub reached : Bool → List ℕ → ℕ → (ℕ → ℕ) → Status → List ℕ → Bool
+reached busy work row g status kept = busy || (not (isFaulty status) && anyNew g kept (lowOf work row) (highOf work row))
 
 module _ (F : Feed) where
   -- the servers have done the tick if they were settled; the workspace is in order in any case

@@ -7,7 +7,7 @@ ghost use Rattle.calendar.specs.Layout.{rows, places, calendarSize, rowOf};
 ghost use Rattle.calendar.specs.View.{Spanned};
 ghost use Rattle.cluster.specs.Stored.{server, both, statusOf, keys, pairOf};
 ghost use Rattle.cluster.specs.Inputs.{Sized};
-ghost use Rattle.cluster.specs.Settled.{reached, CalmlyServed, CalmlyTicked};
+ghost use Rattle.cluster.specs.Settled.{called, reached, CalmlyServed, CalmlyTicked};
 ghost use Rattle.cluster.specs.Tick.{Stepped, Heard, Emptied, Turned, Started, endsOf, feedOf};
 use super::Arrivals;
 use super::Cluster;
@@ -80,10 +80,8 @@ fn hear(readers: [Reader; READERS], work: &mut [u8], t: usize) -> [Reader; READE
     heard
 }
 
-// Does anything that matters reach server b in tick t, or has one of its stages something to do. Most servers in most ticks: no. Votes for pairs
-// that are not new to its store never come to anything.
-fn is_reached(
-    work: &[u8],
+// Has one of the stages of server b anything to do in tick t, beside noting votes. Most servers in most ticks: no.
+fn is_called(
     b: usize,
     arrivals: Arrivals,
     movement: Movement,
@@ -91,11 +89,9 @@ fn is_reached(
     delta: u8,
     status: Status,
     pending: u8,
-    kept: [Stamped; DEPTH],
-    values: &[u16; PLACES],
 ) -> bool
-    requires { ⌜ (b < 16) × (calendarSize ≤ length (now work)) × Spanned (now work) places ⌝ }
-    ensures { λ r. ⌜ r ≡ reached (now (work .entry)) b arrivals movement t delta (pairOf (now (values .entry))) (statusOf status) pending (keys kept) ⌝ }
+    requires { ⌜ b < 16 ⌝ }
+    ensures { λ r. ⌜ r ≡ called b arrivals movement t delta (statusOf status) pending ⌝ }
 {
     if movement.moving {
         return true;
@@ -109,7 +105,23 @@ fn is_reached(
     if pending & arrivals.live != pending {
         return true;
     }
-    if servers::is_cured_at(status, t, delta) {
+    servers::is_cured_at(status, t, delta)
+}
+
+// Is it called, or does a vote reach it for a pair that is new to its store: other votes never come to anything, and a faulty server loses all.
+fn is_reached(
+    called: bool,
+    work: &[u8],
+    t: u8,
+    b: usize,
+    status: Status,
+    kept: [Stamped; DEPTH],
+    values: &[u16; PLACES],
+) -> bool
+    requires { ⌜ (b < 16) × (calendarSize ≤ length (now work)) × Spanned (now work) places ⌝ }
+    ensures { λ r. ⌜ r ≡ reached called (now (work .entry)) (rowOf t b) (pairOf (now (values .entry))) (statusOf status) (keys kept) ⌝ }
+{
+    if called {
         return true;
     }
     if servers::is_faulty(status) {
@@ -187,18 +199,8 @@ fn serve(
         let status = here.status;
         let pending = here.pending;
         let kept = here.kept;
-        if is_reached(
-            work,
-            b,
-            arrivals,
-            movement,
-            t,
-            delta,
-            status,
-            pending,
-            kept,
-            &values,
-        ) {
+        let called = is_called(b, arrivals, movement, t, delta, status, pending);
+        if is_reached(called, work, t, b, status, kept, &values) {
             let s = served[b];
             served[b] = turn(s, work, plan, b, feed, ends);
         } else {
