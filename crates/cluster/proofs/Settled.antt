@@ -1,5 +1,5 @@
--- A server that has taken in every pair with a quorum stays so: at the start, and through all stages of a tick.
--- It stands on register's laws of counting.
+-- A pair that is not new to a store stays so, and a server that has taken in every pair with a quorum stays so: at the start, and through all
+-- stages of a tick. It stands on StoreLaws and on register's laws of counting.
 use mathlib.Core.Path.{_≡_, refl, sym, ap, subst, _∙_}
 use mathlib.Core.Bool.{Bool, true, false, _||_, cond}
 use mathlib.Core.Logic.{_⊎_, inl, inr}

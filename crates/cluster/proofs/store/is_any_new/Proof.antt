@@ -1,12 +1,10 @@
 -- `store::is_any_new` meets its contract. The loop's invariant: no pair before j is new.
-use mathlib.Core.Path.{_≡_, sym, _∙_}
-use mathlib.Core.Bool.{false}
-use Prim.Native.Nat.{ℕ, _≤_, _<_, _-_}
+use mathlib.Core.Path.{sym, _∙_}
+use Prim.Native.Nat.{_≤_, _-_}
 use native.Mathlib.Omega.{arith}
 use borrow.Author.Needs.{needs}
 use Rattle.calendar.specs.Layout.{places}
 use Rattle.cluster.specs.Stored.{keys, pairOf}
-use Rattle.cluster.specs.Stages.{isNew}
 use Rattle.cluster.proofs.StoreLaws.{NoneNew, none-more, some-new, none-new}
 use Rattle.cluster.proofs.store.is_any_new.Statement.{statement}
 use Rattle.cluster.proofs.store.is_any_new.Tie as tie
