@@ -28,7 +28,7 @@ use Rattle.cluster.specs.Settled.{Settled, called, reached}
 use Rattle.cluster.specs.Tick.{Feed, Small, Emptied, Turned}
 use Rattle.cluster.proofs.BitLaws.{bit-zero, bit-and}
 use Rattle.cluster.proofs.StoreLaws.{same-as-itself, some-new}
-use Rattle.cluster.proofs.StageLaws.{zero-set, delivered-law, lost-law}
+use Rattle.cluster.proofs.StageLaws.{zero-set, write-kept, delivered-law, taken-law, lost-law}
 use Rattle.cluster.proofs.Settled.{taken-none}
 
 neither : (a b : Bool) → a || b ≡ false → (a ≡ false) × (b ≡ false)
@@ -176,8 +176,9 @@ module _ (F : Feed) (ends : List ℕ) (b : ℕ) (s : Server) (l : b < 16) (S : S
       → record { server = server s; said = saidBy (quiet c) } ≡ stageOne (pairOf (F .known .values)) (F .known .m) (F .rules .echo) (F .rules .reply) w (server s .fresh) asked going (server s)
   unfolding quiet keys
   first true e = lost-law (pairOf (F .known .values)) (F .known .m) (F .rules .echo) (F .rules .reply) w (server s .fresh) asked going (server s) (saidBy (quiet true)) e (rw zero-set)
-  first false e = delivered-law (pairOf (F .known .values)) (F .known .m) (F .rules .echo) (F .rules .reply) w (server s .fresh) asked going (server s) (server s) (server s .kept) (server s .pending) (λ x. bit x 0)
-      e no-write none-taken pend (zero-set ∙ rw (same-as-itself (server s .kept)) (no-replies (isCorrect (statusOf (s .status))) asked (server s .pending) none-asked))
+  first false e = taken-law (pairOf (F .known .values)) (F .known .m) (F .rules .echo) (F .rules .reply) w (server s .fresh) asked going (server s) _ e
+      (delivered-law (pairOf (F .known .values)) (F .known .m) (F .rules .echo) (F .rules .reply) w (server s .fresh) asked going (server s) (server s .kept) (server s .kept) (server s .pending) (λ x. bit x 0)
+      (ap (λ (x : Plain). x .kept) no-write ∙ write-kept (pairOf (F .known .values)) (F .known .m) w (server s)) none-taken pend (zero-set ∙ rw (same-as-itself (server s .kept)) (no-replies (isCorrect (statusOf (s .status))) asked (server s .pending) none-asked)))
 
   quiet-wrote : (c : Bool) → places ≤ quiet c .wrote
   unfolding quiet

@@ -7,7 +7,7 @@ use native.Mathlib.Nat.{mul-le-mul}
 use native.Mathlib.Omega.{arith}
 use lib.Dec.{eqb, leb, ltb}
 use lib.ListN.{length, getD}
-use borrow.Author.Tests.{lt-ltb, le-ltb, le-leb, lt-leb, eq-eqb, ne-eqb, eqb-true, ltb-true}
+use borrow.Author.Tests.{lt-ltb, le-ltb, le-leb, lt-leb, eq-eqb, ne-eqb, eqb-true, ltb-true, ltb-false}
 use Rattle.bits.specs.Field.{fieldOf}
 use Rattle.calendar.specs.declared.Sending.{Sending}
 use Rattle.calendar.specs.declared.Stamped.{Stamped}
@@ -201,6 +201,24 @@ module _ (plan : List ℕ) (links : Links) (n t : ℕ) (ends : List ℕ) (i : �
       join : (a b c : Bool) → (a && b) || (a && c) ≡ a && (b || c)
       join true b c = refl
       join false b c = refl
+
+  -- no vote for a known pair
+  pub votes-nobody : (a : List ℕ) → false ≡ row .echoed || ltb (row .wrote) places → Posted a a (λ x j k. eqb k i && sendsVote plan links n t ends i row x j)
+  unfolding sendsVote
+  votes-nobody a e = go (row .echoed) refl e
+    where
+      go : (b : Bool) → row .echoed ≡ b → false ≡ b || ltb (row .wrote) places → Posted a a (λ x j k. eqb k i && sendsVote plan links n t ends i row x j)
+      go true d q = absurd (let z : _≡_ {A = ℕ} 0 1 = cc in omega arith)
+      go false d q =
+          posted-none a _ (λ x j k l m.
+          rw (
+            d,
+            ne-eqb j (row .wrote) (λ h. omega (arith, ltb-false (row .wrote) places (sym q))),
+            and-none (eqb (reaches plan links n t ends i row (x % receivers) % 16) (x / receivers)),
+            and-none (not (eqb (x % receivers) i)),
+            and-none (ltb (x % receivers) n),
+          )
+          (and-none (eqb k i)))
 
   pub replies-nobody : (a : List ℕ) → row .readers ≡ 0 → Posted a a (λ x j k. eqb k i && sendsReply plan links n t ends i row x j)
   unfolding sendsReply

@@ -24,11 +24,10 @@ use Rattle.cluster.specs.declared.Cluster.{Cluster}
 use Rattle.cluster.specs.declared.Rules.{Rules}
 use Rattle.cluster.specs.declared.Known.{Known}
 use Rattle.cluster.specs.declared.Row.{Row}
-use Rattle.cluster.specs.declared.Step.{Step}
 use Rattle.cluster.specs.declared.Links.{Links}
 use Rattle.cluster.specs.Links.{delayAt, linkBit}
 use Rattle.cluster.specs.Sends.{votesFor, reaches, sendsVote, sendsReply, sends}
-use Rattle.cluster.specs.Stored.{server, both, statusOf, keys, pairOf, absent}
+use Rattle.cluster.specs.Stored.{Step, server, both, statusOf, keys, pairOf, absent, unset}
 use Rattle.cluster.specs.Inputs.{Sized}
 use Rattle.cluster.specs.Settled.{Calm, called, reached, CalmlyServed, CalmlyTicked}
 use Rattle.cluster.specs.Tick.{Feed, Small, Heard, Emptied, Stepped, Turned, Served, Ticked, endsOf, present}

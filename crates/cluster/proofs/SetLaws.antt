@@ -1,20 +1,21 @@
 -- Tables of sets that get the senders of a row of the calendar, pair by pair from its lowest on. It stands on the calendar's spans.
 use mathlib.Core.Path.{_≡_, refl, sym, ap, _∙_}
 use mathlib.Core.Bool.{Bool, true, false, _&&_, _||_}
-use mathlib.Core.List.{List}
+use mathlib.Core.List.{List, [], _∷_, _++_}
 use Prim.Native.Nat.{ℕ, _+_, _≤_, _<_}
 use native.Mathlib.Omega.{arith}
 use native.Mathlib.Decide.{decLe}
 use lib.Dec.{eqb, leb, ltb}
-use lib.ListN.{length, getD, set, length-set}
-use lib.Seq.{getD-set-same, getD-set-other}
+use lib.ListN.{length, getD, set, length-set, List·getD-append}
+use lib.Seq.{getD-set-same, getD-set-other, getD-at}
 use lib.Bits.{bitOr}
 use borrow.Author.Tests.{eqb-true, eqb-false, lt-ltb, le-ltb, le-leb, lt-leb}
 use Rattle.calendar.specs.Bits.{bit}
 use Rattle.calendar.specs.Layout.{rows, places, lowOf, highOf, sendersOf, sender}
 use Rattle.calendar.specs.View.{Spanned}
 use Rattle.calendar.proofs.Laws.{and-none, or-none, or-assoc}
-use Rattle.cluster.specs.Bits.{sets, Joined}
+use Rattle.cluster.specs.declared.Voters.{Voters}
+use Rattle.cluster.specs.Bits.{sets, listed, Joined}
 use Rattle.cluster.proofs.BitLaws.{bit-or}
 
 -- a set that gets the members of another one
@@ -62,3 +63,46 @@ module _ (work : List ℕ) (row : ℕ) (a : List ℕ) where
       go : (y i : ℕ) → y < places → (b : Bool) → sender work row y i ≡ b → (leb (lowOf work row) y && ltb y j) && b ≡ b
       go y i l true q = let w = S .within row y i h l q in rw (le-leb (lowOf work row) y (w .0), lt-ltb y j (omega (arith, w .1)))
       go y i l false q = and-none (leb (lowOf work row) y && ltb y j)
+
+-- ---- all but the last set stand together
+
+-- the pairs below the last one
+below-last : (xs : List ℕ) (x j i : ℕ) → length xs ≡ 64 → j < 64 → sets (xs ++ (x ∷ [])) j i ≡ sets xs j i
+below-last xs x j i e l = ap (bit i) (List·getD-append xs (x ∷ []) 0 j (omega arith))
+
+-- the last one
+at-last : (xs : List ℕ) (x j i : ℕ) → length xs ≡ 64 → j ≡ 64 → sets (xs ++ (x ∷ [])) j i ≡ bit i x
+at-last xs x j i e d = ap (bit i) (getD-at xs x [] 0 j (e ∙ sym d))
+
+module _ (work : List ℕ) (row : ℕ) (a : Voters) (size : length (a .most) ≡ 64) (h : row < rows) (S : Spanned work places) where
+  -- what the first 64 sets came to, and the last one
+  voters-all : (most : List ℕ) (last j : ℕ) → Joining work row (a .most) most (lowOf work row) j → ((y : ℕ) → y < 64 → y < highOf work row → y < j)
+      → ((i : ℕ) → bit i last ≡ bit i (a .last) || sender work row 64 i) → Joined work row (listed a) (listed (record { most = most; last = last }))
+  voters-all most last j J past end = record { each = λ y i l. go y i (decLe 64 y) l }
+    where
+      same : (y i : ℕ) → y < 64 → (b : Bool) → sender work row y i ≡ b → (leb (lowOf work row) y && ltb y j) && b ≡ b
+      same y i l true q = let w = S .within row y i h (omega arith) q in rw (le-leb (lowOf work row) y (w .0), lt-ltb y j (past y l (w .1)))
+      same y i l false q = and-none (leb (lowOf work row) y && ltb y j)
+
+      go : (y i : ℕ) → Dec (64 ≤ y) → y < places → sets (most ++ (last ∷ [])) y i ≡ sets (a .most ++ (a .last ∷ [])) y i || sender work row y i
+      go y i (yes d) l =
+          let e : y ≡ 64 = omega arith in
+          at-last most last y i (J .size ∙ size) e ∙ (end i ∙ rw (at-last (a .most) (a .last) y i size e, e))
+      go y i (no d) l =
+          let k : y < 64 = omega arith in
+          below-last most last y i (J .size ∙ size) k
+          ∙ (J .each y i ∙ rw (below-last (a .most) (a .last) y i size k) (ap (λ (b : Bool). sets (a .most) y i || b) (same y i k (sender work row y i) refl)))
+
+  -- the last pair arrives, too
+  pub voters-more : (most : List ℕ) (j : ℕ) → Joining work row (a .most) most (lowOf work row) j → 64 ≤ j
+      → Joined work row (listed a) (listed (record { most = most; last = bitOr (a .last) (sendersOf work row 64) }))
+  voters-more most j J l = voters-all most _ j J (λ y k d. omega arith) (λ i. bit-or i (a .last) (sendersOf work row 64))
+
+  -- it does not
+  pub voters-same : (most : List ℕ) (j : ℕ) → Joining work row (a .most) most (lowOf work row) j → highOf work row ≤ 64 → highOf work row ≤ j
+      → Joined work row (listed a) (listed (record { most = most; last = a .last }))
+  voters-same most j J l e = voters-all most (a .last) j J (λ y k d. omega arith) (λ i. go i (sender work row 64 i) refl)
+    where
+      go : (i : ℕ) (b : Bool) → sender work row 64 i ≡ b → bit i (a .last) ≡ bit i (a .last) || b
+      go i true q = absurd (omega (arith, S .within row 64 i h (omega arith) q .1))
+      go i false q = or-none (bit i (a .last))

@@ -16,14 +16,17 @@ use Rattle.register.specs.Server.{faulty, correct, isFaulty, curedAt, insert}
 use Rattle.register.proofs.Logic.{or-l}
 use Rattle.register.proofs.Lists.{sameList-eq}
 use Rattle.register.proofs.Counting.{count-none, count-mono}
+use Rattle.register.specs.Plan.{stamped}
+use Rattle.calendar.specs.declared.Stamped.{Stamped}
+use Rattle.calendar.specs.Posts.{vacant}
 use Rattle.calendar.specs.Layout.{depth}
 use Rattle.cluster.specs.declared.Cluster.{Cluster}
 use Rattle.cluster.specs.declared.Rules.{Rules}
-use Rattle.cluster.specs.Stored.{Plain, Both, server, pairOf, absent}
+use Rattle.cluster.specs.Stored.{Plain, Both, AtLeast, server, keyOf, keys, pairOf, absent}
 use Rattle.cluster.specs.Stages.{noVotes, silent, blankAs, resetAt, restated, turned, isNew, taken, voting, withWrite, delivered, stageOne, stageTwo, movedOn, stageFour, stagesOf}
 use Rattle.cluster.specs.Settled.{Settled}
 use Rattle.cluster.specs.Tick.{Feed, Ticked, firstOf}
-use Rattle.cluster.proofs.StoreLaws.{same-as-itself}
+use Rattle.cluster.proofs.StoreLaws.{same-as-itself, keys-short}
 use Rattle.cluster.proofs.StageLaws.{write-kept}
 
 -- ---- putting a pair in changes nothing
@@ -181,6 +184,28 @@ taken-none c g (suc m) l h = rw (taken-none c g m l (λ j a. h j (omega arith)))
     go : (b : Bool) → c m ≡ b → cond b (take depth (insert (g m) l)) l ≡ l
     go true e = h m (omega arith) e
     go false e = refl
+
+-- ---- pairs below a full store
+
+-- a pair comes before those of higher numbers
+below-key : (v n : ℕ) (p : Stamped) → v < 65536 → n < p .number → stamped 16 v n < keyOf p
+unfolding stamped
+below-key v n p h l = omega arith
+
+stands-below : (v n : ℕ) (ps : List Stamped) (k : ℕ) → v < 65536 → length ps ≡ k → ((q : ℕ) → q < k → (getD ps q vacant .kept ≡ true) × (n < getD ps q vacant .number)) → Stands (stamped 16 v n) (keys ps) k
+unfolding Stands keys
+stands-below v n [] k h e w = rw (sym e) tt
+stands-below v n (p ∷ ps) zero h e w = absurd (omega arith)
+stands-below v n (p ∷ ps) (suc k) h e w =
+    let z = w 0 (omega arith) in
+    rw (z .0) (inr (below-key v n p h (z .1), stands-below v n ps k h (omega arith) (λ q l. w (suc q) (omega arith))))
+
+-- taking them in changes nothing
+pub taken-above : (c : ℕ → Bool) (values : List ℕ) (kept : List Stamped) (n j : ℕ) → ((i : ℕ) → getD values i 0 < 65536) → length kept ≡ depth → AtLeast kept n → j ≤ n
+    → taken c (pairOf values) j (keys kept) ≡ keys kept
+taken-above c values kept n j h e A l = taken-none c (pairOf values) j (keys kept) (λ i d t.
+    stands-same depth (pairOf values i) (keys kept) (omega (arith, keys-short kept, e))
+    (stands-below (getD values i 0) i kept depth (h i) e (λ q z. let w = A .each (omega arith) q z in (w .0, omega (arith, w .1)))))
 
 -- ---- the stages
 

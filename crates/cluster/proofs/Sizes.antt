@@ -7,31 +7,40 @@ use lib.ListN.{length, length-map, getD}
 use mir.Val.{Val}
 use denote.Laws.{Is}
 use denote.Array.{each}
+use denote.Struct.Field.{u16-field}
 use denote.Shadow.{shadow}
 use denote.Struct.Declared.{field}
 use denote.Struct.Laws as LL
 use Rattle.calendar.specs.declared.Stamped.{Stamped}
 use Rattle.calendar.specs.Layout.{depth}
 use Rattle.calendar.specs.Posts.{vacant}
+use Rattle.cluster.specs.declared.Voters.{Voters}
 use Rattle.cluster.specs.declared.Server.{Server}
 use Rattle.cluster.specs.declared.Cluster.{Cluster}
 use Rattle.cluster.specs.declared.Row.{Row}
+use Rattle.cluster.specs.declared.Delivery.{Delivery}
+use Rattle.cluster.proofs.Delivery as TD
+use Rattle.cluster.proofs.Delivery.Laws as TD′
+use Rattle.cluster.specs.declared.Feed.{Feed}
+use Rattle.cluster.proofs.Known as TK
+use Rattle.cluster.proofs.Known.Laws as TK′
+use Rattle.cluster.proofs.Feed as TF
+use Rattle.cluster.proofs.Feed.Laws as TF′
 use Rattle.calendar.proofs.Stamped as TP
 use Rattle.calendar.proofs.Stamped.Laws as TP′
+use Rattle.cluster.proofs.Voters as TV
+use Rattle.cluster.proofs.Voters.Laws as TV′
 use Rattle.cluster.proofs.Server as TS
 use Rattle.cluster.proofs.Server.Laws as TS′
 use Rattle.cluster.proofs.Cluster as TC
 use Rattle.cluster.proofs.Cluster.Laws as TC′
-use Rattle.cluster.specs.declared.Step.{Step}
 use Rattle.cluster.specs.Stored.{absent}
 use Rattle.cluster.specs.Tick.{Small}
 use Rattle.cluster.proofs.Row as TR
 use Rattle.cluster.proofs.Row.Laws as TR′
-use Rattle.cluster.proofs.Step as TT
-use Rattle.cluster.proofs.Step.Laws as TT′
 
-pub fresh-length : (s : Server) {vs : List Val} → Is TS.the-row s vs → length (s .fresh) ≡ 65
-fresh-length s {vs} is = sym (length-map (s .fresh) _) ∙ LL.owed TS.the-type TS′.the-laws s vs is .1 .1 .1 .0 .1 .0 .1
+pub most-length : (v : Voters) {vs : List Val} → Is TV.the-row v vs → length (v .most) ≡ 64
+most-length v {vs} is = sym (length-map (v .most) _) ∙ LL.owed TV.the-type TV′.the-laws v vs is .0 .1 .0 .1
 
 pub servers-length : (c : Cluster) {vs : List Val} → Is TC.the-row c vs → length (c .servers) ≡ 16
 servers-length c {vs} is = sym (length-map (c .servers) _) ∙ LL.owed TC.the-type TC′.the-laws c vs is .0 .1 .0 .1
@@ -50,11 +59,14 @@ all-fit (p ∷ ps) [] e q = absurd e
 all-fit (p ∷ ps) (u ∷ us) e zero = value-fits p (e .0)
 all-fit (p ∷ ps) (u ∷ us) e (suc q) = all-fit ps us (e .1) q
 
-pub row-small : (o : Step) {vs : List Val} → Is TT.the-row o vs → Small (o .row .kept)
+pub row-small : (o : Row) {vs : List Val} → Is TR.the-row o vs → Small (o .kept)
 row-small o {vs} is =
-    let q = LL.owed TR.the-type TR′.the-laws (o .row) _ (LL.owed TT.the-type TT′.the-laws o vs is .1 .0) in
-    let l : length (o .row .kept) ≡ depth = sym (length-map (o .row .kept) _) ∙ q .1 .1 .1 .0 .1 .0 .1 in
-    (omega arith, all-fit (o .row .kept) _ (q .1 .1 .1 .0 .1 .1))
+    let q = LL.owed TR.the-type TR′.the-laws o vs is in
+    let l : length (o .kept) ≡ depth = sym (length-map (o .kept) _) ∙ q .1 .1 .1 .0 .1 .0 .1 in
+    (omega arith, all-fit (o .kept) _ (q .1 .1 .1 .0 .1 .1))
+
+pub delivery-small : (d : Delivery) {vs : List Val} → Is TD.the-row d vs → Small (d .row .kept)
+delivery-small d {vs} is = row-small (d .row) (LL.owed TD.the-type TD′.the-laws d vs is .1 .0)
 
 server-small : (s : Server) {vs : List Val} → Is TS.the-row s vs → Small (s .kept)
 server-small s {vs} is =
@@ -69,3 +81,14 @@ servers-small [] us e b = (omega arith, λ q. omega arith)
 servers-small (s ∷ ss) [] e b = absurd e
 servers-small (s ∷ ss) (u ∷ us) e zero = server-small s (e .0)
 servers-small (s ∷ ss) (u ∷ us) e (suc b) = servers-small ss us (e .1) b
+
+-- the numbers of an array
+numbers-fit : (xs : List ℕ) (us : List Val) → shadow (each (u16-field .row .Denot) (u16-field .row .own) (map (u16-field .into) xs) us) → (j : ℕ) → getD xs j 0 < 65536
+numbers-fit [] us e j = omega arith
+numbers-fit (x ∷ xs) [] e j = absurd e
+numbers-fit (x ∷ xs) (u ∷ us) e zero = e .0 .1
+numbers-fit (x ∷ xs) (u ∷ us) e (suc j) = numbers-fit xs us (e .1) j
+
+-- the values that a tick is fed
+pub values-fit : (f : Feed) {vs : List Val} → Is TF.the-row f vs → (j : ℕ) → getD (f .known .values) j 0 < 65536
+values-fit f {vs} is j = numbers-fit (f .known .values) _ (LL.owed TK.the-type TK′.the-laws (f .known) _ (LL.owed TF.the-type TF′.the-laws f vs is .1 .1 .0) .0 .1 .1) j

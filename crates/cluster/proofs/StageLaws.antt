@@ -1,18 +1,18 @@
 -- Steps of the stages' proofs: the quorum's test by masks, a turn of taking in, and the stages put together from what their calls give.
 -- It stands on BitLaws.
-use mathlib.Core.Path.{_≡_, refl, ap, _∙_, fun-ext}
+use mathlib.Core.Path.{_≡_, refl, sym, ap, _∙_, fun-ext}
 use mathlib.Core.Bool.{Bool, true, false, _&&_, _||_, cond}
 use mathlib.Core.List.{List}
 use Prim.Native.Nat.{ℕ, _+_, _^_, _≤_, _<_}
 use native.Mathlib.Omega.{arith}
 use native.Mathlib.Numerals.{add-one}
 use lib.Dec.{leb, ltb}
-use lib.ListN.{take, replicate}
+use lib.ListN.{take, getD, replicate}
 use lib.Bits.{bitOr, bitAnd}
 use lib.Count.{ones}
 use borrow.Author.Tests.{le-leb, lt-leb}
 use Rattle.register.specs.Lists.{count, sameList}
-use Rattle.register.specs.Server.{faulty, isFaulty, isCorrect, curedAt, insert}
+use Rattle.register.specs.Server.{Status, faulty, cured, correct, isFaulty, isCorrect, curedAt, insert}
 use Rattle.register.proofs.Logic.{cond-ap}
 use Rattle.register.proofs.Counting.{count-none}
 use Rattle.calendar.specs.Bits.{bit}
@@ -50,6 +50,11 @@ unvoted e r f o he hr ef eo = rw (ef, eo) (go (count (λ i. bit i 0) 16) (count 
     go : (x y : ℕ) → x ≡ 0 → y ≡ 0 → false ≡ leb e x || leb r y
     go x y a b = rw (lt-leb e x (omega arith), lt-leb r y (omega arith))
 
+-- the test of pair j
+pub voting-at : (e r : ℕ) (xs ys : List ℕ) (j f o : ℕ) (b : Bool) → f ≡ getD xs j 0 → o ≡ getD ys j 0 → b ≡ quorate e r (λ i. bit i f) (λ i. bit i o) → voting e r (sets xs) (sets ys) j ≡ b
+voting-at e r xs ys j f o b h k q =
+    ap (λ (x : ℕ). quorate e r (λ i. bit i x) (λ i. bit i (getD ys j 0))) (sym h) ∙ (ap (λ (y : ℕ). quorate e r (λ i. bit i f) (λ i. bit i y)) (sym k) ∙ sym q)
+
 -- ---- a turn of taking in
 
 module _ (c : ℕ → Bool) (g : ℕ → ℕ) (j : ℕ) (l k r : List ℕ) (e : k ≡ taken c g j l) where
@@ -75,29 +80,21 @@ pending-law p l a = fun-ext (λ x. rw (bit-or x (bitAnd p l) a, bit-and x p l))
 pub write-kept : (g : ℕ → ℕ) (m w : ℕ) (s : Plain) → withWrite g m w s .kept ≡ cond (ltb w m) (take depth (insert (g w) (s .kept))) (s .kept)
 write-kept g m w s = cond-ap (λ (x : Plain). x .kept) (ltb w m) (written (g w) s) s
 
--- a WRITE changes the store only
-pub write-rest : (g : ℕ → ℕ) (m w : ℕ) (s : Plain) (r : Plain) → r ≡ withWrite g m w s
-    → (r .status ≡ s .status) × (r .pending ≡ s .pending) × (r .old ≡ s .old) × (r .kept ≡ withWrite g m w s .kept)
-write-rest g m w s r e = rw e (go (ltb w m))
-  where
-    x : Bool → Plain
-    x b = cond b (record { status = s .status; kept = take depth (insert (g w) (s .kept)); pending = s .pending; fresh = s .fresh; old = s .old }) s
-
-    go : (b : Bool) → (x b .status ≡ s .status) × (x b .pending ≡ s .pending) × (x b .old ≡ s .old) × (x b .kept ≡ x b .kept)
-    go true = (refl, refl, refl, refl)
-    go false = (refl, refl, refl, refl)
-
-pub delivered-law : (g : ℕ → ℕ) (m e r w : ℕ) (votes : ℕ → ℕ → Bool) (asks live : ℕ → Bool) (s q : Plain) (kept : List ℕ) (pend readers : ℕ → Bool)
-    → isFaulty (s .status) ≡ false → q ≡ withWrite g m w s → kept ≡ taken (voting e r votes (q .old)) g m (q .kept)
-    → pend ≡ (λ x. (q .pending x && live x) || asks x) → readers ≡ repliesTo (isCorrect (s .status)) (sameList (s .kept) kept) asks pend
+pub delivered-law : (g : ℕ → ℕ) (m e r w : ℕ) (votes : ℕ → ℕ → Bool) (asks live : ℕ → Bool) (s : Plain) (first kept : List ℕ) (pend readers : ℕ → Bool)
+    → first ≡ cond (ltb w m) (take depth (insert (g w) (s .kept))) (s .kept) → kept ≡ taken (voting e r votes (s .old)) g m first
+    → pend ≡ (λ x. (s .pending x && live x) || asks x) → readers ≡ repliesTo (isCorrect (s .status)) (sameList (s .kept) kept) asks pend
     → record {
-      server = record { status = q .status; kept = kept; pending = pend; fresh = votes; old = q .old };
+      server = record { status = s .status; kept = kept; pending = pend; fresh = votes; old = s .old };
       said = record { wrote = w; echoed = false; readers = readers; pairs = kept };
-    } ≡ stageOne g m e r w votes asks live s
-unfolding stageOne delivered
-delivered-law g m e r w votes asks live s q kept pend readers h u k p a =
-    let z = write-rest g m w s q u in
-    rw (h, a, k, p, z .0, z .1, z .2, z .3)
+    } ≡ delivered g m e r w votes asks live s
+unfolding delivered
+delivered-law g m e r w votes asks live s first kept pend readers f k p a = rw (a, k, p, f, write-kept g m w s)
+
+-- a server that is not faulty takes it
+pub taken-law : (g : ℕ → ℕ) (m e r w : ℕ) (votes : ℕ → ℕ → Bool) (asks live : ℕ → Bool) (s : Plain) (o : Both) → isFaulty (s .status) ≡ false
+    → o ≡ delivered g m e r w votes asks live s → o ≡ stageOne g m e r w votes asks live s
+unfolding stageOne
+taken-law g m e r w votes asks live s o h d = rw h d
 
 -- a faulty server loses what arrives
 pub lost-law : (g : ℕ → ℕ) (m e r w : ℕ) (votes : ℕ → ℕ → Bool) (asks live : ℕ → Bool) (s : Plain) (q : Said) → isFaulty (s .status) ≡ true → q ≡ silent
@@ -107,10 +104,21 @@ lost-law g m e r w votes asks live s q h k = rw (h, k)
 
 -- ---- stages 2 to 4
 
-pub cure-law : (delta t : ℕ) (o : Both) (s : Plain) → curedAt delta t (o .server .status) ≡ true → s ≡ cureEnded delta t (o .server)
-    → record { server = s; said = record { wrote = o .said .wrote; echoed = o .said .echoed; readers = s .pending; pairs = s .kept } } ≡ stageTwo delta t o
+pub cure-law : (delta t : ℕ) (o : Both) (s : Plain) → curedAt delta t (o .server .status) ≡ true → s ≡ cureEnded delta t (o .server) → o .said .pairs ≡ o .server .kept
+    → record { server = s; said = record { wrote = o .said .wrote; echoed = o .said .echoed; readers = s .pending; pairs = o .said .pairs } } ≡ stageTwo delta t o
 unfolding stageTwo
-cure-law delta t o s h e = rw (e, h)
+cure-law delta t o s h e k = rw (e, h, k)
+
+-- no cure ends
+pub no-cure-law : (delta t : ℕ) (o : Both) → curedAt delta t (o .server .status) ≡ false → o ≡ stageTwo delta t o
+unfolding stageTwo
+no-cure-law delta t o h = rw h
+
+-- a faulty server is not cured
+pub not-cured : (delta t : ℕ) (s : Status) → isFaulty s ≡ true → curedAt delta t s ≡ true → ⊥
+not-cured delta t faulty e h = let z : _≡_ {A = ℕ} 0 1 = ap (λ (x : Bool). cond x 1 0) h in omega arith
+not-cured delta t (cured u) e h = let z : _≡_ {A = ℕ} 0 1 = ap (λ (x : Bool). cond x 1 0) e in omega arith
+not-cured delta t correct e h = let z : _≡_ {A = ℕ} 0 1 = ap (λ (x : Bool). cond x 1 0) e in omega arith
 
 -- a new period: no fresh votes, and of the old ones those that still count
 pub turned-law : (two : Bool) (s : Plain) (fresh old : ℕ → ℕ → Bool) → fresh ≡ noVotes → old ≡ cond two (s .fresh) noVotes

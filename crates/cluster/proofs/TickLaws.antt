@@ -9,11 +9,12 @@ use Rattle.register.specs.Server.{Status, isFaulty}
 use Rattle.register.specs.Plan.{stamped}
 use Rattle.calendar.specs.Layout.{places, sender}
 use Rattle.calendar.specs.declared.Stamped.{Stamped}
+use Rattle.cluster.specs.declared.Voters.{Voters}
 use Rattle.cluster.specs.declared.Server.{Server}
 use Rattle.cluster.specs.declared.Reader.{Reader}
 use Rattle.cluster.specs.declared.Rules.{Rules}
 use Rattle.cluster.specs.declared.Status.the-variants.{Correct}
-use Rattle.cluster.specs.Bits.{sets, Joined}
+use Rattle.cluster.specs.Bits.{sets, listed, Joined}
 use Rattle.cluster.specs.Stored.{Plain, Both, server, keys, absent}
 use Rattle.cluster.specs.Stages.{noVotes, Voted, stageOne, delivered, stageTwo, stageFour, stagesOf}
 use Rattle.cluster.specs.Tick.{noReader, endsOf, firstOf, Started}
@@ -89,7 +90,7 @@ four-ends (a ∷ b ∷ c ∷ d ∷ x ∷ rs) e = absurd (omega arith)
 
 -- ---- the start
 
-pub first-server : (v : ℕ) (ps : List Stamped) (z : List ℕ) → keys ps ≡ stamped 16 v 0 ∷ [] → sets z ≡ noVotes
+pub first-server : (v : ℕ) (ps : List Stamped) (z : Voters) → keys ps ≡ stamped 16 v 0 ∷ [] → sets (listed z) ≡ noVotes
     → server (record { status = Correct; kept = ps; pending = 0; fresh = z; old = z }) ≡ firstOf v
 first-server v ps z k e = rw (k, e, zero-set)
 

@@ -1,18 +1,22 @@
 -- A server and its row apart from how they are stored: sets as functions, a store as the list of its pairs.
-use mathlib.Core.Bool.{Bool, cond}
+use mathlib.Core.Path.{_≡_}
+use mathlib.Core.Bool.{Bool, true, cond}
 use mathlib.Core.List.{List, [], _∷_, _++_}
-use Prim.Native.Nat.{ℕ, suc}
+use Prim.Native.Nat.{ℕ, suc, _≤_, _<_}
 use lib.ListN.{getD, take, drop}
 use Rattle.register.specs.Plan.{stamped}
 use Rattle.register.specs.Server.{Status, faulty, cured, correct}
 use Rattle.calendar.specs.declared.Stamped.{Stamped}
+use Rattle.calendar.specs.Layout.{depth}
+use Rattle.calendar.specs.Posts.{vacant}
 use Rattle.cluster.specs.declared.Status.{Status as StoredStatus}
 use Rattle.cluster.specs.declared.Status.the-variants.{Faulty, Cured, Correct}
+use Rattle.cluster.specs.declared.Voters.{Voters}
 use Rattle.cluster.specs.declared.Server.{Server}
 use Rattle.cluster.specs.declared.Row.{Row}
-use Rattle.cluster.specs.declared.Step.{Step}
+use Rattle.cluster.specs.declared.Delivery.{Delivery}
 use Rattle.calendar.specs.Bits.{bit}
-use Rattle.cluster.specs.Bits.{sets}
+use Rattle.cluster.specs.Bits.{sets, listed}
 
 -- a server; votes by the number of a pair and the sender
 pub record Plain : Type 0 where
@@ -55,18 +59,37 @@ abbrev pub putAt : ℕ → Stamped → List Stamped → List Stamped
 putAt i p ps = take i ps ++ (p ∷ drop i ps)
 
 abbrev pub server : Server → Plain
-server s = record { status = statusOf (s .status); kept = keys (s .kept); pending = λ x. bit x (s .pending); fresh = sets (s .fresh); old = sets (s .old) }
+server s = record { status = statusOf (s .status); kept = keys (s .kept); pending = λ x. bit x (s .pending); fresh = sets (listed (s .fresh)); old = sets (listed (s .old)) }
 
 abbrev pub saidBy : Row → Said
 saidBy r = record { wrote = r .wrote; echoed = r .echoed; readers = λ x. bit x (r .readers); pairs = keys (r .kept) }
 
+-- a server, and what it sends
+pub record Step : Type 0 where
+  pub server : Server
+  pub row : Row
+
 abbrev pub both : Step → Both
 both s = record { server = server (s .server); said = saidBy (s .row) }
+
+-- a server and what it makes of what arrives
+abbrev pub deliveredTo : Server → Delivery → Both
+deliveredTo s d = record {
+  server = record { status = statusOf (s .status); kept = keys (d .row .kept); pending = λ x. bit x (d .pending); fresh = sets (listed (s .fresh)); old = sets (listed (s .old)) };
+  said = saidBy (d .row);
+}
+
+-- each place of the store has a pair of number n or higher; for 0 nothing is said
+pub record AtLeast (kept : List Stamped) (n : ℕ) : Type 0 where
+  pub each : 0 < n → (q : ℕ) → q < depth → (getD kept q vacant .kept ≡ true) × (n ≤ getD kept q vacant .number)
 
 -- pair j, from the table of values
 abbrev pub pairOf : List ℕ → ℕ → ℕ
 pairOf values j = stamped 16 (getD values j 0) j
 
 -- what is read past the end of an array of servers
+abbrev pub unset : Voters
+unset = record { most = []; last = 0 }
+
 abbrev pub absent : Server
-absent = record { status = Faulty; kept = []; pending = 0; fresh = []; old = [] }
+absent = record { status = Faulty; kept = []; pending = 0; fresh = unset; old = unset }

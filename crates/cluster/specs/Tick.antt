@@ -16,7 +16,6 @@ use Rattle.calendar.specs.View.{SamePast, Spanned}
 use Rattle.cluster.specs.declared.Server.{Server}
 use Rattle.cluster.specs.declared.Reader.{Reader}
 use Rattle.cluster.specs.declared.Cluster.{Cluster}
-use Rattle.cluster.specs.declared.Step.{Step}
 use Rattle.cluster.specs.declared.Rules.{Rules}
 use Rattle.cluster.specs.declared.Known.{Known}
 use Rattle.cluster.specs.declared.Links.{Links}
@@ -24,7 +23,7 @@ use Rattle.cluster.specs.declared.Arrivals.{Arrivals}
 use Rattle.cluster.specs.declared.Movement.{Movement}
 use Rattle.cluster.specs.declared.Feed.{Feed as Fed}
 use Rattle.cluster.specs.Bits.{sets}
-use Rattle.cluster.specs.Stored.{Plain, Both, server, both, pairOf, absent}
+use Rattle.cluster.specs.Stored.{Plain, Both, Step, server, both, pairOf, absent}
 use Rattle.cluster.specs.Stages.{nobody, noVotes, isNew, stagesOf}
 use Rattle.cluster.specs.Sends.{sends}
 

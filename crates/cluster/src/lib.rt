@@ -24,13 +24,22 @@ pub enum Status {
     Correct,
 }
 
+// How many sets stand in one array: one of 128 bytes is copied in line, a longer one by a call.
+pub const MOST: usize = 64;
+
+// Voters of servers, one for each known pair: all but the last one's together.
+pub struct Voters {
+    pub most: [u16; MOST],
+    pub last: u16,
+}
+
 // A server (document 01: a box). `pending` has bit x for reader x; `fresh` and `old` have the set of voters for each known pair.
 pub struct Server {
     pub status: Status,
     pub kept: [Stamped; DEPTH],
     pub pending: u8,
-    pub fresh: [u16; PLACES],
-    pub old: [u16; PLACES],
+    pub fresh: Voters,
+    pub old: Voters,
 }
 
 // A reader (document 01: a screen): the tick in which its last read ends, and the servers that named each known pair to that read.
@@ -98,8 +107,8 @@ pub struct Row {
     pub kept: [Stamped; DEPTH],
 }
 
-// A server, and what it sends.
-pub struct Step {
-    pub server: Server,
+// What a server makes of what arrives: the readers on its list, and what it sends.
+pub struct Delivery {
+    pub pending: u8,
     pub row: Row,
 }

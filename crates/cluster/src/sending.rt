@@ -1,9 +1,10 @@
 // What a server sends in a tick is posted: its votes to every other server, its replies to some readers.
-ghost use mathlib.Core.Bool.{_&&_};
+ghost use mathlib.Core.Path.{_≡_};
+ghost use mathlib.Core.Bool.{_&&_, _||_};
 ghost use Prim.Native.Nat.{_+_, _≤_, _<_};
-ghost use lib.Dec.{eqb};
+ghost use lib.Dec.{eqb, ltb};
 ghost use lib.ListN.{length};
-ghost use Rattle.calendar.specs.Layout.{calendarSize};
+ghost use Rattle.calendar.specs.Layout.{places, calendarSize};
 ghost use Rattle.calendar.specs.View.{Posted};
 ghost use Rattle.cluster.specs.Links.{Linked};
 ghost use Rattle.cluster.specs.Sends.{sendsVote, sendsReply, sends};
@@ -11,7 +12,18 @@ use super::Links;
 use super::READERS;
 use super::Row;
 use super::delays;
+use calendar::PLACES;
 use calendar::Sending;
+
+// Is there a vote in the row at all.
+fn is_voting(wrote: u8, echoed: bool) -> bool
+    ensures { λ r. ⌜ r ≡ (echoed || ltb wrote places) ⌝ }
+{
+    if echoed {
+        return true;
+    }
+    (wrote as usize) < PLACES
+}
 
 // A server's votes: for the pair of a WRITE, and at an echo for the pairs that it keeps.
 fn send_votes(
@@ -27,6 +39,9 @@ fn send_votes(
     requires { ⌜ (calendarSize ≤ length (now work)) × Linked (now plan) links n (t + 1) × (t < 128) × (i < n) ⌝ }
     ensures { λ _. ⌜ Posted (now (work .entry)) (now (work .exit)) (λ x j k. eqb k i && sendsVote (now (plan .entry)) links n t ends i row x j) ⌝ }
 {
+    if !is_voting(row.wrote, row.echoed) {
+        return;
+    }
     let sending = Sending::of(plan, delays::row_bit(links, t, i), n, t, i);
     calendar::post_vote(work, sending, row.wrote);
     if row.echoed {

@@ -10,9 +10,8 @@ ghost use Rattle.cluster.specs.Stored.{keyOf, statusOf, server};
 ghost use Rattle.cluster.specs.Stages.{restated, written, Voted, resetAt, cureEnded, turned};
 use super::Server;
 use super::Status;
-use super::sets;
+use super::Voters;
 use super::store;
-use calendar::PLACES;
 use calendar::Stamped;
 
 pub fn is_faulty(s: Status) -> bool
@@ -87,7 +86,7 @@ impl Server {
             return self;
         }
         let fresh = self.fresh;
-        let more = sets::joined(fresh, work, row);
+        let more = fresh.joined(work, row);
         self.fresh = more;
         self
     }
@@ -97,7 +96,7 @@ impl Server {
         ensures { λ r. ⌜ server r ≡ resetAt t ⌝ }
     {
         let none = store::none();
-        let zero = [0u16; PLACES];
+        let zero = Voters::none();
         self.kept = none;
         self.pending = 0;
         self.fresh = zero;
@@ -120,7 +119,7 @@ impl Server {
     pub fn turn(mut self, two: bool) -> Self
         ensures { λ r. ⌜ server r ≡ turned two (server self) ⌝ }
     {
-        let none = [0u16; PLACES];
+        let none = Voters::none();
         let fresh = self.fresh;
         self.fresh = none;
         self.old = none;

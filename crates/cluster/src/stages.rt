@@ -1,17 +1,23 @@
 // The stages of one server's tick.
 ghost use mathlib.Core.Path.{_≡_};
 ghost use mathlib.Core.Bool.{cond};
-ghost use Prim.Native.Nat.{_≤_, _<_};
-ghost use Rattle.cluster.specs.Bits.{sets};
+ghost use Prim.Native.Nat.{ℕ, _≤_, _<_};
+ghost use lib.Dec.{ltb};
+ghost use lib.ListN.{take, getD};
+ghost use Rattle.register.specs.Server.{insert};
 ghost use Rattle.calendar.specs.Bits.{bit};
-ghost use Rattle.cluster.specs.Stored.{keys, pairOf, server, saidBy, both};
-ghost use Rattle.cluster.specs.Stages.{silent, quorate, taken, voting, withWrite, stageOne, stageTwo, movedOn, stageFour};
+ghost use Rattle.calendar.specs.Layout.{places, depth};
+ghost use Rattle.cluster.specs.Bits.{sets, listed};
+ghost use Rattle.cluster.specs.Stored.{AtLeast, keys, pairOf, server, saidBy, deliveredTo};
+ghost use Rattle.cluster.specs.Stages.{silent, quorate, taken, voting, delivered, movedOn};
+use super::Delivery;
 use super::Row;
 use super::Rules;
 use super::Server;
 use super::Status;
-use super::Step;
+use super::Voters;
 use super::servers;
+use super::sets;
 use super::store;
 use calendar::DEPTH;
 use calendar::PLACES;
@@ -43,23 +49,40 @@ fn is_voted(fresh: u16, old: u16, rules: Rules) -> bool
     is_quorate(fresh, old, rules)
 }
 
+// No pair below this number changes the store: it is full of higher ones. 0 if it is not full.
+fn first_new(kept: [Stamped; DEPTH]) -> usize
+    ensures { λ r. ⌜ (r ≤ places) × AtLeast kept r ⌝ }
+{
+    let mut first = PLACES;
+    let mut i: usize = 0;
+    while i < DEPTH {
+        let p = kept[i];
+        if !p.kept {
+            return 0;
+        }
+        first = sets::lower(first, p.number as usize);
+        i += 1;
+    }
+    first
+}
+
 // 'It takes in each pair voted for by ..', in the order of numbers.
 fn take_in(
     kept: [Stamped; DEPTH],
-    fresh: &[u16; PLACES],
-    old: &[u16; PLACES],
+    fresh: Voters,
+    old: Voters,
     values: &[u16; PLACES],
     m: usize,
     rules: Rules,
 ) -> [Stamped; DEPTH]
-    requires { ⌜ (m ≤ 65) × ((1 ≤ rules .echo) × (1 ≤ rules .reply)) ⌝ }
-    ensures { λ r. ⌜ keys r ≡ taken (voting (rules .echo) (rules .reply) (sets (now (fresh .entry))) (sets (now (old .entry)))) (pairOf (now (values .entry))) m (keys kept) ⌝ }
+    requires { ⌜ (m ≤ places) × (1 ≤ rules .echo) × (1 ≤ rules .reply) × ((j : ℕ) → getD (now values) j 0 < 65536) ⌝ }
+    ensures { λ r. ⌜ keys r ≡ taken (voting (rules .echo) (rules .reply) (sets (listed fresh)) (sets (listed old))) (pairOf (now (values .entry))) m (keys kept) ⌝ }
 {
     let mut k = kept;
-    let mut j: usize = 0;
+    let mut j = sets::lower(first_new(kept), m);
     while j < m {
-        let f = fresh[j];
-        let o = old[j];
+        let f = sets::at(&fresh.most, fresh.last, j);
+        let o = sets::at(&old.most, old.last, j);
         if is_voted(f, o, rules) {
             let p = Stamped {
                 kept: true,
@@ -88,7 +111,7 @@ fn replied(correct: bool, same: bool, asks: u8, pending: u8) -> u8
 }
 
 // The row of a server that sends nothing.
-fn quiet() -> Row
+pub fn quiet() -> Row
     ensures { λ r. ⌜ saidBy r ≡ silent ⌝ }
 {
     let none = store::none();
@@ -100,68 +123,65 @@ fn quiet() -> Row
     }
 }
 
-impl Server {
-    // The WRITE's pair, if it is a known one.
-    fn take_write(self, wrote: u8, values: &[u16; PLACES], m: usize) -> Self
-        requires { ⌜ m ≤ 65 ⌝ }
-        ensures { λ r. ⌜ server r ≡ withWrite (pairOf (now (values .entry))) m wrote (server self) ⌝ }
-    {
-        let at = wrote as usize;
-        if at < m {
-            let p = Stamped {
-                kept: true,
-                number: wrote,
-                value: values[at],
-            };
-            return self.write(p);
-        }
-        self
-    }
-
-    // Stage 1. `fresh` has the votes of this period with those that arrived now, `wrote` the number of the WRITE that arrived, `asks` the
-    // readers whose READ arrived; `live` lacks the readers whose read began in the last tick.
-    pub fn deliver(
-        self,
-        fresh: [u16; PLACES],
-        wrote: u8,
-        asks: u8,
-        live: u8,
-        values: &[u16; PLACES],
-        m: usize,
-        rules: Rules,
-    ) -> Step
-        requires { ⌜ (m ≤ 65) × ((1 ≤ rules .echo) × (1 ≤ rules .reply)) ⌝ }
-        ensures { λ r. ⌜ both r ≡ stageOne (pairOf (now (values .entry))) m (rules .echo) (rules .reply) wrote (sets fresh) (λ x. bit x asks) (λ x. bit x live) (server self) ⌝ }
-    {
-        let status = self.status;
-        if servers::is_faulty(status) {
-            let row = quiet();
-            return Step { server: self, row };
-        }
-        let before = self.kept;
-        let mut s = self.take_write(wrote, values, m);
-        let old = s.old;
-        let first = s.kept;
-        let kept = take_in(first, &fresh, &old, values, m, rules);
-        let pending = (s.pending & live) | asks;
-        let readers = replied(
-            servers::is_correct(status),
-            store::is_same(before, kept),
-            asks,
-            pending,
-        );
-        s.kept = kept;
-        s.fresh = fresh;
-        s.pending = pending;
-        let row = Row {
-            wrote,
-            echoed: false,
-            readers,
-            kept,
+// The store with the WRITE's pair, if it is a known one.
+fn with_write(
+    kept: [Stamped; DEPTH],
+    wrote: u8,
+    values: &[u16; PLACES],
+    m: usize,
+) -> [Stamped; DEPTH]
+    requires { ⌜ m ≤ places ⌝ }
+    ensures { λ r. ⌜ keys r ≡ cond (ltb wrote m) (take depth (insert (pairOf (now (values .entry)) wrote) (keys kept))) (keys kept) ⌝ }
+{
+    let at = wrote as usize;
+    if at < m {
+        let p = Stamped {
+            kept: true,
+            number: wrote,
+            value: values[at],
         };
-        Step { server: s, row }
+        return store::insert(kept, p);
     }
+    kept
+}
 
+// Stage 1 at a server that is not faulty and has noted its votes. `wrote` is the number of the WRITE that arrived, `asks` the readers whose READ
+// arrived; `live` lacks the readers whose read began in the last tick.
+pub fn deliver(
+    s: Server,
+    wrote: u8,
+    asks: u8,
+    live: u8,
+    values: &[u16; PLACES],
+    m: usize,
+    rules: Rules,
+) -> Delivery
+    requires { ⌜ (m ≤ places) × (1 ≤ rules .echo) × (1 ≤ rules .reply) × ((j : ℕ) → getD (now values) j 0 < 65536) ⌝ }
+    ensures { λ r. ⌜ deliveredTo s r ≡ delivered (pairOf (now (values .entry))) m (rules .echo) (rules .reply) wrote (sets (listed (s .fresh))) (λ x. bit x asks) (λ x. bit x live) (server s) ⌝ }
+{
+    let status = s.status;
+    let before = s.kept;
+    let fresh = s.fresh;
+    let old = s.old;
+    let first = with_write(before, wrote, values, m);
+    let kept = take_in(first, fresh, old, values, m, rules);
+    let pending = (s.pending & live) | asks;
+    let readers = replied(
+        servers::is_correct(status),
+        store::is_same(before, kept),
+        asks,
+        pending,
+    );
+    let row = Row {
+        wrote,
+        echoed: false,
+        readers,
+        kept,
+    };
+    Delivery { pending, row }
+}
+
+impl Server {
     // Stage 3 at a movement, where the placement makes it faulty or not.
     pub fn moved(self, two: bool, faulty: bool, t: u8) -> Self
         ensures { λ r. ⌜ server r ≡ movedOn two faulty t (server self) ⌝ }
@@ -175,46 +195,5 @@ impl Server {
             return self.wipe(t);
         }
         self.turn(two)
-    }
-}
-
-impl Step {
-    // Stage 2.
-    pub fn cure_end(mut self, t: u8, delta: u8) -> Self
-        ensures { λ r. ⌜ both r ≡ stageTwo delta t (both self) ⌝ }
-    {
-        let s = self.server;
-        let status = s.status;
-        if servers::is_cured_at(status, t, delta) {
-            let server = s.cure_end(t, delta);
-            let kept = server.kept;
-            let row0 = self.row;
-            let row = Row {
-                wrote: row0.wrote,
-                echoed: row0.echoed,
-                readers: server.pending,
-                kept,
-            };
-            return Step { server, row };
-        }
-        self
-    }
-
-    // Stages 3 and 4 at a movement.
-    pub fn move_on(self, two: bool, faulty: bool, t: u8) -> Self
-        ensures { λ r. ⌜ both r ≡ stageFour two faulty t (both self) ⌝ }
-    {
-        let s = self.server;
-        let server = s.moved(two, faulty, t);
-        let status = server.status;
-        let row0 = self.row;
-        let kept = row0.kept;
-        let row = Row {
-            wrote: row0.wrote,
-            echoed: servers::is_correct(status),
-            readers: row0.readers,
-            kept,
-        };
-        Step { server, row }
     }
 }

@@ -5,10 +5,10 @@ ghost use lib.ListN.{length};
 ghost use Rattle.calendar.specs.Bits.{bit};
 ghost use Rattle.calendar.specs.Layout.{rows, places, calendarSize, rowOf};
 ghost use Rattle.calendar.specs.View.{Spanned};
-ghost use Rattle.cluster.specs.Stored.{server, both, statusOf, keys, pairOf};
+ghost use Rattle.cluster.specs.Stored.{statusOf, keys, pairOf};
 ghost use Rattle.cluster.specs.Inputs.{Sized};
 ghost use Rattle.cluster.specs.Settled.{called, reached, CalmlyServed, CalmlyTicked};
-ghost use Rattle.cluster.specs.Tick.{Stepped, Heard, Emptied, Turned, Started, endsOf, feedOf};
+ghost use Rattle.cluster.specs.Tick.{Heard, Emptied, Turned, Started, endsOf, feedOf};
 use super::Arrivals;
 use super::Cluster;
 use super::Feed;
@@ -19,41 +19,14 @@ use super::Rules;
 use super::SERVERS;
 use super::Server;
 use super::Status;
-use super::Step;
+use super::Voters;
 use super::sending;
 use super::servers;
+use super::stages;
 use super::store;
 use calendar::DEPTH;
 use calendar::PLACES;
 use calendar::Stamped;
-
-// The stages 1 to 4 of server b in tick t, which shows them in their order.
-fn step(
-    s: Server,
-    work: &[u8],
-    b: usize,
-    arrivals: Arrivals,
-    movement: Movement,
-    t: u8,
-    rules: Rules,
-    values: &[u16; PLACES],
-    m: usize,
-) -> Step
-    requires { ⌜ (b < 16) × (m ≤ places) × (1 ≤ rules .echo) × (1 ≤ rules .reply) × (calendarSize ≤ length (now work)) × Spanned (now work) places ⌝ }
-    ensures { λ r. ⌜ Stepped (now (work .entry)) b arrivals movement t rules (now (values .entry)) m (server s) (both r) ⌝ }
-{
-    let voted = s.vote(work, calendar::row(t as usize, b));
-    let fresh = voted.fresh;
-    let wrote = arrivals.wrote[b];
-    let asks = arrivals.asks[b];
-    let first = voted.deliver(fresh, wrote, asks, arrivals.live, values, m, rules);
-    let second = first.cure_end(t, rules.delta);
-    if movement.moving {
-        let faulty = is_placed(movement.faulty, b);
-        return second.move_on(rules.two, faulty, t);
-    }
-    second
-}
 
 // Does the placement make server b faulty.
 fn is_placed(faulty: u16, b: usize) -> bool
@@ -147,7 +120,7 @@ fn pass_over(work: &mut [u8], t: usize, b: usize)
     }
 }
 
-// The stages of server b; `ends` has the ticks in which the readers' last reads end.
+// The stages of server b, in their order; `ends` has the ticks in which the readers' last reads end.
 fn turn(
     s: Server,
     work: &mut [u8],
@@ -165,12 +138,40 @@ fn turn(
     let values = known.values;
     let arrivals = feed.arrivals;
     let movement = feed.movement;
-    let links = feed.links;
-    let o = step(s, work, b, arrivals, movement, t, rules, &values, known.m);
-    calendar::clear(work, calendar::row(t as usize, b));
-    let row = o.row;
-    sending::send(work, plan, links, rules.n, t as usize, b, row, ends);
-    o.server
+    let at = calendar::row(t as usize, b);
+    // 1. Deliveries.
+    let mut x = s.vote(work, at);
+    let status = x.status;
+    let mut row = stages::quiet();
+    if !servers::is_faulty(status) {
+        let delivery = stages::deliver(
+            x,
+            arrivals.wrote[b],
+            arrivals.asks[b],
+            arrivals.live,
+            &values,
+            known.m,
+            rules,
+        );
+        row = delivery.row;
+        let kept = row.kept;
+        x.kept = kept;
+        x.pending = delivery.pending;
+    }
+    // 2. Cures end.
+    if servers::is_cured_at(status, t, rules.delta) {
+        x = x.cure_end(t, rules.delta);
+        row.readers = x.pending;
+    }
+    // 3. Movement. 4. Echo.
+    if movement.moving {
+        x = x.moved(rules.two, is_placed(movement.faulty, b), t);
+        let now = x.status;
+        row.echoed = servers::is_correct(now);
+    }
+    calendar::clear(work, at);
+    sending::send(work, plan, feed.links, rules.n, t as usize, b, row, ends);
+    x
 }
 
 // The stages of all servers. A settled server that nothing new reaches is left alone: its stages would change nothing that counts.
@@ -268,13 +269,14 @@ pub fn start(value: u16) -> Cluster
     };
     let kept = store::insert(store::none(), first);
     let zero = [0u16; PLACES];
+    let nobody = Voters::none();
     let correct = Status::Correct;
     let s = Server {
         status: correct,
         kept,
         pending: 0,
-        fresh: zero,
-        old: zero,
+        fresh: nobody,
+        old: nobody,
     };
     let reader = Reader {
         end: 0,

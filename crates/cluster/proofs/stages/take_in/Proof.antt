@@ -4,34 +4,41 @@ use Prim.Native.Nat.{_≤_, _-_}
 use native.Mathlib.Omega.{arith}
 use mathlib.Core.Path.{_≡_, refl, sym, _∙_}
 use mathlib.Core.Logic.{inl, inr}
+use Rattle.calendar.specs.Layout.{places}
 use Rattle.cluster.proofs.stages.take_in.Statement.{statement}
-use Rattle.cluster.proofs.StageLaws.{taken-yes, taken-no}
+use Rattle.cluster.proofs.Sizes.{most-length}
+use Rattle.cluster.proofs.Settled.{taken-above}
+use Rattle.cluster.proofs.StageLaws.{taken-yes, taken-no, voting-at}
 use Rattle.cluster.specs.Stages.{taken, voting}
-use Rattle.cluster.specs.Bits.{sets}
+use Rattle.cluster.specs.Bits.{sets, listed}
 use Rattle.cluster.proofs.stages.take_in.Tie as tie
 use Rattle.cluster.specs.Stored.{keys, pairOf}
 
 abbrev Inv-loop : tie.InvT-loop
-Inv-loop fresh old values m rules k₀ j₀ k j = (j ≤ m) × (m ≤ 65) × (keys k ≡ taken (voting (rules .echo) (rules .reply) (sets fresh) (sets old)) (pairOf values) j (keys k₀))
+Inv-loop values m rules fresh old k₀ j₀ k j = (j ≤ m) × (m ≤ places) × (keys k ≡ taken (voting (rules .echo) (rules .reply) (sets (listed fresh)) (sets (listed old))) (pairOf values) j (keys k₀))
 
 abbrev μ-loop : tie.MeasureT-loop
-μ-loop fresh old values m rules k₀ j₀ k j = m - j
+μ-loop values m rules fresh old k₀ j₀ k j = m - j
+
+first-new-requires : tie.Need-first-new-requires Inv-loop μ-loop
+first-new-requires c κs = search needs
+
+lower-requires : tie.Need-lower-requires Inv-loop μ-loop
+lower-requires c κs = search needs
 
 loop-holds : tie.Need-loop-holds Inv-loop μ-loop
-unfolding taken
-loop-holds c = (omega arith, omega arith, refl)
+loop-holds c =
+    let s = c .before .before in (
+      c .lower .ensures .1,
+      s .pre .0,
+      sym (taken-above _ (s .args .values .now) (s .args .kept) _ _ (s .pre .3) (s .good .0 .1 .0 .1) (c .before .first-new .ensures .1) (c .lower .ensures .0)),
+    )
 
-mul-f : tie.Need-mul-f Inv-loop μ-loop
-mul-f c = search needs
+at-requires : tie.Need-at-requires Inv-loop μ-loop
+at-requires c κs = let s = c .before .before .before .before .before .before in (most-length (s .args .t2) (s .good .1 .0), omega (arith, c .before .before .loop-test .taken, c .before .before .before .loop .inv .1))
 
-element-copy-out-f : tie.Need-element-copy-out-f Inv-loop μ-loop
-element-copy-out-f c = search needs
-
-mul-o : tie.Need-mul-o Inv-loop μ-loop
-mul-o c = search needs
-
-element-copy-out-o : tie.Need-element-copy-out-o Inv-loop μ-loop
-element-copy-out-o c = search needs
+at-requires-2 : tie.Need-at-requires-2 Inv-loop μ-loop
+at-requires-2 c κs = let s = c .before .before .before .before .before .before .before .before .before in (most-length (s .args .t3) (s .good .1 .1 .0), omega (arith, c .before .before .before .before .before .loop-test .taken, c .before .before .before .before .before .before .loop .inv .1))
 
 is-voted-requires : tie.Need-is-voted-requires Inv-loop μ-loop
 is-voted-requires c κs = search needs
@@ -55,22 +62,22 @@ loop-less : tie.Need-loop-less Inv-loop μ-loop
 loop-less c = search needs
 
 loop-again : tie.Need-loop-again Inv-loop μ-loop
-loop-again c = let h = c .before .before .before .before .before .loop .inv in
-    let j = c .before .before .before .before .before .loop .j in
-    let a = c .before .before .before .before .before .before .args in
-    let C = voting (a .rules .echo) (a .rules .reply) (sets (a .fresh .now)) (sets (a .old .now)) in (
-      omega arith,
+loop-again c = let h = c .before .before .before .before .before .before .before .before .before .loop .inv in
+    let j = c .before .before .before .before .before .before .before .before .before .loop .j in
+    let k = c .before .before .before .before .before .before .before .before .before .loop .k in
+    let a = c .before .before .before .before .before .before .before .before .before .before .before .before .args in
+    let C = voting (a .rules .echo) (a .rules .reply) (sets (listed (a .t2))) (sets (listed (a .t3))) in
+    let voted : C j ≡ c .before .is-voted .result = voting-at (a .rules .echo) (a .rules .reply) (listed (a .t2)) (listed (a .t3)) j _ _ _ (c .before .before .before .before .before .at .ensures) (c .before .before .at2 .ensures) (c .before .is-voted .ensures) in (
+      omega (arith, c .before .before .before .before .before .before .before .before .loop-test .taken),
       h .1,
       elim (c .if1 .came) [
-        | inl w ↦ (rw (w .3) (taken-yes C (pairOf (a .values .now)) j (keys (a .kept)) (keys (c .before .before .before .before .before .loop .k)) _ (h .2)
-            (sym (c .before .is-voted .ensures) ∙ w .0 .taken) (w .2 .ensures)))
-        | inr w ↦ (rw (w .1) (taken-no C (pairOf (a .values .now)) j (keys (a .kept)) (keys (c .before .before .before .before .before .loop .k)) _ (h .2)
-            (sym (c .before .is-voted .ensures) ∙ w .0 .left) refl))
+        | inl w ↦ rw (w .3) (taken-yes C (pairOf (a .values .now)) j (keys (a .kept)) (keys k) _ (h .2) (voted ∙ w .0 .taken) (w .2 .ensures))
+        | inr w ↦ rw (w .1) (taken-no C (pairOf (a .values .now)) j (keys (a .kept)) (keys k) _ (h .2) (voted ∙ w .0 .left) refl)
       ],
     )
 
 returns : tie.Need-returns Inv-loop μ-loop
-returns c = let h = c .before .loop .inv in let e : c .before .loop .j ≡ c .before .before .args .m = omega arith in rw e at (h .2)
+returns c = let h = c .before .loop .inv in let e : c .before .loop .j ≡ c .before .before .before .before .args .m = omega (arith, c .loop-test .left, h .0) in rw e at (h .2)
 
 pub take-in-spec : {M : Type 1} → statement M
 take-in-spec =
@@ -78,11 +85,11 @@ take-in-spec =
     (tie.spec
     Inv-loop
     μ-loop
+    first-new-requires
+    lower-requires
     loop-holds
-    mul-f
-    element-copy-out-f
-    mul-o
-    element-copy-out-o
+    at-requires
+    at-requires-2
     is-voted-requires
     cast-t21
     mul-t22

@@ -1,10 +1,7 @@
 -- `tick::start` meets its contract.
 use mathlib.Core.Path.{refl, _∙_}
-use lib.ListN.{replicate}
 use borrow.Author.Needs.{needs}
 use Rattle.register.specs.Server.{insert}
-use Rattle.calendar.specs.Layout.{places}
-use Rattle.cluster.proofs.StageLaws.{zero-table}
 use Rattle.cluster.proofs.TickLaws.{started, first-server}
 use Rattle.cluster.proofs.tick.start.Statement.{statement}
 use Rattle.cluster.proofs.tick.start.Tie as tie
@@ -15,11 +12,14 @@ none-requires c κs = search needs
 insert-requires : tie.Need-insert-requires
 insert-requires c κs = search needs
 
+none-requires-2 : tie.Need-none-requires-2
+none-requires-2 c κs = search needs
+
 returns : tie.Need-returns
 unfolding insert
 returns c =
-    let v = c .before .before .args .value in
-    started v _ _ (first-server v (c .insert .result) (replicate places 0) (c .insert .ensures ∙ rw (c .before .none .ensures)) zero-table) refl
+    let v = c .before .before .before .args .value in
+    started v _ _ (first-server v (c .before .insert .result) (c .none2 .result) (c .before .insert .ensures ∙ rw (c .before .before .none .ensures)) (c .none2 .ensures)) refl
 
 pub start-spec : {M : Type 1} → statement M
-start-spec = tie.close (tie.spec none-requires insert-requires returns)
+start-spec = tie.close (tie.spec none-requires insert-requires none-requires-2 returns)
