@@ -22,7 +22,7 @@ use Rattle.register.proofs.Stores.{Falling}
 use Rattle.register.proofs.Claims.{quorum-named}
 use Rattle.register.proofs.Safety.{FreshSafe, OldSafe, ServerSafe, voted-genuine}
 use Rattle.cluster.specs.Stored.{Plain, Both}
-use Rattle.cluster.specs.Stages.{restated, silent, quorate, isNew, taken, voting, withWrite, repliesTo, delivered, stageOne, stageTwo}
+use Rattle.cluster.specs.Stages.{restated, silent, quorate, isNew, taken, voting, withWrite, repliesTo, delivered, deliveredOf, stageOne, stageTwo}
 use Rattle.cluster.specs.Inputs.{Knows}
 use Rattle.cluster.specs.State.{Votes, Rep}
 use Rattle.cluster.proofs.StageLaws.{write-kept}
@@ -146,7 +146,7 @@ module _ (P : Plan) (G : Good P) (g : ℕ → ℕ) (m : ℕ) (K : Knows P g m) w
 
     pub one-rep : (c : ℕ) → ServerSafe P t c x → ((p : ℕ) → In p ws → Genuine P t p) → ((v : Claim) → In v (x .fresh ++ vs) → FreshSafe P t c v)
         → Mid P g m t (stage1 P x ws vs rs) (stageOne g m (echoQuorum P) (replyQuorum P) w votes asks live s)
-    unfolding stage1 stageOne deliver delivered any takeIn
+    unfolding stage1 stageOne deliver delivered deliveredOf any takeIn
     one-rep c ok wok vok = rw (ap isFaulty (R .status)) (go (isFaulty (s .status)) refl)
       where
         e : ℕ

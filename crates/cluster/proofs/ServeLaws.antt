@@ -29,7 +29,7 @@ use Rattle.cluster.specs.Links.{delayAt, linkBit}
 use Rattle.cluster.specs.Sends.{votesFor, reaches, sendsVote, sendsReply, sends}
 use Rattle.cluster.specs.Stored.{Step, server, both, statusOf, keys, pairOf, absent, unset}
 use Rattle.cluster.specs.Inputs.{Sized}
-use Rattle.cluster.specs.Settled.{Calm, called, reached, CalmlyServed, CalmlyTicked}
+use Rattle.cluster.specs.Settled.{Settled, Calm, called, reached, CalmlyTurned, CalmlyServed, CalmlyTicked}
 use Rattle.cluster.specs.Tick.{Feed, Small, Heard, Emptied, Stepped, Turned, Served, Ticked, endsOf, present}
 use Rattle.cluster.proofs.IdleLaws.{unreached, idle-turned}
 
@@ -101,18 +101,28 @@ feedAt F work = record {
 
 -- what arrived is cleared, and what it sends is posted
 pub turned-here : (F : Feed) (ends : List ℕ) (b : ℕ) (s : Server) (o : Step) (cleared after : List ℕ) → Spanned (F .work) places
-    → Stepped (F .work) b (F .arrivals) (F .movement) (F .t) (F .rules) (F .known .values) (F .known .m) (server s) (both o)
+    → (Settled (pairOf (F .known .values)) (F .known .m) (F .rules .echo) (F .rules .reply) (server s) → Stepped (F .work) b (F .arrivals) (F .movement) (F .t) (F .rules) (F .known .values) (F .known .m) (server s) (both o))
     → Cleared (F .work) cleared (rowOf (F .t) b) → Posted cleared after (λ x j k. eqb k b && sends (F .plan) (F .links) (F .rules .n) (F .t) ends b (o .row) x j)
-    → Small (o .row .kept) → Turned F ends b s (o .server) after
+    → Small (o .row .kept) → CalmlyTurned F ends b s (o .server) after
 turned-here F ends b s o cleared after S T C P small = record {
-  out = o;
-  done = T;
-  next = refl;
-  small = small;
-  rest = record { size = P .rest .size ∙ C .rest .size; past = λ k h. P .rest .past k h ∙ C .rest .past k h };
-  spans = posted-spanned cleared after _ places (omega arith) P (λ x j k h m q. m) (cleared-spanned (F .work) cleared (rowOf (F .t) b) places (omega arith) C S);
-  cells = λ x j i h m. P .cells x j i h m ∙ rw (cleared-cells (F .work) cleared (rowOf (F .t) b) places (omega arith) C S x j i h m);
+  rest = rest;
+  spans = spans;
+  turned = λ K. record {
+    out = o;
+    done = T K;
+    next = refl;
+    small = small;
+    rest = rest;
+    spans = spans;
+    cells = λ x j i h m. P .cells x j i h m ∙ rw (cleared-cells (F .work) cleared (rowOf (F .t) b) places (omega arith) C S x j i h m);
+  };
 }
+  where
+    rest : SamePast (F .work) after
+    rest = record { size = P .rest .size ∙ C .rest .size; past = λ k h. P .rest .past k h ∙ C .rest .past k h }
+
+    spans : Spanned after places
+    spans = posted-spanned cleared after _ places (omega arith) P (λ x j k h m q. m) (cleared-spanned (F .work) cleared (rowOf (F .t) b) places (omega arith) C S)
 
 -- ---- the loop over the servers
 
@@ -257,12 +267,12 @@ module _ (F : Feed) (ends : List ℕ) (c : List Server) where
   module _ (r : List Server) (work : List ℕ) (b : ℕ) (l : b < 16) (size : length c ≡ 16) (H : Serving r work b)
       (now : (i x j : ℕ) (row : Row) → i < b → x / receivers ≡ F .t % 16 → sent i row x j ≡ false) where
     -- a server that something reaches
-    pub serving-turn : (q : Server) (after : List ℕ) → Turned (feedAt F work) ends b (getD r b absent) q after → Serving (set r b q) after (b + 1)
-    serving-turn q after T = record {
+    pub serving-turn : b < F .rules .n → (q : Server) (after : List ℕ) → CalmlyTurned (feedAt F work) ends b (getD r b absent) q after → Serving (set r b q) after (b + 1)
+    serving-turn own q after T = record {
       past = record { size = T .rest .size ∙ H .past .size; past = λ k h. T .rest .past k h ∙ H .past .past k h };
       spans = T .spans;
       rest = λ i h. getD-set-other r b i q absent (λ e. omega arith) ∙ H .rest i (omega arith);
-      served = λ calm. served-turn r work b l size (H .rest b (omega arith)) (H .served calm) now q after T;
+      served = λ calm. served-turn r work b l size (H .rest b (omega arith)) (H .served calm) now q after (T .turned (rw (H .rest b (omega arith)) (calm b own)));
     }
 
     -- a server that nothing new reaches

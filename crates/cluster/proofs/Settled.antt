@@ -1,32 +1,31 @@
 -- A pair that is not new to a store stays so, and a server that has taken in every pair with a quorum stays so: at the start, and through all
 -- stages of a tick. It stands on StoreLaws and on register's laws of counting.
-use mathlib.Core.Path.{_≡_, refl, sym, ap, subst, _∙_}
-use mathlib.Core.Bool.{Bool, true, false, _||_, cond}
+use mathlib.Core.Path.{_≡_, refl, sym, ap, subst, _∙_, fun-ext}
+use mathlib.Core.Bool.{Bool, true, false, _&&_, _||_, cond}
 use mathlib.Core.Logic.{_⊎_, inl, inr}
 use mathlib.Core.List.{List, [], _∷_}
 use Prim.Native.Nat.{ℕ, zero, suc, _≤_, _<_}
 use native.Mathlib.Omega.{arith}
-use native.Mathlib.Decide.{ℕ-discrete}
+use native.Mathlib.Decide.{ℕ-discrete, decLe}
 use lib.Dec.{eqb, leb, ltb}
 use lib.ListN.{length, take, length-take, getD}
 use lib.Seq.{take-all}
-use borrow.Author.Tests.{le-ltb, le-leb, lt-leb, eq-eqb, ne-eqb, eqb-true, eqb-false, ltb-true, ltb-false, leb-true, not-false}
+use borrow.Author.Tests.{lt-ltb, le-ltb, le-leb, lt-leb, eq-eqb, ne-eqb, eqb-true, eqb-false, ltb-true, ltb-false, leb-true, not-false}
 use Rattle.register.specs.Lists.{count, sameList}
 use Rattle.register.specs.Server.{faulty, correct, isFaulty, curedAt, insert}
 use Rattle.register.proofs.Logic.{or-l}
 use Rattle.register.proofs.Lists.{sameList-eq}
 use Rattle.register.proofs.Counting.{count-none, count-mono}
-use Rattle.register.specs.Plan.{stamped}
-use Rattle.calendar.specs.declared.Stamped.{Stamped}
-use Rattle.calendar.specs.Posts.{vacant}
-use Rattle.calendar.specs.Layout.{depth}
+use Rattle.calendar.specs.Layout.{rows, places, depth, lowOf, highOf, sender}
+use Rattle.calendar.specs.View.{Spanned}
+use Rattle.calendar.proofs.Laws.{and-none, or-none}
 use Rattle.cluster.specs.declared.Cluster.{Cluster}
 use Rattle.cluster.specs.declared.Rules.{Rules}
-use Rattle.cluster.specs.Stored.{Plain, Both, AtLeast, server, keyOf, keys, pairOf, absent}
-use Rattle.cluster.specs.Stages.{noVotes, silent, blankAs, resetAt, restated, turned, isNew, taken, voting, withWrite, delivered, stageOne, stageTwo, movedOn, stageFour, stagesOf}
+use Rattle.cluster.specs.Stored.{Plain, Both, server, pairOf, absent}
+use Rattle.cluster.specs.Stages.{noVotes, silent, blankAs, resetAt, restated, turned, isNew, within, Voted, taken, voting, withWrite, delivered, deliveredOf, stageOne, stageTwo, movedOn, stageFour, stagesOf}
 use Rattle.cluster.specs.Settled.{Settled}
 use Rattle.cluster.specs.Tick.{Feed, Ticked, firstOf}
-use Rattle.cluster.proofs.StoreLaws.{same-as-itself, keys-short}
+use Rattle.cluster.proofs.StoreLaws.{same-as-itself}
 use Rattle.cluster.proofs.StageLaws.{write-kept}
 
 -- ---- putting a pair in changes nothing
@@ -185,27 +184,68 @@ taken-none c g (suc m) l h = rw (taken-none c g m l (λ j a. h j (omega arith)))
     go true e = h m (omega arith) e
     go false e = refl
 
--- ---- pairs below a full store
+-- ---- only the pairs that got votes
 
--- a pair comes before those of higher numbers
-below-key : (v n : ℕ) (p : Stamped) → v < 65536 → n < p .number → stamped 16 v n < keyOf p
-unfolding stamped
-below-key v n p h l = omega arith
+-- pairs from one on that do not pass
+pub taken-past : (c : ℕ → Bool) (g : ℕ → ℕ) (n m : ℕ) (l : List ℕ) → n ≤ m → ((j : ℕ) → n ≤ j → j < m → c j ≡ false) → taken c g m l ≡ taken c g n l
+unfolding taken
+taken-past c g zero zero l h e = refl
+taken-past c g (suc n) zero l h e = absurd (omega arith)
+taken-past c g n (suc m) l h e = go (ℕ-discrete n (suc m)) (λ k. taken-past c g n m l k (λ j a b. e j a (omega arith)))
+  where
+    go : Dec (n ≡ suc m) → (n ≤ m → taken c g m l ≡ taken c g n l) → taken c g (suc m) l ≡ taken c g n l
+    go (yes d) ih = rw d
+    go (no d) ih = rw (e m (omega arith) (omega arith)) (ih (omega arith))
 
-stands-below : (v n : ℕ) (ps : List Stamped) (k : ℕ) → v < 65536 → length ps ≡ k → ((q : ℕ) → q < k → (getD ps q vacant .kept ≡ true) × (n < getD ps q vacant .number)) → Stands (stamped 16 v n) (keys ps) k
-unfolding Stands keys
-stands-below v n [] k h e w = rw (sym e) tt
-stands-below v n (p ∷ ps) zero h e w = absurd (omega arith)
-stands-below v n (p ∷ ps) (suc k) h e w =
-    let z = w 0 (omega arith) in
-    rw (z .0) (inr (below-key v n p h (z .1), stands-below v n ps k h (omega arith) (λ q l. w (suc q) (omega arith))))
+module _ (v : ℕ → Bool) (g : ℕ → ℕ) (low high : ℕ) where
+  -- no pair below the span
+  pub taken-below : (n : ℕ) (l : List ℕ) → n ≤ low → taken (λ j. within low high j && v j) g n l ≡ l
+  unfolding taken
+  taken-below n l h = taken-past (λ j. within low high j && v j) g 0 n l (omega arith) (λ j a b. rw (lt-leb low j (omega arith)))
 
--- taking them in changes nothing
-pub taken-above : (c : ℕ → Bool) (values : List ℕ) (kept : List Stamped) (n j : ℕ) → ((i : ℕ) → getD values i 0 < 65536) → length kept ≡ depth → AtLeast kept n → j ≤ n
-    → taken c (pairOf values) j (keys kept) ≡ keys kept
-taken-above c values kept n j h e A l = taken-none c (pairOf values) j (keys kept) (λ i d t.
-    stands-same depth (pairOf values i) (keys kept) (omega (arith, keys-short kept, e))
-    (stands-below (getD values i 0) i kept depth (h i) e (λ q z. let w = A .each (omega arith) q z in (w .0, omega (arith, w .1)))))
+  -- none beyond it
+  pub taken-beyond : (n m : ℕ) (l : List ℕ) → n ≤ m → (high ≤ m → high ≤ n) → (m ≤ high → m ≤ n)
+      → taken (λ j. within low high j && v j) g m l ≡ taken (λ j. within low high j && v j) g n l
+  taken-beyond n m l h e f = go (decLe high m)
+    where
+      go : Dec (high ≤ m) → taken (λ j. within low high j && v j) g m l ≡ taken (λ j. within low high j && v j) g n l
+      go (yes d) = taken-past (λ j. within low high j && v j) g n m l h (λ j a b. rw (le-ltb j high (omega (arith, e d)), and-none (leb low j)))
+      go (no d) = let z : n ≡ m = omega (arith, f (omega arith)) in rw z
+
+pub from-low : (low m j : ℕ) → (low ≤ m → low ≤ j) → (m ≤ low → m ≤ j) → j < m → low ≤ j
+from-low low m j e f h = go (decLe low m)
+  where
+    go : Dec (low ≤ m) → low ≤ j
+    go (yes d) = e d
+    go (no d) = absurd (omega (arith, f (omega arith)))
+
+changes : (p : ℕ) (k : List ℕ) → isNew p k ≡ true → take depth (insert p k) ≡ k → ⊥
+unfolding isNew
+changes p k n d = let z : _≡_ {A = ℕ} 0 1 = ap (λ (x : Bool). cond x 1 0) (rw (d, same-as-itself k) at n) in omega arith
+
+-- of a settled server that has noted the votes of a row, the pairs outside the row's span are taken in to no effect
+module _ (g : ℕ → ℕ) (m e r w : ℕ) (work : List ℕ) (row : ℕ) (s q : Plain) (Z : Voted (sender work row) s q) (K : Settled g m e r s) (alive : isFaulty (s .status) ≡ false)
+    (few : m ≤ places) (l : row < rows) (S : Spanned work places) where
+  silent-outside : (j : ℕ) → j < m → within (lowOf work row) (highOf work row) j ≡ false → q .fresh j ≡ s .fresh j
+  silent-outside j h out = fun-ext (λ i. Z .fresh alive j i (omega arith) ∙ rw (none i (sender work row j i) refl) (sym (or-none (s .fresh j i))))
+    where
+      none : (i : ℕ) (b : Bool) → sender work row j i ≡ b → b ≡ false
+      none i false d = refl
+      none i true d =
+          let z = S .within row j i l (omega arith) d in
+          rw (le-leb (lowOf work row) j (z .0), lt-ltb j (highOf work row) (z .1)) at out
+
+  pub span-enough : taken (λ j. within (lowOf work row) (highOf work row) j && voting e r (q .fresh) (q .old) j) g m (withWrite g m w q .kept)
+      ≡ taken (voting e r (q .fresh) (q .old)) g m (withWrite g m w q .kept)
+  span-enough = rw (write-kept g m w q) (written-alike g m w (q .kept) (rw (Z .kept) (K .few)) _ _ (λ j h n. go j h n (within (lowOf work row) (highOf work row) j) refl))
+    where
+      go : (j : ℕ) → j < m → isNew (g j) (q .kept) ≡ true → (b : Bool) → within (lowOf work row) (highOf work row) j ≡ b → b && voting e r (q .fresh) (q .old) j ≡ voting e r (q .fresh) (q .old) j
+      go j h n true d = refl
+      go j h n false d = unvoted (voting e r (q .fresh) (q .old) j) refl
+        where
+          unvoted : (v : Bool) → voting e r (q .fresh) (q .old) j ≡ v → false ≡ v
+          unvoted false v = refl
+          unvoted true v = absurd (changes (g j) (s .kept) (rw (← Z .kept) n) (K .same j h (rw (← silent-outside j h d, ← Z .old) v)))
 
 -- ---- the stages
 
@@ -227,7 +267,7 @@ module _ (g : ℕ → ℕ) (m e r : ℕ) (he : 1 ≤ e) (hr : 1 ≤ r) where
   first-settled v = unvoted-settled (firstOf v) (omega arith) refl refl
 
   delivered-settled : (w : ℕ) (votes : ℕ → ℕ → Bool) (asks live : ℕ → Bool) (s : Plain) → length (s .kept) ≤ depth → Fine (delivered g m e r w votes asks live s .server)
-  unfolding delivered
+  unfolding delivered deliveredOf
   delivered-settled w votes asks live s h = record {
     few = small;
     same = λ j l v. stands-same depth (g j) _ small (taken-stands (voting e r votes (s .old)) g m (withWrite g m w s .kept) j l v);

@@ -7,7 +7,6 @@ use lib.ListN.{length, length-map, getD}
 use mir.Val.{Val}
 use denote.Laws.{Is}
 use denote.Array.{each}
-use denote.Struct.Field.{u16-field}
 use denote.Shadow.{shadow}
 use denote.Struct.Declared.{field}
 use denote.Struct.Laws as LL
@@ -21,11 +20,6 @@ use Rattle.cluster.specs.declared.Row.{Row}
 use Rattle.cluster.specs.declared.Delivery.{Delivery}
 use Rattle.cluster.proofs.Delivery as TD
 use Rattle.cluster.proofs.Delivery.Laws as TD′
-use Rattle.cluster.specs.declared.Feed.{Feed}
-use Rattle.cluster.proofs.Known as TK
-use Rattle.cluster.proofs.Known.Laws as TK′
-use Rattle.cluster.proofs.Feed as TF
-use Rattle.cluster.proofs.Feed.Laws as TF′
 use Rattle.calendar.proofs.Stamped as TP
 use Rattle.calendar.proofs.Stamped.Laws as TP′
 use Rattle.cluster.proofs.Voters as TV
@@ -81,14 +75,3 @@ servers-small [] us e b = (omega arith, λ q. omega arith)
 servers-small (s ∷ ss) [] e b = absurd e
 servers-small (s ∷ ss) (u ∷ us) e zero = server-small s (e .0)
 servers-small (s ∷ ss) (u ∷ us) e (suc b) = servers-small ss us (e .1) b
-
--- the numbers of an array
-numbers-fit : (xs : List ℕ) (us : List Val) → shadow (each (u16-field .row .Denot) (u16-field .row .own) (map (u16-field .into) xs) us) → (j : ℕ) → getD xs j 0 < 65536
-numbers-fit [] us e j = omega arith
-numbers-fit (x ∷ xs) [] e j = absurd e
-numbers-fit (x ∷ xs) (u ∷ us) e zero = e .0 .1
-numbers-fit (x ∷ xs) (u ∷ us) e (suc j) = numbers-fit xs us (e .1) j
-
--- the values that a tick is fed
-pub values-fit : (f : Feed) {vs : List Val} → Is TF.the-row f vs → (j : ℕ) → getD (f .known .values) j 0 < 65536
-values-fit f {vs} is j = numbers-fit (f .known .values) _ (LL.owed TK.the-type TK′.the-laws (f .known) _ (LL.owed TF.the-type TF′.the-laws f vs is .1 .1 .0) .0 .1 .1) j

@@ -10,7 +10,7 @@ use lib.Dec.{leb, ltb}
 use lib.ListN.{take, getD, replicate}
 use lib.Bits.{bitOr, bitAnd}
 use lib.Count.{ones}
-use borrow.Author.Tests.{le-leb, lt-leb}
+use borrow.Author.Tests.{lt-ltb, le-leb, lt-leb}
 use Rattle.register.specs.Lists.{count, sameList}
 use Rattle.register.specs.Server.{Status, faulty, cured, correct, isFaulty, isCorrect, curedAt, insert}
 use Rattle.register.proofs.Logic.{cond-ap}
@@ -19,7 +19,7 @@ use Rattle.calendar.specs.Bits.{bit}
 use Rattle.calendar.specs.Layout.{depth}
 use Rattle.cluster.specs.Bits.{sets}
 use Rattle.cluster.specs.Stored.{Plain, Said, Both}
-use Rattle.cluster.specs.Stages.{nobody, noVotes, blankAs, silent, restated, written, resetAt, cureEnded, turned, quorate, taken, voting, withWrite, repliesTo, delivered, stageOne, stageTwo, movedOn, stageFour}
+use Rattle.cluster.specs.Stages.{nobody, noVotes, blankAs, silent, restated, written, resetAt, cureEnded, turned, within, quorate, taken, voting, withWrite, repliesTo, delivered, deliveredOf, stageOne, stageTwo, movedOn, stageFour}
 use Rattle.cluster.proofs.BitLaws.{bit-zero, bit-or, bit-and, unmarked, ones-count, ones-either}
 
 pub zero-table : sets (replicate 65 0) ≡ noVotes
@@ -55,6 +55,10 @@ pub voting-at : (e r : ℕ) (xs ys : List ℕ) (j f o : ℕ) (b : Bool) → f �
 voting-at e r xs ys j f o b h k q =
     ap (λ (x : ℕ). quorate e r (λ i. bit i x) (λ i. bit i (getD ys j 0))) (sym h) ∙ (ap (λ (y : ℕ). quorate e r (λ i. bit i f) (λ i. bit i y)) (sym k) ∙ sym q)
 
+-- a pair in the span
+pub in-span : (low high j : ℕ) (b v : Bool) → low ≤ j → j < high → v ≡ b → within low high j && v ≡ b
+in-span low high j b v l h e = rw (le-leb low j l, lt-ltb j high h) e
+
 -- ---- a turn of taking in
 
 module _ (c : ℕ → Bool) (g : ℕ → ℕ) (j : ℕ) (l k r : List ℕ) (e : k ≡ taken c g j l) where
@@ -80,21 +84,22 @@ pending-law p l a = fun-ext (λ x. rw (bit-or x (bitAnd p l) a, bit-and x p l))
 pub write-kept : (g : ℕ → ℕ) (m w : ℕ) (s : Plain) → withWrite g m w s .kept ≡ cond (ltb w m) (take depth (insert (g w) (s .kept))) (s .kept)
 write-kept g m w s = cond-ap (λ (x : Plain). x .kept) (ltb w m) (written (g w) s) s
 
-pub delivered-law : (g : ℕ → ℕ) (m e r w : ℕ) (votes : ℕ → ℕ → Bool) (asks live : ℕ → Bool) (s : Plain) (first kept : List ℕ) (pend readers : ℕ → Bool)
-    → first ≡ cond (ltb w m) (take depth (insert (g w) (s .kept))) (s .kept) → kept ≡ taken (voting e r votes (s .old)) g m first
+pub delivered-law : (g : ℕ → ℕ) (m : ℕ) (c : ℕ → Bool) (w : ℕ) (votes : ℕ → ℕ → Bool) (asks live : ℕ → Bool) (s : Plain) (first kept : List ℕ) (pend readers : ℕ → Bool)
+    → first ≡ cond (ltb w m) (take depth (insert (g w) (s .kept))) (s .kept) → kept ≡ taken c g m first
     → pend ≡ (λ x. (s .pending x && live x) || asks x) → readers ≡ repliesTo (isCorrect (s .status)) (sameList (s .kept) kept) asks pend
     → record {
       server = record { status = s .status; kept = kept; pending = pend; fresh = votes; old = s .old };
       said = record { wrote = w; echoed = false; readers = readers; pairs = kept };
-    } ≡ delivered g m e r w votes asks live s
-unfolding delivered
-delivered-law g m e r w votes asks live s first kept pend readers f k p a = rw (a, k, p, f, write-kept g m w s)
+    } ≡ deliveredOf g m c w votes asks live s
+unfolding deliveredOf
+delivered-law g m c w votes asks live s first kept pend readers f k p a = rw (a, k, p, f, write-kept g m w s)
 
 -- a server that is not faulty takes it
-pub taken-law : (g : ℕ → ℕ) (m e r w : ℕ) (votes : ℕ → ℕ → Bool) (asks live : ℕ → Bool) (s : Plain) (o : Both) → isFaulty (s .status) ≡ false
-    → o ≡ delivered g m e r w votes asks live s → o ≡ stageOne g m e r w votes asks live s
-unfolding stageOne
-taken-law g m e r w votes asks live s o h d = rw h d
+pub taken-law : (g : ℕ → ℕ) (m e r w : ℕ) (votes : ℕ → ℕ → Bool) (asks live : ℕ → Bool) (s : Plain) (o : Both) (c : ℕ → Bool) → isFaulty (s .status) ≡ false
+    → o ≡ deliveredOf g m c w votes asks live s → taken c g m (withWrite g m w s .kept) ≡ taken (voting e r votes (s .old)) g m (withWrite g m w s .kept)
+    → o ≡ stageOne g m e r w votes asks live s
+unfolding stageOne delivered deliveredOf
+taken-law g m e r w votes asks live s o c h d k = d ∙ rw (h, k)
 
 -- a faulty server loses what arrives
 pub lost-law : (g : ℕ → ℕ) (m e r w : ℕ) (votes : ℕ → ℕ → Bool) (asks live : ℕ → Bool) (s : Plain) (q : Said) → isFaulty (s .status) ≡ true → q ≡ silent

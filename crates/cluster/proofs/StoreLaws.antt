@@ -230,22 +230,3 @@ module _ (g : ℕ → ℕ) (l : List ℕ) (low : ℕ) where
       go : Dec (low ≤ j) → (leb low j && isNew (g j) l) || false ≡ false
       go (yes h) = rw (le-leb low j h, f j h (omega arith))
       go (no h) = rw (lt-leb low j (omega arith))
-
--- ---- numbers of the pairs in the first places
-
-pub numbers-more : (kept : List Stamped) (first f i : ℕ) → ((q : ℕ) → q < i → (getD kept q vacant .kept ≡ true) × (first ≤ getD kept q vacant .number)) → f ≤ first
-    → getD kept i vacant .kept ≡ true → f ≤ getD kept i vacant .number → (q : ℕ) → q < i + 1 → (getD kept q vacant .kept ≡ true) × (f ≤ getD kept q vacant .number)
-numbers-more kept first f i h l k n q d = go (decLe i q)
-  where
-    go : Dec (i ≤ q) → (getD kept q vacant .kept ≡ true) × (f ≤ getD kept q vacant .number)
-    go (yes e) = let z : q ≡ i = omega arith in rw z (k, n)
-    go (no e) = let w = h q (omega arith) in (w .0, omega (arith, w .1))
-
-pub keys-short : (ps : List Stamped) → length (keys ps) ≤ length ps
-unfolding keys
-keys-short [] = omega arith
-keys-short (p ∷ ps) = go (p .kept) (keys-short ps)
-  where
-    go : (b : Bool) → length (keys ps) ≤ length ps → length (cond b (keyOf p ∷ keys ps) []) ≤ suc (length ps)
-    go true l = omega arith
-    go false l = omega arith

@@ -16,7 +16,7 @@ use Rattle.cluster.specs.declared.Rules.{Rules}
 use Rattle.cluster.specs.declared.Status.the-variants.{Correct}
 use Rattle.cluster.specs.Bits.{sets, listed, Joined}
 use Rattle.cluster.specs.Stored.{Plain, Both, server, keys, absent}
-use Rattle.cluster.specs.Stages.{noVotes, Voted, stageOne, delivered, stageTwo, stageFour, stagesOf}
+use Rattle.cluster.specs.Stages.{noVotes, Voted, stageOne, delivered, deliveredOf, stageTwo, stageFour, stagesOf}
 use Rattle.cluster.specs.Tick.{noReader, endsOf, firstOf, Started}
 use Rattle.cluster.proofs.StageLaws.{zero-set, write-kept}
 
@@ -25,7 +25,7 @@ use Rattle.cluster.proofs.StageLaws.{zero-set, write-kept}
 module _ (g : ℕ → ℕ) (m e r w : ℕ) (votes : ℕ → ℕ → Bool) (asks live : ℕ → Bool) where
   alive : (s : Plain) (f : ℕ → ℕ → Bool) → isFaulty (s .status) ≡ false
       → stageOne g m e r w votes asks live (record { status = s .status; kept = s .kept; pending = s .pending; fresh = f; old = s .old }) ≡ stageOne g m e r w votes asks live s
-  unfolding stageOne delivered
+  unfolding stageOne delivered deliveredOf
   alive s f h = rw (h, write-kept g m w s, write-kept g m w (record { status = s .status; kept = s .kept; pending = s .pending; fresh = f; old = s .old }))
 
   one-voted : (s q : Plain) (f : ℕ → ℕ → Bool) → Voted f s q → stageOne g m e r w votes asks live q ≡ stageOne g m e r w votes asks live s

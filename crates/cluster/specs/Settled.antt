@@ -18,7 +18,7 @@ use Rattle.cluster.specs.declared.Arrivals.{Arrivals}
 use Rattle.cluster.specs.declared.Movement.{Movement}
 use Rattle.cluster.specs.Stored.{Plain, server, pairOf, absent}
 use Rattle.cluster.specs.Stages.{voting, anyNew}
-use Rattle.cluster.specs.Tick.{Feed, Served, Ticked}
+use Rattle.cluster.specs.Tick.{Feed, Turned, Served, Ticked}
 
 pub record Settled (g : ℕ → ℕ) (m e r : ℕ) (s : Plain) : Type 0 where
   pub few : length (s .kept) ≤ depth
@@ -43,6 +43,12 @@ unfoldable pub reached : Bool → List ℕ → ℕ → (ℕ → ℕ) → Status 
 reached busy work row g status kept = busy || (not (isFaulty status) && anyNew g kept (lowOf work row) (highOf work row))
 
 module _ (F : Feed) where
+  -- server b has done the tick if it was settled; the workspace is in order in any case
+  pub record CalmlyTurned (ends : List ℕ) (b : ℕ) (s r : Server) (work : List ℕ) : Type 0 where
+    pub rest : SamePast (F .work) work
+    pub spans : Spanned work places
+    pub turned : Settled (pairOf (F .known .values)) (F .known .m) (F .rules .echo) (F .rules .reply) (server s) → Turned F ends b s r work
+
   -- the servers have done the tick if they were settled; the workspace is in order in any case
   pub record CalmlyServed (ends : List ℕ) (c r : List Server) (work : List ℕ) : Type 0 where
     pub rest : SamePast (F .work) work

@@ -80,14 +80,22 @@ repliesTo false same asks list = nobody
 repliesTo true true asks list = asks
 repliesTo true false asks list = list
 
-unfoldable pub delivered : (ℕ → ℕ) → ℕ → ℕ → ℕ → ℕ → (ℕ → ℕ → Bool) → (ℕ → Bool) → (ℕ → Bool) → Plain → Both
-delivered g m e r w votes asks live s =
-    let kept : List ℕ = taken (voting e r votes (s .old)) g m (withWrite g m w s .kept) in
+-- the pairs from one number to before another
+abbrev pub within : ℕ → ℕ → ℕ → Bool
+within low high j = leb low j && ltb j high
+
+-- with the pairs that pass
+unfoldable pub deliveredOf : (ℕ → ℕ) → ℕ → (ℕ → Bool) → ℕ → (ℕ → ℕ → Bool) → (ℕ → Bool) → (ℕ → Bool) → Plain → Both
+deliveredOf g m c w votes asks live s =
+    let kept : List ℕ = taken c g m (withWrite g m w s .kept) in
     let list : ℕ → Bool = λ x. (s .pending x && live x) || asks x in
     record {
       server = record { status = s .status; kept = kept; pending = list; fresh = votes; old = s .old };
       said = record { wrote = w; echoed = false; readers = repliesTo (isCorrect (s .status)) (sameList (s .kept) kept) asks list; pairs = kept };
     }
+
+unfoldable pub delivered : (ℕ → ℕ) → ℕ → ℕ → ℕ → ℕ → (ℕ → ℕ → Bool) → (ℕ → Bool) → (ℕ → Bool) → Plain → Both
+delivered g m e r w votes asks live s = deliveredOf g m (voting e r votes (s .old)) w votes asks live s
 
 unfoldable pub stageOne : (ℕ → ℕ) → ℕ → ℕ → ℕ → ℕ → (ℕ → ℕ → Bool) → (ℕ → Bool) → (ℕ → Bool) → Plain → Both
 stageOne g m e r w votes asks live s =

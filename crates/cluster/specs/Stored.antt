@@ -1,14 +1,11 @@
 -- A server and its row apart from how they are stored: sets as functions, a store as the list of its pairs.
-use mathlib.Core.Path.{_≡_}
-use mathlib.Core.Bool.{Bool, true, cond}
+use mathlib.Core.Bool.{Bool, cond}
 use mathlib.Core.List.{List, [], _∷_, _++_}
-use Prim.Native.Nat.{ℕ, suc, _≤_, _<_}
+use Prim.Native.Nat.{ℕ, suc}
 use lib.ListN.{getD, take, drop}
 use Rattle.register.specs.Plan.{stamped}
 use Rattle.register.specs.Server.{Status, faulty, cured, correct}
 use Rattle.calendar.specs.declared.Stamped.{Stamped}
-use Rattle.calendar.specs.Layout.{depth}
-use Rattle.calendar.specs.Posts.{vacant}
 use Rattle.cluster.specs.declared.Status.{Status as StoredStatus}
 use Rattle.cluster.specs.declared.Status.the-variants.{Faulty, Cured, Correct}
 use Rattle.cluster.specs.declared.Voters.{Voters}
@@ -78,10 +75,6 @@ deliveredTo s d = record {
   server = record { status = statusOf (s .status); kept = keys (d .row .kept); pending = λ x. bit x (d .pending); fresh = sets (listed (s .fresh)); old = sets (listed (s .old)) };
   said = saidBy (d .row);
 }
-
--- each place of the store has a pair of number n or higher; for 0 nothing is said
-pub record AtLeast (kept : List Stamped) (n : ℕ) : Type 0 where
-  pub each : 0 < n → (q : ℕ) → q < depth → (getD kept q vacant .kept ≡ true) × (n ≤ getD kept q vacant .number)
 
 -- pair j, from the table of values
 abbrev pub pairOf : List ℕ → ℕ → ℕ

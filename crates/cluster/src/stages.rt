@@ -1,15 +1,15 @@
 // The stages of one server's tick.
 ghost use mathlib.Core.Path.{_≡_};
-ghost use mathlib.Core.Bool.{cond};
-ghost use Prim.Native.Nat.{ℕ, _≤_, _<_};
+ghost use mathlib.Core.Bool.{_&&_, cond};
+ghost use Prim.Native.Nat.{_≤_};
 ghost use lib.Dec.{ltb};
-ghost use lib.ListN.{take, getD};
+ghost use lib.ListN.{take};
 ghost use Rattle.register.specs.Server.{insert};
 ghost use Rattle.calendar.specs.Bits.{bit};
 ghost use Rattle.calendar.specs.Layout.{places, depth};
 ghost use Rattle.cluster.specs.Bits.{sets, listed};
-ghost use Rattle.cluster.specs.Stored.{AtLeast, keys, pairOf, server, saidBy, deliveredTo};
-ghost use Rattle.cluster.specs.Stages.{silent, quorate, taken, voting, delivered, movedOn};
+ghost use Rattle.cluster.specs.Stored.{keys, pairOf, server, saidBy, deliveredTo};
+ghost use Rattle.cluster.specs.Stages.{silent, within, quorate, taken, voting, deliveredOf, movedOn};
 use super::Delivery;
 use super::Row;
 use super::Rules;
@@ -49,38 +49,24 @@ fn is_voted(fresh: u16, old: u16, rules: Rules) -> bool
     is_quorate(fresh, old, rules)
 }
 
-// No pair below this number changes the store: it is full of higher ones. 0 if it is not full.
-fn first_new(kept: [Stamped; DEPTH]) -> usize
-    ensures { λ r. ⌜ (r ≤ places) × AtLeast kept r ⌝ }
-{
-    let mut first = PLACES;
-    let mut i: usize = 0;
-    while i < DEPTH {
-        let p = kept[i];
-        if !p.kept {
-            return 0;
-        }
-        first = sets::lower(first, p.number as usize);
-        i += 1;
-    }
-    first
-}
-
-// 'It takes in each pair voted for by ..', in the order of numbers.
+// 'It takes in each pair voted for by ..', in the order of numbers, of the known pairs low .. high - 1.
 fn take_in(
     kept: [Stamped; DEPTH],
     fresh: Voters,
     old: Voters,
     values: &[u16; PLACES],
+    low: usize,
+    high: usize,
     m: usize,
     rules: Rules,
 ) -> [Stamped; DEPTH]
-    requires { ⌜ (m ≤ places) × (1 ≤ rules .echo) × (1 ≤ rules .reply) × ((j : ℕ) → getD (now values) j 0 < 65536) ⌝ }
-    ensures { λ r. ⌜ keys r ≡ taken (voting (rules .echo) (rules .reply) (sets (listed fresh)) (sets (listed old))) (pairOf (now (values .entry))) m (keys kept) ⌝ }
+    requires { ⌜ (m ≤ places) × (1 ≤ rules .echo) × (1 ≤ rules .reply) ⌝ }
+    ensures { λ r. ⌜ keys r ≡ taken (λ j. within low high j && voting (rules .echo) (rules .reply) (sets (listed fresh)) (sets (listed old)) j) (pairOf (now (values .entry))) m (keys kept) ⌝ }
 {
+    let end = sets::lower(high, m);
     let mut k = kept;
-    let mut j = sets::lower(first_new(kept), m);
-    while j < m {
+    let mut j = sets::lower(low, m);
+    while j < end {
         let f = sets::at(&fresh.most, fresh.last, j);
         let o = sets::at(&old.most, old.last, j);
         if is_voted(f, o, rules) {
@@ -146,25 +132,29 @@ fn with_write(
 }
 
 // Stage 1 at a server that is not faulty and has noted its votes. `wrote` is the number of the WRITE that arrived, `asks` the readers whose READ
-// arrived; `live` lacks the readers whose read began in the last tick.
+// arrived; `live` lacks the readers whose read began in the last tick. Only the pairs low .. high - 1 got votes: a settled server has taken in
+// the others.
 pub fn deliver(
     s: Server,
     wrote: u8,
     asks: u8,
     live: u8,
     values: &[u16; PLACES],
+    low: usize,
+    high: usize,
     m: usize,
     rules: Rules,
 ) -> Delivery
-    requires { ⌜ (m ≤ places) × (1 ≤ rules .echo) × (1 ≤ rules .reply) × ((j : ℕ) → getD (now values) j 0 < 65536) ⌝ }
-    ensures { λ r. ⌜ deliveredTo s r ≡ delivered (pairOf (now (values .entry))) m (rules .echo) (rules .reply) wrote (sets (listed (s .fresh))) (λ x. bit x asks) (λ x. bit x live) (server s) ⌝ }
+    requires { ⌜ (m ≤ places) × (1 ≤ rules .echo) × (1 ≤ rules .reply) ⌝ }
+    ensures { λ r. ⌜ deliveredTo s r ≡ deliveredOf (pairOf (now (values .entry))) m (λ j. within low high j && voting (rules .echo) (rules .reply) (server s .fresh) (server s .old) j)
+        wrote (server s .fresh) (λ x. bit x asks) (λ x. bit x live) (server s) ⌝ }
 {
     let status = s.status;
     let before = s.kept;
     let fresh = s.fresh;
     let old = s.old;
     let first = with_write(before, wrote, values, m);
-    let kept = take_in(first, fresh, old, values, m, rules);
+    let kept = take_in(first, fresh, old, values, low, high, m, rules);
     let pending = (s.pending & live) | asks;
     let readers = replied(
         servers::is_correct(status),

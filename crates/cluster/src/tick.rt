@@ -7,8 +7,8 @@ ghost use Rattle.calendar.specs.Layout.{rows, places, calendarSize, rowOf};
 ghost use Rattle.calendar.specs.View.{Spanned};
 ghost use Rattle.cluster.specs.Stored.{statusOf, keys, pairOf};
 ghost use Rattle.cluster.specs.Inputs.{Sized};
-ghost use Rattle.cluster.specs.Settled.{called, reached, CalmlyServed, CalmlyTicked};
-ghost use Rattle.cluster.specs.Tick.{Heard, Emptied, Turned, Started, endsOf, feedOf};
+ghost use Rattle.cluster.specs.Settled.{called, reached, CalmlyTurned, CalmlyServed, CalmlyTicked};
+ghost use Rattle.cluster.specs.Tick.{Heard, Emptied, Started, endsOf, feedOf};
 use super::Arrivals;
 use super::Cluster;
 use super::Feed;
@@ -130,7 +130,7 @@ fn turn(
     ends: [u8; READERS],
 ) -> Server
     requires { ⌜ (b < feed .rules .n) × Sized (now plan) (now work) (feed .t) (feed .rules) (feed .known) (feed .links) ⌝ }
-    ensures { λ r. ⌜ Turned (feedOf (now (plan .entry)) (now (work .entry)) feed) ends b s r (now (work .exit)) ⌝ }
+    ensures { λ r. ⌜ CalmlyTurned (feedOf (now (plan .entry)) (now (work .entry)) feed) ends b s r (now (work .exit)) ⌝ }
 {
     let t = feed.t;
     let rules = feed.rules;
@@ -139,6 +139,8 @@ fn turn(
     let arrivals = feed.arrivals;
     let movement = feed.movement;
     let at = calendar::row(t as usize, b);
+    let low = calendar::low(work, at);
+    let high = calendar::high(work, at);
     // 1. Deliveries.
     let mut x = s.vote(work, at);
     let status = x.status;
@@ -150,6 +152,8 @@ fn turn(
             arrivals.asks[b],
             arrivals.live,
             &values,
+            low,
+            high,
             known.m,
             rules,
         );

@@ -2,7 +2,6 @@
 use borrow.Author.Needs.{needs}
 use Rattle.cluster.proofs.StageLaws.{delivered-law, replied-law, pending-law}
 use Rattle.calendar.specs.Bits.{bit}
-use Rattle.cluster.specs.Bits.{sets, listed}
 use Rattle.cluster.specs.Stored.{server, pairOf}
 use Rattle.cluster.proofs.stages.deliver.Statement.{statement}
 use Rattle.cluster.proofs.stages.deliver.Tie as tie
@@ -24,7 +23,7 @@ replied-requires c κs = search needs
 
 returns : tie.Need-returns
 returns c = let a = c .before .before .before .before .before .before .before .before .before .args in
-    delivered-law (pairOf (a .values .now)) (a .m) (a .rules .echo) (a .rules .reply) (a .wrote) (sets (listed (a .s .fresh))) (λ x. bit x (a .asks)) (λ x. bit x (a .live)) (server (a .s)) _ _ _ _
+    delivered-law (pairOf (a .values .now)) (a .m) _ (a .wrote) (server (a .s) .fresh) (λ x. bit x (a .asks)) (λ x. bit x (a .live)) (server (a .s)) _ _ _ _
     (c .before .before .before .before .before .with-write .ensures) (c .before .before .before .before .take-in .ensures) (pending-law (a .s .pending) (a .live) (a .asks))
     (replied-law (c .replied .result) (a .asks) _ _ _ _ _ (c .replied .ensures) (c .before .before .is-correct .ensures) (c .before .is-same .ensures))
 

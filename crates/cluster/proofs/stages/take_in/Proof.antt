@@ -1,56 +1,76 @@
--- `stages::take_in` meets its contract. The loop's invariant: the store has taken in the pairs before j that have a quorum.
-use borrow.Author.Needs.{needs}
-use Prim.Native.Nat.{_≤_, _-_}
-use native.Mathlib.Omega.{arith}
+-- `stages::take_in` meets its contract. The loop's invariant: the store has taken in the pairs before j that are in the span and have a quorum.
 use mathlib.Core.Path.{_≡_, refl, sym, _∙_}
+use mathlib.Core.Bool.{Bool, true, false, _&&_}
 use mathlib.Core.Logic.{inl, inr}
+use Prim.Native.Nat.{ℕ, _≤_, _<_, _-_}
+use native.Mathlib.Omega.{arith}
+use borrow.Author.Needs.{needs}
 use Rattle.calendar.specs.Layout.{places}
-use Rattle.cluster.proofs.stages.take_in.Statement.{statement}
-use Rattle.cluster.proofs.Sizes.{most-length}
-use Rattle.cluster.proofs.Settled.{taken-above}
-use Rattle.cluster.proofs.StageLaws.{taken-yes, taken-no, voting-at}
-use Rattle.cluster.specs.Stages.{taken, voting}
 use Rattle.cluster.specs.Bits.{sets, listed}
-use Rattle.cluster.proofs.stages.take_in.Tie as tie
 use Rattle.cluster.specs.Stored.{keys, pairOf}
+use Rattle.cluster.specs.Stages.{within, taken, voting}
+use Rattle.cluster.proofs.Sizes.{most-length}
+use Rattle.cluster.proofs.StageLaws.{taken-yes, taken-no, voting-at, in-span}
+use Rattle.cluster.proofs.Settled.{from-low, taken-below, taken-beyond}
+use Rattle.cluster.proofs.stages.take_in.Statement.{statement}
+use Rattle.cluster.proofs.stages.take_in.Tie as tie
 
 abbrev Inv-loop : tie.InvT-loop
-Inv-loop values m rules fresh old k₀ j₀ k j = (j ≤ m) × (m ≤ places) × (keys k ≡ taken (voting (rules .echo) (rules .reply) (sets (listed fresh)) (sets (listed old))) (pairOf values) j (keys k₀))
+Inv-loop values low high m rules fresh old end k₀ j₀ k j =
+    (j ≤ m)
+    × (m ≤ places)
+    × (j < m → low ≤ j)
+    × (end ≤ high)
+    × (end ≤ m)
+    × (high ≤ m → high ≤ end)
+    × (m ≤ high → m ≤ end)
+    × (keys k ≡ taken (λ i. within low high i && voting (rules .echo) (rules .reply) (sets (listed fresh)) (sets (listed old)) i) (pairOf values) j (keys k₀))
 
 abbrev μ-loop : tie.MeasureT-loop
-μ-loop values m rules fresh old k₀ j₀ k j = m - j
-
-first-new-requires : tie.Need-first-new-requires Inv-loop μ-loop
-first-new-requires c κs = search needs
+μ-loop values low high m rules fresh old end k₀ j₀ k j = end - j
 
 lower-requires : tie.Need-lower-requires Inv-loop μ-loop
 lower-requires c κs = search needs
 
+lower-requires-2 : tie.Need-lower-requires-2 Inv-loop μ-loop
+lower-requires-2 c κs = search needs
+
 loop-holds : tie.Need-loop-holds Inv-loop μ-loop
 loop-holds c =
-    let s = c .before .before in (
-      c .lower .ensures .1,
-      s .pre .0,
-      sym (taken-above _ (s .args .values .now) (s .args .kept) _ _ (s .pre .3) (s .good .0 .1 .0 .1) (c .before .first-new .ensures .1) (c .lower .ensures .0)),
+    let a = c .before .before .args in
+    let e = c .before .lower .ensures in
+    let f = c .lower2 .ensures in (
+      f .1,
+      c .before .before .pre .0,
+      λ h. from-low (a .low) (a .m) _ (f .2) (f .3) h,
+      e .0,
+      e .1,
+      e .2,
+      e .3,
+      sym (taken-below _ (pairOf (a .values .now)) (a .low) (a .high) _ (keys (a .kept)) (f .0)),
     )
 
 at-requires : tie.Need-at-requires Inv-loop μ-loop
-at-requires c κs = let s = c .before .before .before .before .before .before in (most-length (s .args .t2) (s .good .1 .0), omega (arith, c .before .before .loop-test .taken, c .before .before .before .loop .inv .1))
+at-requires c κs = let s = c .before .before .before .before .before .before in
+    let i = c .before .before .before .loop .inv in
+    (most-length (s .args .t2) (s .good .1 .0), omega (arith, c .before .before .loop-test .taken, i .4, i .1))
 
 at-requires-2 : tie.Need-at-requires-2 Inv-loop μ-loop
-at-requires-2 c κs = let s = c .before .before .before .before .before .before .before .before .before in (most-length (s .args .t3) (s .good .1 .1 .0), omega (arith, c .before .before .before .before .before .loop-test .taken, c .before .before .before .before .before .before .loop .inv .1))
+at-requires-2 c κs = let s = c .before .before .before .before .before .before .before .before .before in
+    let i = c .before .before .before .before .before .before .loop .inv in
+    (most-length (s .args .t3) (s .good .1 .1 .0), omega (arith, c .before .before .before .before .before .loop-test .taken, i .4, i .1))
 
 is-voted-requires : tie.Need-is-voted-requires Inv-loop μ-loop
 is-voted-requires c κs = search needs
 
-cast-t21 : tie.Need-cast-t21 Inv-loop μ-loop
-cast-t21 c = search needs
+cast-t23 : tie.Need-cast-t23 Inv-loop μ-loop
+cast-t23 c = search needs
 
-mul-t22 : tie.Need-mul-t22 Inv-loop μ-loop
-mul-t22 c = search needs
+mul-t24 : tie.Need-mul-t24 Inv-loop μ-loop
+mul-t24 c = search needs
 
-element-copy-out-t25 : tie.Need-element-copy-out-t25 Inv-loop μ-loop
-element-copy-out-t25 c = search needs
+element-copy-out-t27 : tie.Need-element-copy-out-t27 Inv-loop μ-loop
+element-copy-out-t27 c = search needs
 
 insert-requires : tie.Need-insert-requires Inv-loop μ-loop
 insert-requires c κs = search needs
@@ -66,18 +86,28 @@ loop-again c = let h = c .before .before .before .before .before .before .before
     let j = c .before .before .before .before .before .before .before .before .before .loop .j in
     let k = c .before .before .before .before .before .before .before .before .before .loop .k in
     let a = c .before .before .before .before .before .before .before .before .before .before .before .before .args in
-    let C = voting (a .rules .echo) (a .rules .reply) (sets (listed (a .t2))) (sets (listed (a .t3))) in
-    let voted : C j ≡ c .before .is-voted .result = voting-at (a .rules .echo) (a .rules .reply) (listed (a .t2)) (listed (a .t3)) j _ _ _ (c .before .before .before .before .before .at .ensures) (c .before .before .at2 .ensures) (c .before .is-voted .ensures) in (
-      omega (arith, c .before .before .before .before .before .before .before .before .loop-test .taken),
+    let d = c .before .before .before .before .before .before .before .before .loop-test .taken in
+    let C : ℕ → Bool = λ i. within (a .low) (a .high) i && voting (a .rules .echo) (a .rules .reply) (sets (listed (a .t2))) (sets (listed (a .t3))) i in
+    let voted : C j ≡ c .before .is-voted .result = in-span (a .low) (a .high) j _ _ (h .2 (omega (arith, d, h .4))) (omega (arith, d, h .3))
+    (voting-at (a .rules .echo) (a .rules .reply) (listed (a .t2)) (listed (a .t3)) j _ _ _ (c .before .before .before .before .before .at .ensures) (c .before .before .at2 .ensures) (c .before .is-voted .ensures)) in (
+      omega (arith, d, h .4),
       h .1,
+      λ l. omega (arith, h .2 (omega (arith, d, h .4))),
+      h .3,
+      h .4,
+      h .5,
+      h .6,
       elim (c .if1 .came) [
-        | inl w ↦ rw (w .3) (taken-yes C (pairOf (a .values .now)) j (keys (a .kept)) (keys k) _ (h .2) (voted ∙ w .0 .taken) (w .2 .ensures))
-        | inr w ↦ rw (w .1) (taken-no C (pairOf (a .values .now)) j (keys (a .kept)) (keys k) _ (h .2) (voted ∙ w .0 .left) refl)
+        | inl w ↦ rw (w .3) (taken-yes C (pairOf (a .values .now)) j (keys (a .kept)) (keys k) _ (h .7) (voted ∙ w .0 .taken) (w .2 .ensures))
+        | inr w ↦ rw (w .1) (taken-no C (pairOf (a .values .now)) j (keys (a .kept)) (keys k) _ (h .7) (voted ∙ w .0 .left) refl)
       ],
     )
 
 returns : tie.Need-returns Inv-loop μ-loop
-returns c = let h = c .before .loop .inv in let e : c .before .loop .j ≡ c .before .before .before .before .args .m = omega (arith, c .loop-test .left, h .0) in rw e at (h .2)
+returns c = let h = c .before .loop .inv in
+    let a = c .before .before .before .before .args in
+    h .7 ∙ sym (taken-beyond _ (pairOf (a .values .now)) (a .low) (a .high) _ (a .m) (keys (a .kept)) (h .0)
+    (λ l. omega (arith, h .5 l, c .loop-test .left)) (λ l. omega (arith, h .6 l, c .loop-test .left)))
 
 pub take-in-spec : {M : Type 1} → statement M
 take-in-spec =
@@ -85,15 +115,15 @@ take-in-spec =
     (tie.spec
     Inv-loop
     μ-loop
-    first-new-requires
     lower-requires
+    lower-requires-2
     loop-holds
     at-requires
     at-requires-2
     is-voted-requires
-    cast-t21
-    mul-t22
-    element-copy-out-t25
+    cast-t23
+    mul-t24
+    element-copy-out-t27
     insert-requires
     add-j
     loop-less

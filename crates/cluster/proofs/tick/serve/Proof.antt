@@ -74,7 +74,7 @@ loop-again c = let s = c .before .before .before .before .before .before .before
     let later = none-before (feedOf _ _ f) (a .ends) p (l .b) d in (
       omega (arith, d),
       elim (c .if1 .came) [
-        | inl x ↦ rw (x .6, x .7) (serving-turn _ _ _ _ _ (l .b) (omega (arith, d, p .servers)) (s .good .0 .1 .0 .1) (l .inv .1) later (x .3 .result) _ (x .3 .ensures))
+        | inl x ↦ rw (x .6, x .7) (serving-turn _ _ _ _ _ (l .b) (omega (arith, d, p .servers)) (s .good .0 .1 .0 .1) (l .inv .1) later d (x .3 .result) _ (x .3 .ensures))
         | inr y ↦ rw (y .5, y .6) (serving-idle _ _ _ _ _ (l .b) (omega (arith, d, p .servers)) (s .good .0 .1 .0 .1) (l .inv .1) later d (p .pairs) (servers-small (a .servers) _ (s .good .0 .1 .1) (l .b)) _ _ (c .before .before .before .before .is-called .ensures) (c .before .is-reached .ensures) (y .0 .left) _ (y .2 .ensures))
       ],
     )
