@@ -1,21 +1,24 @@
 -- The readers note what arrives one after the other, and their rows of the calendar are taken. It stands on the calendar's laws of clearing.
 use mathlib.Core.Path.{_≡_, refl, sym, ap, _∙_}
-use mathlib.Core.Bool.{Bool, true, false, not, _&&_, _||_}
+use mathlib.Core.Bool.{Bool, true, false, not, _&&_, _||_, cond}
 use mathlib.Core.List.{List}
-use Prim.Native.Nat.{ℕ, _+_, _*_, _/_, _%_, _≤_, _<_}
+use Prim.Native.Nat.{ℕ, _+_, _*_, _-_, _/_, _%_, _≤_, _<_}
 use native.Mathlib.Omega.{arith}
 use native.Mathlib.Decide.{decLe, ℕ-discrete}
 use lib.Dec.{eqb, leb, ltb}
 use lib.ListN.{length, getD, set, length-set}
 use lib.Seq.{getD-set-same, getD-set-other}
 use borrow.Author.Tests.{eq-eqb, ne-eqb, lt-ltb, le-ltb, le-leb, lt-leb}
-use Rattle.calendar.specs.Layout.{receivers, rows, places, rowOf, sender}
+use Rattle.register.specs.Lists.{anyUpTo}
+use Rattle.register.proofs.Logic.{T-eq}
+use Rattle.register.proofs.Counting.{anyUpTo-i}
+use Rattle.calendar.specs.Layout.{receivers, rows, places, rowOf, highOf, sender}
 use Rattle.calendar.specs.View.{SamePast, Spanned, Cleared}
-use Rattle.calendar.proofs.Laws.{and-none}
+use Rattle.calendar.proofs.Laws.{and-none, or-none}
 use Rattle.calendar.proofs.Posting.{same-row}
 use Rattle.calendar.proofs.Spans.{cleared-cells, cleared-spanned}
 use Rattle.cluster.specs.declared.Reader.{Reader}
-use Rattle.cluster.specs.Tick.{noReader, Noted, Hearing, Heard}
+use Rattle.cluster.specs.Tick.{noReader, anyHeard, Noted, Hearing, Heard}
 
 -- the rows of the first n readers in tick t
 unfoldable pub taken : ℕ → ℕ → ℕ → Bool
@@ -107,3 +110,43 @@ hearing-all work t s r after H = record {
     and-true : (a : Bool) → a && true ≡ a
     and-true true = refl
     and-true false = refl
+
+-- ---- nothing arrives
+
+pub some-heard : (work : List ℕ) (t x : ℕ) → x < 4 → (highOf work (rowOf t (16 + x)) ≡ 0 → ⊥) → anyHeard work t ≡ true
+some-heard work t x l h = T-eq (anyHeard work t) (anyUpTo-i 4 (λ x. not (eqb (highOf work (rowOf t (16 + x))) 0)) x l (rw (ne-eqb (highOf work (rowOf t (16 + x))) 0 h) tt))
+
+-- then hearing changes nothing
+module _ (work : List ℕ) (t : ℕ) (S : Spanned work places) (none : anyHeard work t ≡ false) where
+  high-none : (x : ℕ) → x < 4 → highOf work (rowOf t (16 + x)) ≡ 0
+  high-none x l = elim (ℕ-discrete (highOf work (rowOf t (16 + x))) 0) [ yes e ↦ e | no d ↦ absurd (never (sym (some-heard work t x l d) ∙ none)) ]
+    where
+      never : true ≡ false → ⊥
+      never e = let z : _≡_ {A = ℕ} 1 0 = ap (λ (x : Bool). cond x 1 0) e in omega arith
+
+  row-none : (x j i : ℕ) → x < 4 → j < places → sender work (rowOf t (16 + x)) j i ≡ false
+  row-none x j i l m = go (sender work (rowOf t (16 + x)) j i) refl
+    where
+      go : (c : Bool) → sender work (rowOf t (16 + x)) j i ≡ c → c ≡ false
+      go true e = absurd (omega (arith, S .within (rowOf t (16 + x)) j i (omega arith) m e .1, high-none x l))
+      go false e = refl
+
+  pub heard-none : (s : List Reader) → Heard work work t s s
+  heard-none s = record {
+    readers = record {
+      size = refl;
+      each = λ x l. record { end = refl; named = λ j i h. rw (row-none x j i l h) (or-none _) };
+      rest = λ x l. refl;
+    };
+    rest = record { size = refl; past = λ k l. refl };
+    spans = S;
+    cells = λ y j i l h. cells y j i l h (ℕ-discrete (y / receivers) (t % 16)) (decLe 16 (y % receivers));
+  }
+    where
+      cells : (y j i : ℕ) → y < rows → j < places → Dec (y / receivers ≡ t % 16) → Dec (16 ≤ y % receivers)
+          → sender work y j i ≡ not (eqb (y / receivers) (t % 16) && leb 16 (y % receivers)) && sender work y j i
+      cells y j i l h (no d) q = rw (ne-eqb (y / receivers) (t % 16) d)
+      cells y j i l h (yes d) (no q) = rw (lt-leb 16 (y % receivers) (omega arith), and-none (eqb (y / receivers) (t % 16)))
+      cells y j i l h (yes d) (yes q) =
+          let e : y ≡ rowOf t (16 + (y % receivers - 16)) = omega arith in
+          rw (eq-eqb (y / receivers) (t % 16) d, le-leb 16 (y % receivers) q) (rw (← e) at (row-none (y % receivers - 16) j i (omega arith) h))

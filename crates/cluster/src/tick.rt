@@ -8,7 +8,7 @@ ghost use Rattle.calendar.specs.View.{Spanned};
 ghost use Rattle.cluster.specs.Stored.{statusOf, keys, pairOf};
 ghost use Rattle.cluster.specs.Inputs.{Sized};
 ghost use Rattle.cluster.specs.Settled.{called, reached, CalmlyTurned, CalmlyServed, CalmlyTicked};
-ghost use Rattle.cluster.specs.Tick.{Heard, Emptied, Started, endsOf, feedOf};
+ghost use Rattle.cluster.specs.Tick.{anyHeard, Heard, Emptied, Started, endsOf, feedOf};
 use super::Arrivals;
 use super::Cluster;
 use super::Feed;
@@ -36,8 +36,23 @@ fn is_placed(faulty: u16, b: usize) -> bool
     (faulty >> (15 - b)) % 2 == 1
 }
 
+// Does anything reach a reader in tick t. In most ticks: no.
+pub fn is_heard(work: &[u8], t: usize) -> bool
+    requires { ⌜ calendarSize ≤ length (now work) ⌝ }
+    ensures { λ r. ⌜ r ≡ anyHeard (now (work .entry)) t ⌝ }
+{
+    let mut x: usize = 0;
+    while x < READERS {
+        if calendar::high(work, calendar::row(t, SERVERS + x)) != 0 {
+            return true;
+        }
+        x += 1;
+    }
+    false
+}
+
 // The readers note the replies that arrive in tick t, which are then no longer under way.
-fn hear(readers: [Reader; READERS], work: &mut [u8], t: usize) -> [Reader; READERS]
+pub fn hear(readers: [Reader; READERS], work: &mut [u8], t: usize) -> [Reader; READERS]
     requires { ⌜ (calendarSize ≤ length (now work)) × Spanned (now work) places ⌝ }
     ensures { λ r. ⌜ Heard (now (work .entry)) (now (work .exit)) t readers r ⌝ }
 {
@@ -179,7 +194,7 @@ fn turn(
 }
 
 // The stages of all servers. A settled server that nothing new reaches is left alone: its stages would change nothing that counts.
-fn serve(
+pub fn serve(
     servers: [Server; SERVERS],
     work: &mut [u8],
     plan: &[u8],
@@ -217,7 +232,7 @@ fn serve(
 }
 
 // The ticks in which the readers' last reads end.
-fn ends_of(readers: [Reader; READERS]) -> [u8; READERS]
+pub fn ends_of(readers: [Reader; READERS]) -> [u8; READERS]
     ensures { λ r. ⌜ r ≡ endsOf readers ⌝ }
 {
     [
