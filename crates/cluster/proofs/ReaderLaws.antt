@@ -117,7 +117,7 @@ module _ (s y : ℕ) (lo : 1 ≤ y) (hi : y ≤ 4) where
         go true q = rw (eqb-true (t + d) s q) (turn (bit y (row .readers)) (leb s (getD ends (y - 1) 0)) (held (row .kept) j))
         go false q = none (bit y (row .readers)) (leb (t + d) (getD ends (y - 1) 0)) (leb s (getD ends (y - 1) 0))
 
-end-of : (rs : List Reader) (k : ℕ) → getD (endsOf rs) k 0 ≡ getD rs k noReader .end
+pub end-of : (rs : List Reader) (k : ℕ) → getD (endsOf rs) k 0 ≡ getD rs k noReader .end
 end-of rs k = List·getD-map (λ (r : Reader). r .end) rs k noReader
 
 -- ---- what player does after stages 1 to 4

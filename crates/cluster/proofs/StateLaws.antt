@@ -11,6 +11,7 @@ use borrow.Author.Tests.{le-ltb}
 use Rattle.register.specs.Lists.{any, anyUpTo, In}
 use Rattle.register.specs.Plan.{Plan, Read, readEnd, echoQuorum, replyQuorum, stamped}
 use Rattle.register.specs.Server.{has}
+use Rattle.register.specs.Cluster.{serverOf, cluster}
 use Rattle.register.specs.Reading.{notedBy}
 use Rattle.register.proofs.Good.{Good}
 use Rattle.register.proofs.Trace.{before, before-zero}
@@ -20,10 +21,11 @@ use Rattle.calendar.proofs.Laws.{and-none}
 use Rattle.cluster.specs.declared.Cluster.{Cluster}
 use Rattle.cluster.specs.declared.Reader.{Reader}
 use Rattle.cluster.specs.Bits.{sets}
+use Rattle.cluster.specs.Stored.{server, absent}
 use Rattle.cluster.specs.Inputs.{pairAt, Knows, Fits}
 use Rattle.cluster.specs.Tick.{Feed, Ticked, Started, noReader}
 use Rattle.cluster.specs.Way.{forgedAs, voteWay}
-use Rattle.cluster.specs.State.{Open, Idle, State}
+use Rattle.cluster.specs.State.{Open, Idle, Rep, State}
 use Rattle.cluster.specs.Settled.{Calm}
 use Rattle.cluster.proofs.Settled.{first-settled, settled-next}
 use Rattle.cluster.proofs.WayLaws.{none-any}
@@ -63,13 +65,17 @@ module _ (P : Plan) (G : Good P) (F : Feed) (fit : Fits P (F .t) (F .plan) (F .r
     pub end-idle : (q : Read) → In q (P .reads) → Idle P (suc (F .t)) (q .reader) → getD after (q .reader - 1) noReader .end ≤ F .t
     end-idle = idle-now P G F fit K c r work D S (ended P G F fit K c r work D S) (held-is P G F fit K c r work D S) after B
 
+  -- after stages 1 to 4 each server stands for its server
+  pub next-server : (b : ℕ) → b < P .n → Rep P (pairAt (F .known)) (F .known .m) (suc (F .t)) (serverOf (cluster P (suc (F .t))) b) (server (getD (r .servers) b absent))
+  next-server b lb = new-server P G F fit K c r work D S b lb
+
   -- a tick of the engine is a tick of the cluster
   pub next-state : (n : Cluster) (then : List ℕ) (f : ℕ → ℕ → ℕ → Bool) → n .servers ≡ r .servers → Begins P (F .known .m) (F .t) (r .readers) (n .readers)
       → ((x j i : ℕ) → x < rows → j < places → sender then x j i ≡ (sender work x j i || f x j i)) → Spanned then places
       → Forges P (F .known .m) (F .t) (pairAt (F .known)) f
       → State P (pairAt (F .known)) (F .known .m) (suc (F .t)) n then
   next-state n then f same B cells spans Y = record {
-    servers = λ b lb. rw same (new-server P G F fit K c r work D S b lb);
+    servers = λ b lb. rw same (next-server b lb);
     settled = λ b lb. rw (same, ← fit .echo, ← fit .reply)
         (settled-next F c r work (P .n) b (omega (arith, fit .echo)) (omega (arith, fit .reply)) D lb (rw (fit .echo, fit .reply) (S .settled b lb)));
     calendar = record {
