@@ -2,5 +2,7 @@ pub mod Buffers
 pub mod Forgeries
 pub mod Cursors
 pub mod Feeding
+pub mod Tables
 pub mod Ticking
+pub mod Turns
 pub mod Playing

@@ -1,5 +1,5 @@
 -- From a script that was read to the end of its ticks: the start, one tick more, all answers, and what is left of the workspace.
--- It stands on Ticking and Buffers.
+-- It stands on Turns and Buffers.
 use mathlib.Core.Path.{_≡_, refl, sym, ap, _∙_}
 use mathlib.Core.Logic.{inr}
 use mathlib.Core.List.{List, _++_}
@@ -17,9 +17,11 @@ use Rattle.plan.proofs.Tests.{getD-in}
 use Rattle.calendar.specs.Layout.{places}
 use Rattle.calendar.specs.View.{SamePast, Empty}
 use Rattle.cluster.specs.declared.Cluster.{Cluster}
-use Rattle.cluster.specs.Inputs.{pairAt}
+use Rattle.cluster.specs.declared.Feed.{Feed}
+use Rattle.cluster.specs.Inputs.{pairAt, Sized}
 use Rattle.cluster.specs.Stored.{absent}
-use Rattle.cluster.specs.Tick.{Started}
+use Rattle.cluster.specs.Settled.{CalmlyTicked}
+use Rattle.cluster.specs.Tick.{Started, feedOf}
 use Rattle.cluster.proofs.StateLaws.{first-state}
 use Rattle.script.specs.declared.Script.{Script}
 use Rattle.script.specs.Operations.{noRead}
@@ -27,12 +29,12 @@ use Rattle.script.specs.Script.{Scripted}
 use Rattle.script.proofs.Fitting.{script-knows}
 use Rattle.answers.specs.Answers.{answersFor, answersOf}
 use Rattle.answers.specs.Workspace.{workspaceSize, zeroed}
-use Rattle.player.specs.declared.tick.Playing.{Playing}
 use Rattle.player.specs.Reading.{Until, placed}
-use Rattle.player.specs.Run.{Decoded, Ready, answerIn, Played, Went, Ran}
+use Rattle.player.specs.Run.{Decoded, Ready, FedBy, answerIn, Playing, Played, Went, Ran, Ended}
 use Rattle.player.specs.Player.{Answered, Seen}
 use Rattle.player.proofs.Cursors.{until-none, placed-on}
 use Rattle.player.proofs.Feeding.{range, ticks-same}
+use Rattle.player.proofs.Turns.{feed-sized, looked}
 use Rattle.player.proofs.Buffers.{answers-none, answers-more, answers-done, zeroed-same}
 
 pub ready-kept : (s a b : List ℕ) (r : Script) → SamePast a b → Ready s a r → Ready s b r
@@ -52,10 +54,11 @@ module _ (s work answers : List ℕ) (r : Script) (R : Ready s work r) where
       record {
         kept = record { size = refl; past = λ p l. refl };
         played = record {
+          size = S .size;
           state = first-state (planOf 16 s) (pairAt (r .writes .known)) (r .writes .known .m) (r .shape .initial)
               (script-knows s (D .before) (D .after) (D .playable) r (D .scripted)) (ap (λ (v : ℕ). stamped 16 v 0) first) c work S E;
-          begun = until-none (r .reads) 0 refl;
-          answered = until-none (r .reads) (0 - 2 * r .rules .delta) (omega arith);
+          begun = until-none (r .reads .begun) (r .reads .m) 0 refl;
+          answered = until-none (r .reads .begun) (r .reads .m) (0 - 2 * r .rules .delta) (omega arith);
         };
         answers = refl;
       }
@@ -95,18 +98,36 @@ module _ (s before after started : List ℕ) (r : Script) (playable : Playable 1
   pub ticks-are : r .shape .ticks ≡ headerOf 16 s .ticks
   ticks-are = ticks-same s r decoded
 
+  all-zeroed : (work end : List ℕ) → SamePast started work → end ≡ zeroed work → end ≡ zeroed before
+  all-zeroed work end K e =
+      e ∙ zeroed-same before work (K .size ∙ (empty .size ∙ scripted .forged .filled .size))
+      (λ x l. K .past x (omega arith) ∙ (empty .past x (omega arith) ∙ scripted .forged .filled .other x (inr (omega (arith, range s r decoded .forgeries-hi)))))
+
+  -- the ticks before the one that is looked at, and then that one up to its stage 4
+  module _ (work answers answers₁ : List ℕ) (t : ℕ) (c : Cluster) (E : Ended s started work answers answers₁ r t c) (below : t < headerOf 16 s .ticks)
+      (f : Feed) (F : FedBy s r t f) where
+    abbrev reached : Playing
+    reached = record { cluster = c; begun = E .begun; answered = E .answered }
+
+    still-ready : Ready s work r
+    still-ready = ready-kept s started work r (E .ran .kept) ready
+
+    pub look-sized : Sized s work (f .t) (f .rules) (f .known) (f .links)
+    look-sized = feed-sized s work r t reached still-ready (omega (arith, ticks-are)) (E .ran .played) f F
+
+    module _ (d : Cluster) (work₁ : List ℕ) (fed : CalmlyTicked (feedOf s work f) c d work₁) where
+      pub seen : (b : ℕ) (end : List ℕ) → b < headerOf 16 s .n → end ≡ zeroed work₁ → Seen s b t (getD (d .servers) b absent) before end
+      unfolding planOf
+      seen b end l z =
+          let R = looked s work r t reached still-ready (omega (arith, ticks-are)) (E .ran .played) f F d work₁ fed b l in
+          let K = E .ran .kept in
+          record {
+            status = R .status;
+            kept = R .kept;
+            workspace = all-zeroed work₁ end (record { size = fed .rest .size ∙ K .size; past = λ x h. fed .rest .past x h ∙ K .past x h }) z;
+          }
+
   module _ (work answers answers₁ : List ℕ) (t : ℕ) (p : Playing) (ran : Ran s started work answers answers₁ r t p) where
-    pub all-zeroed : (end : List ℕ) → end ≡ zeroed work → end ≡ zeroed before
-    all-zeroed end e =
-        e ∙ zeroed-same before work (ran .kept .size ∙ (empty .size ∙ scripted .forged .filled .size))
-        (λ x l. ran .kept .past x (omega arith) ∙ (empty .past x (omega arith) ∙ scripted .forged .filled .other x (inr (omega (arith, range s r decoded .forgeries-hi)))))
-
-    pub seen : (b u : ℕ) (end : List ℕ) → b < headerOf 16 s .n → t ≡ u + 1 → end ≡ zeroed work → Seen s b u (getD (p .cluster .servers) b absent) before end
-    unfolding planOf
-    seen b u end l e z =
-        let R = rw (e ∙ add-one u) at (ran .played .state .servers b l) in
-        record { status = R .status; kept = R .kept; workspace = all-zeroed end z }
-
     -- after all ticks no read is left
     none-left : t ≡ r .shape .ticks → p .answered < r .reads .m → ⊥
     unfolding planOf
@@ -126,5 +147,5 @@ module _ (s before after started : List ℕ) (r : Script) (playable : Playable 1
         let k = all-answered e in
         record {
           answers = rw (← k) (answers-done s answers answers₁ (p .answered) k (ran .answers ∙ all-placed s answers (p .answered) (omega arith)));
-          workspace = all-zeroed end z;
+          workspace = all-zeroed work end (ran .kept) z;
         }

@@ -1,5 +1,5 @@
 -- A tick of the code is a tick of the plan: what it is fed fits, the reads that end are answered as the definitions say, the reads that begin are
--- set up, and the forged messages are those of the tick. It stands on the laws of scripts, of answers and of the cluster's state.
+-- set up, and the forged messages are those of the tick. It stands on Tables, and on the laws of scripts, of answers and of the cluster's state.
 use mathlib.Core.Path.{_≡_, refl, sym, ap, _∙_, subst}
 use mathlib.Core.Bool.{Bool, true, false, _&&_}
 use mathlib.Core.List.{List}
@@ -12,6 +12,7 @@ use lib.ListN.{length, getD}
 use borrow.Author.Tests.{lt-ltb}
 use Rattle.register.specs.Lists.{any, anyUpTo, In}
 use Rattle.register.specs.Plan.{Plan, Read, Forgery, readEnd, replyQuorum}
+use Rattle.register.specs.Cluster.{serverOf, cluster}
 use Rattle.register.specs.Reading.{answerOf}
 use Rattle.register.proofs.Logic.{T-iff, T-eq, and-l, and-r, and-i}
 use Rattle.register.proofs.Counting.{anyUpTo-e, anyUpTo-i}
@@ -30,14 +31,15 @@ use Rattle.cluster.specs.declared.Feed.{Feed}
 use Rattle.cluster.specs.declared.Reader.{Reader}
 use Rattle.cluster.specs.Bits.{sets}
 use Rattle.cluster.specs.Inputs.{pairAt, Knows, Sized, Fits}
-use Rattle.cluster.specs.State.{Open, Idle, State}
+use Rattle.cluster.specs.Stored.{server, absent}
+use Rattle.cluster.specs.State.{Open, Idle, Rep, State}
 use Rattle.cluster.specs.Tick as Tick
-use Rattle.cluster.specs.Tick.{Ticked, noReader, feedOf}
+use Rattle.cluster.specs.Tick.{Ticked, noReader, endsOf, feedOf}
 use Rattle.cluster.specs.Settled.{CalmlyTicked}
 use Rattle.cluster.specs.Way.{forgedAs}
 use Rattle.cluster.proofs.BitLaws.{unmarked}
-use Rattle.cluster.proofs.ReaderLaws.{Begins, Forges}
-use Rattle.cluster.proofs.StateLaws.{calm, noted-end, end-open, end-idle, next-state}
+use Rattle.cluster.proofs.ReaderLaws.{Begins, Forges, end-of}
+use Rattle.cluster.proofs.StateLaws.{calm, noted-end, end-open, end-idle, next-server, next-state}
 use Rattle.script.specs.declared.Script.{Script}
 use Rattle.script.specs.Operations.{noRead}
 use Rattle.script.specs.Forged.{entriesEnd, mostEntries, entryAt, Entry, Starts}
@@ -49,79 +51,15 @@ use Rattle.script.proofs.Fitting.{entries-kept, starts-kept, script-knows, scri
 use Rattle.answers.specs.Answers.{answerSize, answerBytes}
 use Rattle.answers.specs.Choosing.{highestOf, answerBy}
 use Rattle.answers.proofs.Answered.{answered}
-use Rattle.player.specs.declared.tick.Playing.{Playing}
-use Rattle.player.specs.Forging.{goesTo, forgedEntry, forges}
+use Rattle.player.specs.Forging.{goesTo, forgedEntry, SentIn, forges}
 use Rattle.player.specs.Reading.{Until, There, readAt, chosenBytes, placed, begunBy, freshReader}
-use Rattle.player.specs.Run.{Decoded, Ready, FedBy, Played, answerIn, Went}
+use Rattle.player.specs.Run.{Decoded, Ready, FedBy, Playing, Played, answerIn, Went}
 use Rattle.player.proofs.Forgeries.{entry-still, server-row, reader-row, row-server, row-reader}
 use Rattle.player.proofs.Cursors.{until-more, placed-same, begun-size, begun-other, begun-there}
+use Rattle.player.proofs.Tables.{knows, servers-same, delta-same, few-servers, listed, in-table, reader-range, not-before}
 use Rattle.player.proofs.Feeding.{range, ticks-same, period-same, few-ticks}
 
--- ---- the reads of the table are the plan's, in the order of their begins
-
 module _ (s : List ℕ) (r : Script) (R : Decoded s r) where
-  abbrev P : Plan
-  P = planOf 16 s
-
-  abbrev m : ℕ
-  m = r .writes .known .m
-
-  abbrev g : ℕ → ℕ
-  g = pairAt (r .writes .known)
-
-  abbrev begunAt : ℕ → ℕ
-  begunAt i = getD (r .reads .begun) i 0
-
-  abbrev readerAt : ℕ → ℕ
-  readerAt i = getD (r .reads .reader) i 0
-
-  knows : Knows (planOf 16 s) (pairAt (r .writes .known)) (r .writes .known .m)
-  knows = script-knows s (R .before) (R .after) (R .playable) r (R .scripted)
-
-  servers-same : r .rules .n ≡ planOf 16 s .n
-  unfolding planOf
-  servers-same = R .scripted .rules .n
-
-  delta-same : r .rules .delta ≡ planOf 16 s .delta
-  unfolding planOf
-  delta-same = R .scripted .rules .delta
-
-  few-servers : planOf 16 s .n ≤ 16
-  few-servers = knows .servers
-
-  listed : (i : ℕ) → i < r .reads .m → In (readAt (r .reads) i) (planOf 16 s .reads)
-  listed i l = rw (R .scripted .reads .each i l) at (getD-in (planOf 16 s .reads) i noRead (omega (arith, R .scripted .reads .count)))
-
-  pub in-table : (q : Read) → In q (planOf 16 s .reads) → (i : ℕ) × (i < r .reads .m) × (q ≡ readAt (r .reads) i)
-  in-table q h =
-      let (i, l, e) = in-getD (planOf 16 s .reads) q noRead h in
-      let b : i < r .reads .m = omega (arith, R .scripted .reads .count) in
-      (i, b, e ∙ R .scripted .reads .each i b)
-
-  reader-range : (i : ℕ) → i < r .reads .m → (1 ≤ readerAt i) × (readerAt i ≤ 4)
-  reader-range i l = knows .readers (readAt (r .reads) i) (listed i l)
-
-  begins-rise : (i j : ℕ) → i ≤ j → j < r .reads .m → begunAt i ≤ begunAt j
-  begins-rise i j h l = go (ℕ-discrete i j)
-    where
-      go : Dec (i ≡ j) → begunAt i ≤ begunAt j
-      go (yes e) = rw e (omega arith)
-      go (no d) =
-          let a = R .scripted .reads .each i (omega arith) in
-          let b = R .scripted .reads .each j l in
-          let x = rw (a, b) at (reads-rise 16 s (R .playable) noRead i j (omega arith) (omega (arith, R .scripted .reads .count))) in
-          omega (arith, x, reader-range i (omega arith) .1, reader-range j l .1)
-
-  -- from its cursor on, no read begins before the tick
-  not-before : (u k i : ℕ) → Until (r .reads) 0 u k → k ≤ i → i < r .reads .m → u ≤ begunAt i
-  not-before u k i U h l = omega (arith, U .next (omega arith), begins-rise k i h l)
-
-  -- the reads between two cursors
-  pub there : (k k′ : ℕ) → k ≤ k′ → k′ ≤ r .reads .m → There (r .reads) k k′
-  there k k′ h l = record { ordered = h; few = omega (arith, R .scripted .reads .few); readers = λ i a b. reader-range i (omega arith) }
-
-  -- ---- one tick
-
   module _ (work : List ℕ) (K : SamePast (R .after) work) (room : entriesEnd ≤ length work) (t : ℕ) (below : t < r .shape .ticks) (f : Feed) (F : FedBy s r t f)
       (c : Cluster) (S : State (planOf 16 s) (pairAt (r .writes .known)) (r .writes .known .m) t c work) where
     under : t < headerOf 16 s .ticks
@@ -148,14 +86,21 @@ module _ (s : List ℕ) (r : Script) (R : Decoded s r) where
       pub kept : SamePast work work₁
       kept = ticked .rest
 
+      pub servers-there : length (d .servers) ≡ 16
+      servers-there = ticked .servers
+
+      pub server-next : (b : ℕ) → b < planOf 16 s .n
+          → Rep (planOf 16 s) (pairAt (r .writes .known)) (r .writes .known .m) (suc t) (serverOf (cluster (planOf 16 s) (suc t)) b) (server (getD (d .servers) b absent))
+      server-next = next-server (planOf 16 s) (good 16 s (R .playable)) (feedOf s work feed) fits (knows s r R) c d work₁ ticked S
+
       size : length (d .readers) ≡ 4
       size = ticked .heard .size ∙ S .readers .size
 
       -- a read that ends in this tick is answered as the definitions say
-      ends-now : (k k′ i : ℕ) → Until (r .reads) 0 (t - 2 * r .rules .delta) k → Until (r .reads) 0 (t + 1 - 2 * r .rules .delta) k′ → k ≤ i → i < k′
+      ends-now : (k k′ i : ℕ) → Until (r .reads .begun) (r .reads .m) 0 (t - 2 * r .rules .delta) k → Until (r .reads .begun) (r .reads .m) 0 (t + 1 - 2 * r .rules .delta) k′ → k ≤ i → i < k′
           → t ≡ readEnd (planOf 16 s) (readAt (r .reads) i)
       ends-now k k′ i U W a b =
-          omega (arith, not-before (t - 2 * r .rules .delta) k i U a (omega (arith, W .few)), W .below i (omega arith) b, delta-same)
+          omega (arith, (not-before s r R) (t - 2 * r .rules .delta) k i U a (omega (arith, W .few)), W .below i (omega arith) b, (delta-same s r R))
 
       reply-same : r .rules .reply ≡ replyQuorum (planOf 16 s)
       reply-same = fits .reply
@@ -164,47 +109,47 @@ module _ (s : List ℕ) (r : Script) (R : Decoded s r) where
           → chosenBytes (d .readers) (r .reads) (r .writes .known) (r .rules .reply) i ≡ answerIn s i
       answer-same i l e =
           let q = readAt (r .reads) i in
-          let a = answered (planOf 16 s) g m (good 16 s (R .playable)) knows q (sets (getD (d .readers) (readerAt i - 1) noReader .named))
-          (noted-end (planOf 16 s) (good 16 s (R .playable)) (feedOf s work feed) fits knows c d work₁ ticked S q (listed i l) e) in
+          let a = answered (planOf 16 s) (pairAt (r .writes .known)) (r .writes .known .m) (good 16 s (R .playable)) (knows s r R) q (sets (getD (d .readers) (getD (r .reads .reader) i 0 - 1) noReader .named))
+          (noted-end (planOf 16 s) (good 16 s (R .playable)) (feedOf s work feed) fits (knows s r R) c d work₁ ticked S q ((listed s r R) i l) e) in
           rw (R .scripted .reads .each i l, reply-same, a)
 
-      pub answers-are : (k k′ : ℕ) (answers : List ℕ) → Until (r .reads) 0 (t - 2 * r .rules .delta) k → Until (r .reads) 0 (t + 1 - 2 * r .rules .delta) k′ → k ≤ k′
+      pub answers-are : (k k′ : ℕ) (answers : List ℕ) → Until (r .reads .begun) (r .reads .m) 0 (t - 2 * r .rules .delta) k → Until (r .reads .begun) (r .reads .m) 0 (t + 1 - 2 * r .rules .delta) k′ → k ≤ k′
           → placed (chosenBytes (d .readers) (r .reads) (r .writes .known) (r .rules .reply)) k (k′ - k) answers ≡ placed (answerIn s) k (k′ - k) answers
       answers-are k k′ answers U W h =
           placed-same _ (answerIn s) k (k′ - k) answers (λ i a b. answer-same i (omega (arith, W .few)) (ends-now k k′ i U W a (omega arith)))
 
       -- ---- the reads that begin
 
-      module _ (k k′ : ℕ) (U : Until (r .reads) 0 t k) (W : Until (r .reads) 0 (t + 1) k′) (h : k ≤ k′) where
+      module _ (k k′ : ℕ) (U : Until (r .reads .begun) (r .reads .m) 0 t k) (W : Until (r .reads .begun) (r .reads .m) 0 (t + 1) k′) (h : k ≤ k′) where
         abbrev after : List Reader
-        after = begunBy (r .reads) (t + 2 * r .rules .delta) k (k′ - k) (d .readers)
+        after = begunBy (r .reads .reader) (t + 2 * r .rules .delta) k (k′ - k) (d .readers)
 
-        begins-now : (i : ℕ) → k ≤ i → i < k + (k′ - k) → begunAt i ≡ t
-        begins-now i a b = omega (arith, not-before t k i U a (omega (arith, W .few)), W .below i (omega arith) (omega arith))
+        begins-now : (i : ℕ) → k ≤ i → i < k + (k′ - k) → getD (r .reads .begun) i 0 ≡ t
+        begins-now i a b = omega (arith, (not-before s r R) t k i U a (omega (arith, W .few)), W .below i (omega arith) (omega arith))
 
         -- a read that begins now is one of them
-        among : (i : ℕ) → i < r .reads .m → begunAt i ≡ t → (k ≤ i) × (i < k + (k′ - k))
+        among : (i : ℕ) → i < r .reads .m → getD (r .reads .begun) i 0 ≡ t → (k ≤ i) × (i < k + (k′ - k))
         among i l e = (
           elim (decLe k i) [ yes a ↦ a | no a ↦ absurd (omega (arith, U .below i (omega arith) (omega arith))) ],
-          elim (decLe k′ i) [ yes a ↦ absurd (omega (arith, not-before (t + 1) k′ i W a l)) | no a ↦ omega arith ],
+          elim (decLe k′ i) [ yes a ↦ absurd (omega (arith, (not-before s r R) (t + 1) k′ i W a l)) | no a ↦ omega arith ],
         )
 
         set-up : (q : Read) → In q (planOf 16 s .reads) → q .begun ≡ t → getD after (q .reader - 1) noReader ≡ freshReader (t + 2 * r .rules .delta)
         set-up q iq e =
-            let (i, l, z) = in-table q iq in
+            let (i, l, z) = (in-table s r R) q iq in
             let x = ap (λ (y : Read). y .reader) z in
             let b = ap (λ (y : Read). y .begun) z in
             let w = among i l (sym b ∙ e) in
-            begun-there (r .reads) (t + 2 * r .rules .delta) k (d .readers) (q .reader - 1) (k′ - k) i (w .0) (w .1) (ap (λ (y : ℕ). y - 1) x)
-            (omega (arith, size, x, reader-range i l .1))
+            begun-there (r .reads .reader) (t + 2 * r .rules .delta) k (d .readers) (q .reader - 1) (k′ - k) i (w .0) (w .1) (ap (λ (y : ℕ). y - 1) x)
+            (omega (arith, size, x, (reader-range s r R) i l .1))
 
         begins : Begins (planOf 16 s) (r .writes .known .m) t (d .readers) after
         begins = record {
-          size = begun-size (r .reads) (t + 2 * r .rules .delta) k (d .readers) (k′ - k) ∙ size;
-          end = λ q iq e. ap (λ (x : Reader). x .end) (set-up q iq e) ∙ omega (arith, delta-same);
+          size = begun-size (r .reads .reader) (t + 2 * r .rules .delta) k (d .readers) (k′ - k) ∙ size;
+          end = λ q iq e. ap (λ (x : Reader). x .end) (set-up q iq e) ∙ omega (arith, (delta-same s r R));
           named = λ q iq e j i l. ap (λ (x : Reader). sets (x .named) j i) (set-up q iq e) ∙ unmarked places j i;
-          rest = λ x a b none. begun-other (r .reads) (t + 2 * r .rules .delta) k (d .readers) (x - 1) (k′ - k)
-              (λ i lo hi z. none (readAt (r .reads) i) (listed i (omega (arith, W .few))) (omega (arith, reader-range i (omega (arith, W .few)) .0)) (begins-now i lo hi));
+          rest = λ x a b none. begun-other (r .reads .reader) (t + 2 * r .rules .delta) k (d .readers) (x - 1) (k′ - k)
+              (λ i lo hi z. none (readAt (r .reads) i) ((listed s r R) i (omega (arith, W .few))) (omega (arith, (reader-range s r R) i (omega (arith, W .few)) .0)) (begins-now i lo hi));
         }
 
         -- ---- the forged messages
@@ -234,16 +179,21 @@ module _ (s : List ℕ) (r : Script) (R : Decoded s r) where
         to = getD (r .starts) (t + 1) 0
 
         to-few : getD (r .starts) (t + 1) 0 ≤ headerOf 16 s .forgeries
-        to-few = start-few s (R .playable) work₁ (r .writes .known .values) m E (r .starts) Z (t + 1) (omega (arith, few))
+        to-few = start-few s (R .playable) work₁ (r .writes .known .values) (r .writes .known .m) E (r .starts) Z (t + 1) (omega (arith, few))
 
-        pub can-forge : (r .rules .n ≤ 16) × (getD (r .starts) t 0 ≤ getD (r .starts) (t + 1) 0) × (getD (r .starts) (t + 1) 0 ≤ mostEntries)
-            × (entriesEnd ≤ length work₁) × ((e : ℕ) → e < getD (r .starts) (t + 1) 0 → entryAt work₁ e 3 < 16)
+        narrow : r .rules .n ≤ 16
+        narrow = omega (arith, servers-same s r R, few-servers s r R)
+
+        pub can-forge : (r .rules .n ≤ 16) × (t < 128) × (entriesEnd ≤ length work₁) × SentIn work₁ (r .starts) t
         can-forge = (
-          omega (arith, servers-same, few-servers),
-          starts-rise s (R .playable) work₁ (r .writes .known .values) m E (r .starts) Z t (t + 1) (omega arith) (omega (arith, few)),
-          omega (arith, to-few, range s r R .forgeries-hi),
+          narrow,
+          few,
           omega (arith, kept .size, room),
-          λ e l. rw (E e (omega (arith, to-few)) .sender) (omega (arith, sender-below s (R .playable) e (omega (arith, to-few)), range s r R .n-hi)),
+          record {
+            ordered = starts-rise s (R .playable) work₁ (r .writes .known .values) (r .writes .known .m) E (r .starts) Z t (t + 1) (omega arith) (omega (arith, few));
+            few = omega (arith, to-few, range s r R .forgeries-hi);
+            senders = λ e l. rw (E e (omega (arith, to-few)) .sender) (omega (arith, sender-below s (R .playable) e (omega (arith, to-few)), range s r R .n-hi));
+          },
         )
 
         -- the entries of the range are those sent in this tick
@@ -253,8 +203,8 @@ module _ (s : List ℕ) (r : Script) (R : Decoded s r) where
               l,
               omega (
                 arith,
-                sent-later s (R .playable) work₁ (r .writes .known .values) m E (r .starts) Z t (omega (arith, few)) e a l,
-                sent-earlier s (R .playable) work₁ (r .writes .known .values) m E (r .starts) Z (t + 1) (omega (arith, few)) e b,
+                sent-later s (R .playable) work₁ (r .writes .known .values) (r .writes .known .m) E (r .starts) Z t (omega (arith, few)) e a l,
+                sent-earlier s (R .playable) work₁ (r .writes .known .values) (r .writes .known .m) E (r .starts) Z (t + 1) (omega (arith, few)) e b,
               ),
             )
 
@@ -262,17 +212,17 @@ module _ (s : List ℕ) (r : Script) (R : Decoded s r) where
         in-range-now e l z = (
           elim (decLe from e) [
             | yes a ↦ a
-            | no a ↦ absurd (omega (arith, sent-earlier s (R .playable) work₁ (r .writes .known .values) m E (r .starts) Z t (omega (arith, few)) e (omega arith)))
+            | no a ↦ absurd (omega (arith, sent-earlier s (R .playable) work₁ (r .writes .known .values) (r .writes .known .m) E (r .starts) Z t (omega (arith, few)) e (omega arith)))
           ],
           elim (decLe to e) [
-            | yes a ↦ absurd (omega (arith, sent-later s (R .playable) work₁ (r .writes .known .values) m E (r .starts) Z (t + 1) (omega (arith, few)) e a l))
+            | yes a ↦ absurd (omega (arith, sent-later s (R .playable) work₁ (r .writes .known .values) (r .writes .known .m) E (r .starts) Z (t + 1) (omega (arith, few)) e a l))
             | no a ↦ omega arith
           ],
         )
 
         arrives : (e : ℕ) → e < nf → entryAt work₁ e 0 ≡ t → (t < entryAt work₁ e 1) × (entryAt work₁ e 1 ≤ t + 15)
         arrives e l z =
-            let a = arrives-after s (R .playable) work₁ (r .writes .known .values) m E (r .starts) Z e l in
+            let a = arrives-after s (R .playable) work₁ (r .writes .known .values) (r .writes .known .m) E (r .starts) Z e l in
             (omega (arith, a .0), omega (arith, a .1, range s r R .delta-hi))
 
         from-below : (e : ℕ) → e < nf → entryAt work₁ e 3 < planOf 16 s .n
@@ -280,7 +230,7 @@ module _ (s : List ℕ) (r : Script) (R : Decoded s r) where
         from-below e l = rw (E e l .sender) (sender-below s (R .playable) e l)
 
         abbrev posts : ℕ → ℕ → ℕ → Bool
-        posts = forges after (r .rules .n) work₁ from to
+        posts = forges (endsOf after) (r .rules .n) work₁ from to
 
         -- what is posted in a row, and what the plan's list says of a receiver, one by the other
         module _ (x u j i q : ℕ) (known-pair : j < r .writes .known .m) where
@@ -293,14 +243,14 @@ module _ (s : List ℕ) (r : Script) (R : Decoded s r) where
           listed-is : lists ≡ anyUpTo nf entries
           listed-is = messages-named s (r .writes .known) (R .scripted .writes .few) (R .scripted .writes .small) work₁ E t u q j i known-pair
 
-          posts-listed : ((e : ℕ) → e < nf → entryAt work₁ e 0 ≡ t → T (goesTo after (r .rules .n) (entryAt work₁ e 2) (entryAt work₁ e 1) x) → (entryAt work₁ e 2 ≡ q) × (entryAt work₁ e 1 ≡ u))
+          posts-listed : ((e : ℕ) → e < nf → entryAt work₁ e 0 ≡ t → T (goesTo (endsOf after) (r .rules .n) (entryAt work₁ e 2) (entryAt work₁ e 1) x) → (entryAt work₁ e 2 ≡ q) × (entryAt work₁ e 1 ≡ u))
               → T (posts x j i) → (i < planOf 16 s .n) × T lists
           posts-listed goes y =
-              let (e, l, z) = anyUpTo-e to (λ e. leb from e && forgedEntry after (r .rules .n) work₁ e x j i) y in
+              let (e, l, z) = anyUpTo-e to (λ e. leb from e && forgedEntry (endsOf after) (r .rules .n) work₁ e x j i) y in
               let lo = leb→le from e (and-l (leb from e) _ z) in
               let p = and-r (leb from e) _ z in
-              let at = and-l (goesTo after (r .rules .n) (entryAt work₁ e 2) (entryAt work₁ e 1) x) _ p in
-              let names = and-r (goesTo after (r .rules .n) (entryAt work₁ e 2) (entryAt work₁ e 1) x) _ p in
+              let at = and-l (goesTo (endsOf after) (r .rules .n) (entryAt work₁ e 2) (entryAt work₁ e 1) x) _ p in
+              let names = and-r (goesTo (endsOf after) (r .rules .n) (entryAt work₁ e 2) (entryAt work₁ e 1) x) _ p in
               let ei = and-l (eqb i (entryAt work₁ e 3)) _ names in
               let ej = and-r (eqb i (entryAt work₁ e 3)) _ names in
               let (le, sent) = sent-now e lo l in
@@ -312,7 +262,7 @@ module _ (s : List ℕ) (r : Script) (R : Decoded s r) where
                     (and-i (eqb (entryAt work₁ e 1) u) _ (rw eu (eqb-refl u)) (and-i (eqb j (entryAt work₁ e 4)) (eqb i (entryAt work₁ e 3)) ej ei))))),
               )
 
-          listed-posts : T (goesTo after (r .rules .n) q u x) → T lists → T (posts x j i)
+          listed-posts : T (goesTo (endsOf after) (r .rules .n) q u x) → T lists → T (posts x j i)
           listed-posts goes y =
               let (e, l, z) = anyUpTo-e nf entries (rw listed-is at y) in
               let sent = eqb→eq (entryAt work₁ e 0) t (and-l (eqb (entryAt work₁ e 0) t) _ z) in
@@ -324,9 +274,9 @@ module _ (s : List ℕ) (r : Script) (R : Decoded s r) where
               let ej = and-l (eqb j (entryAt work₁ e 4)) _ z3 in
               let ei = and-r (eqb j (entryAt work₁ e 4)) _ z3 in
               let (lo, hi) = in-range-now e l sent in
-              anyUpTo-i to (λ e. leb from e && forgedEntry after (r .rules .n) work₁ e x j i) e hi
+              anyUpTo-i to (λ e. leb from e && forgedEntry (endsOf after) (r .rules .n) work₁ e x j i) e hi
               (and-i (leb from e) _ (le→leb from e lo)
-              (and-i (goesTo after (r .rules .n) (entryAt work₁ e 2) (entryAt work₁ e 1) x) _ (rw (eq, eu) goes)
+              (and-i (goesTo (endsOf after) (r .rules .n) (entryAt work₁ e 2) (entryAt work₁ e 1) x) _ (rw (eq, eu) goes)
               (and-i (eqb i (entryAt work₁ e 3)) (eqb j (entryAt work₁ e 4)) ei ej)))
 
           listed-below : T lists → i < planOf 16 s .n
@@ -337,93 +287,49 @@ module _ (s : List ℕ) (r : Script) (R : Decoded s r) where
               let z3 = and-r (eqb (entryAt work₁ e 1) u) _ z2 in
               rw (eqb→eq i (entryAt work₁ e 3) (and-r (eqb j (entryAt work₁ e 4)) _ z3)) (from-below e l)
 
-        narrow : r .rules .n ≤ 16
-        narrow = can-forge .0
-
         pub forges-now : Forges (planOf 16 s) (r .writes .known .m) t (pairAt (r .writes .known)) posts
         forges-now = record {
           votes = λ u b j i a z lb lj. T-iff _ _
               (λ y. let (li, ls) = posts-listed (rowOf u b) u j i b lj
-              (λ e le sent. server-row after (r .rules .n) t (entryAt work₁ e 2) (entryAt work₁ e 1) u narrow (arrives e le sent .0) (arrives e le sent .1) a z b (omega (arith, servers-same))) y in
+              (λ e le sent. server-row (endsOf after) (r .rules .n) t (entryAt work₁ e 2) (entryAt work₁ e 1) u narrow (arrives e le sent .0) (arrives e le sent .1) a z b (omega (arith, (servers-same s r R)))) y in
               and-i (ltb i (planOf 16 s .n)) _ (rw (lt-ltb i (planOf 16 s .n) li) tt) ls)
-              (λ y. listed-posts (rowOf u b) u j i b lj (row-server after (r .rules .n) u b (omega (arith, servers-same))) (and-r (ltb i (planOf 16 s .n)) _ y));
+              (λ y. listed-posts (rowOf u b) u j i b lj (row-server (endsOf after) (r .rules .n) u b (omega (arith, (servers-same s r R)))) (and-r (ltb i (planOf 16 s .n)) _ y));
           replies = λ q o u j i a z lj.
-              let y1 = knows .readers q (o .listed) in
-              let end = end-open (planOf 16 s) (good 16 s (R .playable)) (feedOf s work feed) fits knows c d work₁ ticked S after begins q o in
+              let y1 = (knows s r R) .readers q (o .listed) in
+              let end = end-open (planOf 16 s) (good 16 s (R .playable)) (feedOf s work feed) fits (knows s r R) c d work₁ ticked S after begins q o in
               T-iff _ _
               (λ y.
               let (li, ls) = posts-listed (rowOf u (15 + q .reader)) u j i (planOf 16 s .n + q .reader) lj
               (λ e le sent goes.
-              let w = reader-row after (r .rules .n) t (entryAt work₁ e 2) (entryAt work₁ e 1) u narrow (arrives e le sent .0) (arrives e le sent .1) a z (q .reader) (y1 .0) (y1 .1) goes in
-              (w .0 ∙ ap (λ (n : ℕ). n + q .reader) servers-same, w .1)) y in
+              let w = reader-row (endsOf after) (r .rules .n) t (entryAt work₁ e 2) (entryAt work₁ e 1) u narrow (arrives e le sent .0) (arrives e le sent .1) a z (q .reader) (y1 .0) (y1 .1) goes in
+              (w .0 ∙ ap (λ (n : ℕ). n + q .reader) (servers-same s r R), w .1)) y in
               let late = reader-late u j i (q .reader) a z (y1 .0) (y1 .1) y in
               and-i (ltb i (planOf 16 s .n)) _ (rw (lt-ltb i (planOf 16 s .n) li) tt) (and-i (leb u (readEnd (planOf 16 s) q)) _ (le→leb u (readEnd (planOf 16 s) q) (omega (arith, late, end))) ls))
               (λ y.
               let w = and-r (ltb i (planOf 16 s .n)) _ y in
               let in-time = leb→le u (readEnd (planOf 16 s) q) (and-l (leb u (readEnd (planOf 16 s) q)) _ w) in
               listed-posts (rowOf u (15 + q .reader)) u j i (planOf 16 s .n + q .reader) lj
-              (rw (← servers-same) (row-reader after (r .rules .n) u (q .reader) (y1 .0) (y1 .1) (omega (arith, in-time, end)))) (and-r (leb u (readEnd (planOf 16 s) q)) _ w));
+              (rw (← (servers-same s r R)) (row-reader (endsOf after) (r .rules .n) u (q .reader) (y1 .0) (y1 .1) (omega (arith, in-time, end, end-of after (q .reader - 1))))) (and-r (leb u (readEnd (planOf 16 s) q)) _ w));
           none = λ q iq idle u j i a z lj.
-              let y1 = knows .readers q iq in
-              let end = end-idle (planOf 16 s) (good 16 s (R .playable)) (feedOf s work feed) fits knows c d work₁ ticked S after begins q iq idle in
+              let y1 = (knows s r R) .readers q iq in
+              let end = end-idle (planOf 16 s) (good 16 s (R .playable)) (feedOf s work feed) fits (knows s r R) c d work₁ ticked S after begins q iq idle in
               T-iff _ _ (λ y. absurd (omega (arith, reader-late u j i (q .reader) a z (y1 .0) (y1 .1) y, end))) (λ y. absurd y);
         }
           where
             -- what is posted to a reader arrives by the end of its read
             reader-late : (u j i y : ℕ) → t < u → u ≤ t + 16 → 1 ≤ y → y ≤ 4 → T (posts (rowOf u (15 + y)) j i) → u ≤ getD after (y - 1) noReader .end
             reader-late u j i y a z lo hi w =
-                let (e, l, p) = anyUpTo-e to (λ e. leb from e && forgedEntry after (r .rules .n) work₁ e (rowOf u (15 + y)) j i) w in
+                let (e, l, p) = anyUpTo-e to (λ e. leb from e && forgedEntry (endsOf after) (r .rules .n) work₁ e (rowOf u (15 + y)) j i) w in
                 let lf = leb→le from e (and-l (leb from e) _ p) in
-                let at = and-l (goesTo after (r .rules .n) (entryAt work₁ e 2) (entryAt work₁ e 1) (rowOf u (15 + y))) _ (and-r (leb from e) _ p) in
+                let at = and-l (goesTo (endsOf after) (r .rules .n) (entryAt work₁ e 2) (entryAt work₁ e 1) (rowOf u (15 + y))) _ (and-r (leb from e) _ p) in
                 let (le, sent) = sent-now e lf l in
-                reader-row after (r .rules .n) t (entryAt work₁ e 2) (entryAt work₁ e 1) u narrow (arrives e le sent .0) (arrives e le sent .1) a z y lo hi at .2
+                let seen = reader-row (endsOf after) (r .rules .n) t (entryAt work₁ e 2) (entryAt work₁ e 1) u narrow (arrives e le sent .0) (arrives e le sent .1) a z y lo hi at .2 in
+                omega (arith, seen, end-of after (y - 1))
 
         -- ---- all together
 
         pub state-next : (servers : Cluster) (work₂ : List ℕ) → servers .servers ≡ d .servers → servers .readers ≡ after → Posted work₁ work₂ posts
             → State (planOf 16 s) (pairAt (r .writes .known)) (r .writes .known .m) (suc t) servers work₂
         state-next n work₂ es er Q =
-            next-state (planOf 16 s) (good 16 s (R .playable)) (feedOf s work feed) fits knows c d work₁ ticked S n work₂ posts es (rw er begins)
+            next-state (planOf 16 s) (good 16 s (R .playable)) (feedOf s work feed) fits (knows s r R) c d work₁ ticked S n work₂ posts es (rw er begins)
             (Q .cells) (posted-spanned work₁ work₂ posts places (omega arith) Q (λ x j k l h q. h) (ticked .spans)) forges-now
-
--- ---- the same as the code has it
-
-module _ (s work : List ℕ) (r : Script) (t : ℕ) (p : Playing) (Q : Ready s work r) (below : t < r .shape .ticks) (L : Played s work r t p)
-    (f : Feed) (F : FedBy s r t f) where
-  pub feed-sized : Sized s work (f .t) (f .rules) (f .known) (f .links)
-  feed-sized = sized s r (Q .decoded) work (Q .kept) (Q .room) t below f F (p .cluster) (L .state)
-
-  module _ (d : Cluster) (work₁ : List ℕ) (fed : CalmlyTicked (feedOf s work f) (p .cluster) d work₁)
-      (now u ended begun : ℕ) (is-now : now ≡ t) (is-ended : u ≡ t + 1 - 2 * r .rules .delta)
-      (A : Until (r .reads) (p .answered) u ended) (B : Until (r .reads) (p .begun) (now + 1) begun) where
-    have-ended : Until (r .reads) 0 (t + 1 - 2 * r .rules .delta) ended
-    have-ended = until-more (r .reads) (t - 2 * r .rules .delta) (t + 1 - 2 * r .rules .delta) (p .answered) ended (omega arith) (L .answered) (rw is-ended at A)
-
-    have-begun : Until (r .reads) 0 (t + 1) begun
-    have-begun = until-more (r .reads) t (t + 1) (p .begun) begun (omega arith) (L .begun) (rw is-now at B)
-
-    pub forge-ready : (from to : ℕ) → from ≡ getD (r .starts) now 0 → to ≡ getD (r .starts) (now + 1) 0
-        → (r .rules .n ≤ 16) × (from ≤ to) × (to ≤ mostEntries) × (entriesEnd ≤ length work₁) × ((e : ℕ) → e < to → entryAt work₁ e 3 < 16)
-    forge-ready from to a b =
-        rw (a, b, is-now)
-        (can-forge s r (Q .decoded) work (Q .kept) (Q .room) t below f F (p .cluster) (L .state) d work₁ fed (p .begun) begun (L .begun) have-begun (B .from))
-
-    pub went : (work₂ answers answers₁ : List ℕ) (readers : List Reader) (from to : ℕ) → from ≡ getD (r .starts) now 0 → to ≡ getD (r .starts) (now + 1) 0
-        → readers ≡ begunBy (r .reads) (t + 2 * r .rules .delta) (p .begun) (begun - p .begun) (d .readers)
-        → Posted work₁ work₂ (forges readers (r .rules .n) work₁ from to)
-        → answers₁ ≡ placed (chosenBytes (d .readers) (r .reads) (r .writes .known) (r .rules .reply)) (p .answered) (ended - p .answered) answers
-        → Went s work work₂ answers answers₁ r (t + 1) p (record { cluster = record { servers = d .servers; readers = readers }; begun = begun; answered = ended })
-    went work₂ answers answers₁ readers from to a b er W ea =
-        let k = kept s r (Q .decoded) work (Q .kept) (Q .room) t below f F (p .cluster) (L .state) d work₁ fed in
-        record {
-          kept = record { size = W .rest .size ∙ k .size; past = λ x l. W .rest .past x l ∙ k .past x l };
-          played = record {
-            state = rw (add-one t) (state-next s r (Q .decoded) work (Q .kept) (Q .room) t below f F (p .cluster) (L .state) d work₁ fed
-                (p .begun) begun (L .begun) have-begun (B .from) _ work₂ refl er (rw (er, a, b, is-now) at W));
-            begun = have-begun;
-            answered = have-ended;
-          };
-          ordered = A .from;
-          answers = ea ∙ answers-are s r (Q .decoded) work (Q .kept) (Q .room) t below f F (p .cluster) (L .state) d work₁ fed
-              (p .answered) ended answers (L .answered) have-ended (A .from);
-        }

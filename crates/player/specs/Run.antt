@@ -7,6 +7,7 @@ use Rattle.register.specs.Reading.{answerOf}
 use Rattle.plan.specs.Packed.{planOf}
 use Rattle.plan.specs.Playable.{Playable}
 use Rattle.calendar.specs.View.{SamePast}
+use Rattle.cluster.specs.declared.Cluster.{Cluster}
 use Rattle.cluster.specs.declared.Feed.{Feed}
 use Rattle.cluster.specs.Inputs.{pairAt}
 use Rattle.cluster.specs.State.{State}
@@ -16,7 +17,6 @@ use Rattle.script.specs.Forged.{entriesEnd}
 use Rattle.script.specs.Inputs.{Arrive, Moves}
 use Rattle.script.specs.Script.{Scripted}
 use Rattle.answers.specs.Answers.{answerBytes}
-use Rattle.player.specs.declared.tick.Playing.{Playing}
 use Rattle.player.specs.Reading.{Until, placed}
 
 -- the script of a plan that can be played
@@ -39,11 +39,18 @@ pub record FedBy (s : List ℕ) (r : Script) (t : ℕ) (f : Feed) : Type 0 where
   pub comes : Arrive s (r .links) (r .rules .n) (r .writes .begun) (r .writes .known .m) (r .reads .begun) (r .reads .reader) (r .reads .m) t (f .arrivals)
   pub moves : Moves s (r .shape .period) t (f .movement)
 
+-- the cluster, and how many reads have begun and been answered
+pub record Playing : Type 0 where
+  pub cluster : Cluster
+  pub begun : ℕ
+  pub answered : ℕ
+
 -- the ticks below t are played: what has begun, and what has ended
 pub record Played (s work : List ℕ) (r : Script) (t : ℕ) (p : Playing) : Type 0 where
+  pub size : length (p .cluster .servers) ≡ 16
   pub state : State (planOf 16 s) (pairAt (r .writes .known)) (r .writes .known .m) t (p .cluster) work
-  pub begun : Until (r .reads) 0 t (p .begun)
-  pub answered : Until (r .reads) 0 (t - 2 * r .rules .delta) (p .answered)
+  pub begun : Until (r .reads .begun) (r .reads .m) 0 t (p .begun)
+  pub answered : Until (r .reads .begun) (r .reads .m) 0 (t - 2 * r .rules .delta) (p .answered)
 
 -- the bytes of the answer of read i
 abbrev pub answerIn : List ℕ → ℕ → List ℕ
@@ -61,3 +68,9 @@ pub record Ran (s work₀ work₁ answers₀ answers₁ : List ℕ) (r : Script)
   pub kept : SamePast work₀ work₁
   pub played : Played s work₁ r t p
   pub answers : answers₁ ≡ placed (answerIn s) 0 (p .answered) answers₀
+
+-- and so they end
+pub record Ended (s work₀ work₁ answers₀ answers₁ : List ℕ) (r : Script) (t : ℕ) (c : Cluster) : Type 0 where
+  pub begun : ℕ
+  pub answered : ℕ
+  pub ran : Ran s work₀ work₁ answers₀ answers₁ r t (record { cluster = c; begun = begun; answered = answered })

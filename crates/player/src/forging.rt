@@ -1,13 +1,12 @@
 // Stage 5 of a tick: 'faulty servers send what the plan lists'. The forged messages stand decoded in the workspace.
 ghost use mathlib.Core.Path.{_≡_};
-ghost use Prim.Native.Nat.{ℕ, _≤_, _<_};
-ghost use lib.ListN.{length};
+ghost use Prim.Native.Nat.{_+_, _≤_, _<_};
+ghost use lib.ListN.{length, getD};
 ghost use Rattle.calendar.specs.View.{Posted};
 ghost use Rattle.script.specs.Forged.{entryAt, entriesEnd, mostEntries};
-ghost use Rattle.player.specs.Forging.{forgedEntry, forges};
+ghost use Rattle.player.specs.Forging.{forgedEntry, SentIn, forges};
 use super::size_of;
 use cluster::READERS;
-use cluster::Reader;
 use script::forged;
 
 // Byte k of entry e.
@@ -19,9 +18,9 @@ fn byte(work: &[u8], e: usize, k: usize) -> u8
 }
 
 // Entry e is under way: a vote, or a reply if it arrives by the end of its reader's read.
-fn post_entry(work: &mut [u8], readers: [Reader; READERS], n: usize, e: usize)
+fn post_entry(work: &mut [u8], ends: [u8; READERS], n: usize, e: usize)
     requires { ⌜ (n ≤ 16) × (e < mostEntries) × (entriesEnd ≤ length (now work)) × (entryAt (now work) e 3 < 16) ⌝ }
-    ensures { λ _. ⌜ Posted (now (work .entry)) (now (work .exit)) (forgedEntry readers n (now (work .entry)) e) ⌝ }
+    ensures { λ _. ⌜ Posted (now (work .entry)) (now (work .exit)) (forgedEntry ends n (now (work .entry)) e) ⌝ }
 {
     let arrival = size_of(byte(work, e, 1));
     let receiver = size_of(byte(work, e, 2));
@@ -38,20 +37,27 @@ fn post_entry(work: &mut [u8], readers: [Reader; READERS], n: usize, e: usize)
     if 4 < y {
         return;
     }
-    if size_of(readers[y - 1].end) < arrival {
+    if size_of(ends[y - 1]) < arrival {
         return;
     }
     calendar::post(work, calendar::row(arrival, 15 + y), number, sender);
 }
 
-// The entries from .. to - 1 are.
-pub fn forge(work: &mut [u8], readers: [Reader; READERS], n: usize, from: usize, to: usize)
-    requires { ⌜ (n ≤ 16) × (from ≤ to) × (to ≤ mostEntries) × (entriesEnd ≤ length (now work)) × ((e : ℕ) → e < to → entryAt (now work) e 3 < 16) ⌝ }
-    ensures { λ _. ⌜ Posted (now (work .entry)) (now (work .exit)) (forges readers n (now (work .entry)) from to) ⌝ }
+fn wide(x: u16) -> usize
+    ensures { λ r. ⌜ r ≡ x ⌝ }
 {
-    let mut e = from;
+    x as usize
+}
+
+// The entries that are sent in tick t are; `starts` has how many are sent before each tick, `ends` the ticks in which the readers' reads end.
+pub fn forge(work: &mut [u8], ends: [u8; READERS], n: usize, starts: &[u16; 129], t: usize)
+    requires { ⌜ (n ≤ 16) × (t < 128) × (entriesEnd ≤ length (now work)) × SentIn (now work) (now starts) t ⌝ }
+    ensures { λ _. ⌜ Posted (now (work .entry)) (now (work .exit)) (forges ends n (now (work .entry)) (getD (now (starts .entry)) t 0) (getD (now (starts .entry)) (t + 1) 0)) ⌝ }
+{
+    let to = wide(starts[t + 1]);
+    let mut e = wide(starts[t]);
     while e < to {
-        post_entry(work, readers, n, e);
+        post_entry(work, ends, n, e);
         e += 1;
     }
 }

@@ -50,8 +50,9 @@ pub fn look(plan: &[u8], work: &mut [u8], server: usize, tick: u8) -> Server
     calendar::start(work, PLACES);
     let start = cluster::tick::start(script.shape.initial);
     let mut unasked = [0u8; UNASKED];
-    let p = run::run(plan, &mut unasked, work, script, tick + 1, start);
+    let before = run::run(plan, &mut unasked, work, script, tick, start);
+    let feed = tick::feed_of(plan, script, tick);
+    let c = cluster::tick::next(before, work, plan, feed);
     answers::zero(work);
-    let c = p.cluster;
     c.servers[server]
 }

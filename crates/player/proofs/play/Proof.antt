@@ -23,7 +23,7 @@ run-requires c κs =
     (ready _ _ _ _ _ (s .pre .0) (s .pre .2) x (y .0), omega arith, c .before .before .start2 .ensures, y .1, omega (arith, x .reads .count, s .pre .1))
 
 zero-requires : tie.Need-zero-requires
-zero-requires c κs = omega (arith, c .before .before .before .before .before .before .before .before .before .before .before .before .before .before .before .before .before .before .before .before .before .pre .2, c .before .before .before .before .before .before .before .before .before .before .before .before .before .before .before .before .read .ensures .forged .filled .size, c .before .before .before .before .before .before .before .before .before .before .before .before .start .ensures .0 .size, c .before .before .before .before .before .run .ensures .kept .size)
+zero-requires c κs = omega (arith, c .before .before .before .before .before .before .before .before .before .before .before .before .before .before .before .before .before .before .before .before .before .pre .2, c .before .before .before .before .before .before .before .before .before .before .before .before .before .before .before .before .read .ensures .forged .filled .size, c .before .before .before .before .before .before .before .before .before .before .before .before .start .ensures .0 .size, c .before .before .before .before .before .run .ensures .ran .kept .size)
 
 same-length : tie.Need-same-length
 same-length c = search needs
@@ -32,7 +32,7 @@ same-length-2 : tie.Need-same-length-2
 same-length-2 c = search needs
 
 returns : tie.Need-returns
-returns c = let s = c .before .before .before .before .before .before .before .before .before .before .before .before .before .before .before .before .before .before .before .before .before .before .before .before in all-there _ _ _ _ _ (s .pre .0) (s .pre .2) (c .before .before .before .before .before .before .before .before .before .before .before .before .before .before .before .before .before .before .before .read .ensures) (c .before .before .before .before .before .before .before .before .before .before .before .before .before .before .before .start .ensures .0) _ _ _ _ _ (c .before .before .before .before .before .before .before .before .run .ensures) refl _ (c .before .before .zero .ensures)
+returns c = let s = c .before .before .before .before .before .before .before .before .before .before .before .before .before .before .before .before .before .before .before .before .before .before .before .before in all-there _ _ _ _ _ (s .pre .0) (s .pre .2) (c .before .before .before .before .before .before .before .before .before .before .before .before .before .before .before .before .before .before .before .read .ensures) (c .before .before .before .before .before .before .before .before .before .before .before .before .before .before .before .start .ensures .0) _ _ _ _ _ (c .before .before .before .before .before .before .before .before .run .ensures .ran) refl _ (c .before .before .zero .ensures)
 
 pub play-spec : {M : Type 1} → statement M
 play-spec =

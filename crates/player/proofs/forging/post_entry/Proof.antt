@@ -56,11 +56,8 @@ returns-3 c = entry-none _ _ _ _ _ _ (c .before .before .before .before .before 
 sub-size-of : tie.Need-sub-size-of
 sub-size-of c = search needs
 
-mul-size-of : tie.Need-mul-size-of
-mul-size-of c = search needs
-
-element-copy-out-size-of : tie.Need-element-copy-out-size-of
-element-copy-out-size-of c = search needs
+array-read-size-of : tie.Need-array-read-size-of
+array-read-size-of c = search needs
 
 size-of-requires-4 : tie.Need-size-of-requires-4
 size-of-requires-4 c κs = search needs
@@ -111,8 +108,7 @@ post-entry-spec =
     same-length-3
     returns-3
     sub-size-of
-    mul-size-of
-    element-copy-out-size-of
+    array-read-size-of
     size-of-requires-4
     same-length-4
     returns-4

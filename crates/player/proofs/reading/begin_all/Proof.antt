@@ -11,10 +11,10 @@ use Rattle.player.proofs.reading.begin_all.Statement.{statement}
 use Rattle.player.proofs.reading.begin_all.Tie as tie
 
 abbrev Inv-loop : tie.InvT-loop
-Inv-loop from to end reads fresh rs₀ i₀ rs i = (from ≤ i) × (i ≤ to) × (length rs ≡ 4) × (rs ≡ begunBy reads end from (i - from) rs₀)
+Inv-loop by from to end fresh rs₀ i₀ rs i = (from ≤ i) × (i ≤ to) × (length rs ≡ 4) × (rs ≡ begunBy by end from (i - from) rs₀)
 
 abbrev μ-loop : tie.MeasureT-loop
-μ-loop from to end reads fresh rs₀ i₀ rs i = to - i
+μ-loop by from to end fresh rs₀ i₀ rs i = to - i
 
 loop-holds : tie.Need-loop-holds Inv-loop μ-loop
 loop-holds c = (omega arith, c .pre .ordered, c .good .0 .1 .0 .1, begun-none _ _ _ _)

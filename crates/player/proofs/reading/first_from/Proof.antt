@@ -8,10 +8,10 @@ use Rattle.player.proofs.reading.first_from.Statement.{statement}
 use Rattle.player.proofs.reading.first_from.Tie as tie
 
 abbrev Inv-loop : tie.InvT-loop
-Inv-loop k u reads m i₀ i = (k ≤ i) × (i ≤ reads .m) × ((j : ℕ) → k ≤ j → j < i → getD (reads .begun) j 0 < u)
+Inv-loop begun m k u i₀ i = (k ≤ i) × (i ≤ m) × ((j : ℕ) → k ≤ j → j < i → getD begun j 0 < u)
 
 abbrev μ-loop : tie.MeasureT-loop
-μ-loop k u reads m i₀ i = reads .m - i
+μ-loop begun m k u i₀ i = m - i
 
 loop-holds : tie.Need-loop-holds Inv-loop μ-loop
 loop-holds c = (omega arith, c .pre .0, λ j a b. absurd (omega arith))
@@ -25,7 +25,7 @@ size-of-requires c κs = search needs
 returns : tie.Need-returns Inv-loop μ-loop
 returns c =
     let l = c .before .before .before .before .loop in
-    until-found _ _ _ (l .i) (l .inv .0) (l .inv .2) (c .before .before .before .loop-test .taken) (rw (c .before .size-of .ensures) at (c .if1 .taken))
+    until-found _ _ _ _ (l .i) (l .inv .0) (l .inv .2) (c .before .before .before .loop-test .taken) (rw (c .before .size-of .ensures) at (c .if1 .taken))
 
 add-i : tie.Need-add-i Inv-loop μ-loop
 add-i c = let h : c .before .before .before .before .loop .i < 255 = omega (arith, c .before .before .before .loop-test .taken, c .before .before .before .before .before .pre .1) in search needs
@@ -36,10 +36,10 @@ loop-less c = omega (arith, c .before .before .before .loop-test .taken)
 loop-again : tie.Need-loop-again Inv-loop μ-loop
 loop-again c =
     let l = c .before .before .before .before .loop in
-    (omega (arith, l .inv .0), omega (arith, c .before .before .before .loop-test .taken), until-passed (c .before .before .before .before .before .args .t1) _ _ (l .i) (l .inv .0) (l .inv .2) (rw (c .before .size-of .ensures) at (c .if1 .left)))
+    (omega (arith, l .inv .0), omega (arith, c .before .before .before .loop-test .taken), until-passed (c .before .before .before .before .before .args .begun .now) (c .before .before .before .before .before .args .m) _ _ (l .i) (l .inv .0) (l .inv .2) (rw (c .before .size-of .ensures) at (c .if1 .left)))
 
 returns-2 : tie.Need-returns-2 Inv-loop μ-loop
-returns-2 c = let l = c .before .loop in until-last _ _ _ (l .i) (l .inv .0) (l .inv .2) (c .loop-test .left) (l .inv .1)
+returns-2 c = let l = c .before .loop in until-last _ _ _ _ (l .i) (l .inv .0) (l .inv .2) (c .loop-test .left) (l .inv .1)
 
 pub first-from-spec : {M : Type 1} → statement M
 first-from-spec =

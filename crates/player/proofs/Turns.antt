@@ -1,0 +1,148 @@
+-- A tick as the code has it: the readers hear, the servers go through their stages, reads end and begin, messages are forged.
+-- It stands on Ticking.
+use mathlib.Core.Path.{_≡_, refl, sym, ap, _∙_}
+use mathlib.Core.Bool.{Bool, true, false, _||_, cond}
+use mathlib.Core.List.{List}
+use Prim.Native.Nat.{ℕ, suc, _+_, _*_, _-_, _≤_, _<_}
+use native.Mathlib.Omega.{arith}
+use native.Mathlib.Numerals.{add-one}
+use native.Mathlib.Decide.{decLe}
+use lib.ListN.{length, getD, length-map}
+use lib.Seq.{ext-getD}
+use Rattle.register.specs.Cluster.{serverOf, cluster}
+use Rattle.plan.specs.Packed.{planOf}
+use Rattle.calendar.specs.View.{Posted}
+use Rattle.cluster.specs.declared.Cluster.{Cluster}
+use Rattle.cluster.specs.declared.Feed.{Feed}
+use Rattle.cluster.specs.declared.Reader.{Reader}
+use Rattle.cluster.specs.declared.Server.{Server}
+use Rattle.cluster.specs.Inputs.{pairAt, Sized}
+use Rattle.cluster.specs.Stored.{server, absent}
+use Rattle.cluster.specs.State.{Rep}
+use Rattle.cluster.specs.Tick.{Hearing, Heard, noReader, endsOf, feedOf}
+use Rattle.cluster.specs.Settled.{CalmlyServed, CalmlyTicked}
+use Rattle.cluster.proofs.ReaderLaws.{end-of}
+use Rattle.cluster.proofs.ServeLaws.{sized-after, calmly-ticked}
+use Rattle.script.specs.declared.Script.{Script}
+use Rattle.script.specs.Forged.{entriesEnd}
+use Rattle.player.specs.Forging.{SentIn, forges}
+use Rattle.player.specs.Reading.{Until, isBefore, Begun, WentOn}
+use Rattle.player.specs.declared.reading.Reading.{Reading}
+use Rattle.player.specs.Run.{Ready, FedBy, Playing, Played, Went}
+use Rattle.player.proofs.Cursors.{until-more, until-still, placed-none, begun-none}
+use Rattle.player.proofs.Tables.{there}
+use Rattle.player.proofs.Ticking.{sized, kept, servers-there, server-next, answers-are, can-forge, state-next}
+
+-- ---- the ends of the readers' reads
+
+-- hearing leaves them
+pub ends-heard : (work : List ℕ) (t : ℕ) (s r : List Reader) → Hearing work t s r 4 → endsOf r ≡ endsOf s
+ends-heard work t s r H =
+    ext-getD 0 (endsOf r) (endsOf s) (length-map r _ ∙ (H .size ∙ sym (length-map s _))) (λ i l. end-of r i ∙ (each i (decLe 4 i) ∙ sym (end-of s i)))
+  where
+    each : (i : ℕ) → Dec (4 ≤ i) → getD r i noReader .end ≡ getD s i noReader .end
+    each i (yes h) = ap (λ (x : Reader). x .end) (H .rest i h)
+    each i (no h) = H .each i (omega arith) .end
+
+-- ---- one tick
+
+module _ (s work : List ℕ) (r : Script) (t : ℕ) (p : Playing) (Q : Ready s work r) (below : t < r .shape .ticks) (L : Played s work r t p)
+    (f : Feed) (F : FedBy s r t f) where
+  pub feed-sized : Sized s work (f .t) (f .rules) (f .known) (f .links)
+  feed-sized = sized s r (Q .decoded) work (Q .kept) (Q .room) t below f F (p .cluster) (L .state)
+
+  -- the last tick of a look: its servers
+  module _ (d : Cluster) (work₁ : List ℕ) (fed : CalmlyTicked (feedOf s work f) (p .cluster) d work₁) where
+    pub looked : (b : ℕ) → b < planOf 16 s .n
+        → Rep (planOf 16 s) (pairAt (r .writes .known)) (r .writes .known .m) (suc t) (serverOf (cluster (planOf 16 s) (suc t)) b) (server (getD (d .servers) b absent))
+    looked = server-next s r (Q .decoded) work (Q .kept) (Q .room) t below f F (p .cluster) (L .state) d work₁ fed
+
+-- the cluster and the cursors as the loop has them
+abbrev pub at : List Server → Reading → Playing
+at servers p = record { cluster = record { servers = servers; readers = p .readers }; begun = p .begun; answered = p .answered }
+
+-- the readers have heard what arrives
+pub record HeardBy (work noted : List ℕ) (t : ℕ) (p q : Reading) : Type 0 where
+  pub heard : Heard work noted t (p .readers) (q .readers)
+  pub ends : q .ends ≡ p .ends
+  pub begun : q .begun ≡ p .begun
+  pub answered : q .answered ≡ p .answered
+
+neither : (a b : Bool) → a || b ≡ false → (a ≡ false) × (b ≡ false)
+neither false b e = (refl, e)
+neither true b e = absurd (never e)
+  where
+    never : true ≡ false → ⊥
+    never e = let z : _≡_ {A = ℕ} 1 0 = ap (λ (x : Bool). cond x 1 0) e in omega arith
+
+module _ (s work : List ℕ) (r : Script) (t : ℕ) (servers : List Server) (p : Reading) (Q : Ready s work r) (below : t < r .shape .ticks) (L : Played s work r t (at servers p))
+    (same : p .ends ≡ endsOf (p .readers)) (noted : List ℕ) (q : Reading) (H : HeardBy work noted t p q) where
+  -- reads may end and begin
+  pub can-go-on : Begun r q
+  can-go-on = record {
+    table = there s r (Q .decoded) 0 (r .reads .m) (omega arith) (omega arith);
+    pairs = Q .decoded .scripted .writes .few;
+    begun = rw (H .begun) (L .begun .few);
+    answered = rw (H .answered) (L .answered .few);
+  }
+
+  -- if none does, nothing is to be done
+  pub none-due : (answers : List ℕ) → isBefore (r .reads .begun) (r .reads .m) (q .begun) (t + 1) || isBefore (r .reads .begun) (r .reads .m) (q .answered) (t + 1 - 2 * r .rules .delta) ≡ false
+      → WentOn r t q q answers answers
+  none-due answers e =
+      let n = neither _ _ e in
+      record {
+        ended = until-still (r .reads .begun) (r .reads .m) (q .answered) (t + 1 - 2 * r .rules .delta) (can-go-on .answered) (n .1);
+        began = until-still (r .reads .begun) (r .reads .m) (q .begun) (t + 1) (can-go-on .begun) (n .0);
+        answers = placed-none _ (q .answered) answers;
+        readers = begun-none (r .reads .reader) (t + 2 * r .rules .delta) (q .begun) (q .readers);
+        ends = H .ends ∙ (same ∙ sym (ends-heard work t (p .readers) (q .readers) (H .heard .readers)));
+      }
+
+  module _ (f : Feed) (F : FedBy s r t f) where
+    pub noted-sized : Sized s noted (f .t) (f .rules) (f .known) (f .links)
+    noted-sized = sized-after s work noted (f .t) (f .rules) (f .known) (f .links) (feed-sized s work r t (at servers p) Q below L f F) (H .heard .rest) (H .heard .spans)
+
+    module _ (served : List Server) (work₁ : List ℕ) (S : CalmlyServed (feedOf s noted f) (q .ends) servers served work₁) (z : Reading) (answers answers₁ : List ℕ)
+        (W : WentOn r t q z answers answers₁) where
+      abbrev c : Cluster
+      c = record { servers = servers; readers = p .readers }
+
+      abbrev d : Cluster
+      d = record { servers = served; readers = q .readers }
+
+      fed : CalmlyTicked (feedOf s work f) c d work₁
+      fed =
+          let e : t ≡ f .t = ap (λ (x : Feed). x .t) (sym (F .same)) in
+          calmly-ticked (feedOf s work f) c (q .readers) served noted work₁ (feed-sized s work r t (at servers p) Q below L f F .servers) (L .size)
+          (rw e at (H .heard)) (rw (H .ends ∙ same) at S)
+
+      have-ended : Until (r .reads .begun) (r .reads .m) 0 (t + 1 - 2 * r .rules .delta) (z .answered)
+      have-ended =
+          until-more (r .reads .begun) (r .reads .m) (t - 2 * r .rules .delta) (t + 1 - 2 * r .rules .delta) (p .answered) (z .answered) (omega arith) (L .answered)
+          (rw (H .answered) at (W .ended))
+
+      have-begun : Until (r .reads .begun) (r .reads .m) 0 (t + 1) (z .begun)
+      have-begun = until-more (r .reads .begun) (r .reads .m) t (t + 1) (p .begun) (z .begun) (omega arith) (L .begun) (rw (H .begun) at (W .began))
+
+      pub forge-ready : (r .rules .n ≤ 16) × (t < 128) × (entriesEnd ≤ length work₁) × SentIn work₁ (r .starts) t
+      forge-ready = can-forge s r (Q .decoded) work (Q .kept) (Q .room) t below f F c (L .state) d work₁ fed (p .begun) (z .begun) (L .begun) have-begun (omega (arith, W .began .from, H .begun))
+
+      pub went : (work₂ : List ℕ) → Posted work₁ work₂ (forges (z .ends) (r .rules .n) work₁ (getD (r .starts) t 0) (getD (r .starts) (t + 1) 0))
+          → Went s work work₂ answers answers₁ r (t + 1) (at servers p) (at served z)
+      went work₂ N =
+          let k = kept s r (Q .decoded) work (Q .kept) (Q .room) t below f F c (L .state) d work₁ fed in
+          let rs = rw (H .begun) at (W .readers) in
+          record {
+            kept = record { size = N .rest .size ∙ k .size; past = λ x l. N .rest .past x l ∙ k .past x l };
+            played = record {
+              size = servers-there s r (Q .decoded) work (Q .kept) (Q .room) t below f F c (L .state) d work₁ fed;
+              state = rw (add-one t) (state-next s r (Q .decoded) work (Q .kept) (Q .room) t below f F c (L .state) d work₁ fed
+                  (p .begun) (z .begun) (L .begun) have-begun (omega (arith, W .began .from, H .begun)) (at served z .cluster) work₂ refl rs (rw (W .ends, rs) at N));
+              begun = have-begun;
+              answered = have-ended;
+            };
+            ordered = omega (arith, W .ended .from, H .answered);
+            answers = rw (H .answered) at (W .answers) ∙ answers-are s r (Q .decoded) work (Q .kept) (Q .room) t below f F c (L .state) d work₁ fed
+                (p .answered) (z .answered) answers (L .answered) have-ended (omega (arith, W .ended .from, H .answered));
+          }
