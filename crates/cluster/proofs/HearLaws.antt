@@ -9,7 +9,6 @@ use lib.Dec.{eqb, leb, ltb}
 use lib.ListN.{length, getD, set, length-set}
 use lib.Seq.{getD-set-same, getD-set-other}
 use borrow.Author.Tests.{eq-eqb, ne-eqb, lt-ltb, le-ltb, le-leb, lt-leb}
-use Rattle.register.specs.Lists.{anyUpTo}
 use Rattle.register.proofs.Logic.{T-eq}
 use Rattle.register.proofs.Counting.{anyUpTo-i}
 use Rattle.calendar.specs.Layout.{receivers, rows, places, rowOf, highOf, sender}

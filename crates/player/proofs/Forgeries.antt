@@ -1,8 +1,8 @@
 -- Where a forged message goes, and what the forged messages of a tick post: what the plan's list says of this tick.
 -- It stands on the calendar's laws of posting.
-use mathlib.Core.Path.{_≡_, refl, sym, ap, _∙_}
+use mathlib.Core.Path.{_≡_, refl, sym}
 use mathlib.Core.Bool.{Bool, true, false, _&&_, _||_}
-use mathlib.Core.Logic.{_⊎_, inl, inr}
+use mathlib.Core.Logic.{inl, inr}
 use mathlib.Core.List.{List}
 use Prim.Native.Nat.{ℕ, zero, suc, _+_, _*_, _-_, _%_, _≤_, _<_}
 use native.Mathlib.Omega.{arith}
@@ -11,8 +11,8 @@ use lib.Dec.{T, eqb, leb, ltb, eqb→eq, eqb-refl, leb→le, ltb→lt}
 use lib.ListN.{getD}
 use borrow.Author.Tests.{lt-ltb, le-ltb, le-leb, lt-leb}
 use Rattle.register.specs.Lists.{anyUpTo}
-use Rattle.register.proofs.Logic.{and-l, and-r, and-i, or-e}
-use Rattle.calendar.specs.Layout.{rows, places, rowOf}
+use Rattle.register.proofs.Logic.{and-l, and-r, or-e}
+use Rattle.calendar.specs.Layout.{rowOf}
 use Rattle.calendar.specs.View.{SamePast, Posted}
 use Rattle.calendar.specs.Posts.{inRow}
 use Rattle.calendar.proofs.Laws.{or-none}

@@ -27,10 +27,10 @@ use Rattle.script.specs.declared.Script.{Script}
 use Rattle.script.specs.Operations.{noRead}
 use Rattle.script.specs.Script.{Scripted}
 use Rattle.script.proofs.Fitting.{script-knows}
-use Rattle.answers.specs.Answers.{answersFor, answersOf}
+use Rattle.answers.specs.Answers.{answersFor}
 use Rattle.answers.specs.Workspace.{workspaceSize, zeroed}
-use Rattle.player.specs.Reading.{Until, placed}
-use Rattle.player.specs.Run.{Decoded, Ready, FedBy, answerIn, Playing, Played, Went, Ran, Ended}
+use Rattle.player.specs.Reading.{placed}
+use Rattle.player.specs.Run.{Decoded, Ready, FedBy, answerIn, Playing, Went, Ran, Ended}
 use Rattle.player.specs.Player.{Answered, Seen}
 use Rattle.player.proofs.Cursors.{until-none, placed-on}
 use Rattle.player.proofs.Feeding.{range, ticks-same}

@@ -1,11 +1,11 @@
 -- The reads of a script's table are the plan's, in the order of their begins.
 -- It stands on what Check accepts and on the laws of scripts.
-use mathlib.Core.Path.{_≡_, ap, _∙_}
+use mathlib.Core.Path.{_≡_, _∙_}
 use mathlib.Core.List.{List}
 use Prim.Native.Nat.{ℕ, _≤_, _<_}
 use native.Mathlib.Omega.{arith}
 use native.Mathlib.Decide.{ℕ-discrete}
-use lib.ListN.{length, getD}
+use lib.ListN.{getD}
 use Rattle.register.specs.Lists.{In}
 use Rattle.register.specs.Plan.{Read}
 use Rattle.plan.specs.Packed.{planOf}

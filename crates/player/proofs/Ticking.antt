@@ -1,39 +1,32 @@
 -- A tick of the code is a tick of the plan: what it is fed fits, the reads that end are answered as the definitions say, the reads that begin are
 -- set up, and the forged messages are those of the tick. It stands on Tables, and on the laws of scripts, of answers and of the cluster's state.
-use mathlib.Core.Path.{_≡_, refl, sym, ap, _∙_, subst}
-use mathlib.Core.Bool.{Bool, true, false, _&&_}
+use mathlib.Core.Path.{_≡_, sym, ap, _∙_, subst}
+use mathlib.Core.Bool.{Bool, _&&_}
 use mathlib.Core.List.{List}
 use Prim.Native.Nat.{ℕ, suc, _+_, _*_, _-_, _≤_, _<_}
 use native.Mathlib.Omega.{arith}
-use native.Mathlib.Numerals.{add-one}
-use native.Mathlib.Decide.{decLe, ℕ-discrete}
-use lib.Dec.{T, eqb, leb, ltb, eqb→eq, eqb-refl, leb→le, ltb→lt, le→leb}
+use native.Mathlib.Decide.{decLe}
+use lib.Dec.{T, eqb, leb, ltb, eqb→eq, eqb-refl, leb→le, le→leb}
 use lib.ListN.{length, getD}
 use borrow.Author.Tests.{lt-ltb}
 use Rattle.register.specs.Lists.{any, anyUpTo, In}
-use Rattle.register.specs.Plan.{Plan, Read, Forgery, readEnd, replyQuorum}
+use Rattle.register.specs.Plan.{Read, Forgery, readEnd, replyQuorum}
 use Rattle.register.specs.Cluster.{serverOf, cluster}
-use Rattle.register.specs.Reading.{answerOf}
-use Rattle.register.proofs.Logic.{T-iff, T-eq, and-l, and-r, and-i}
+use Rattle.register.proofs.Logic.{T-iff, and-l, and-r, and-i}
 use Rattle.register.proofs.Counting.{anyUpTo-e, anyUpTo-i}
-use Rattle.register.proofs.Good.{Good}
 use Rattle.plan.specs.Header.{headerOf}
 use Rattle.plan.specs.Packed.{planOf}
-use Rattle.plan.proofs.Tests.{getD-in, in-getD}
-use Rattle.plan.proofs.Accept.{in-range}
-use Rattle.plan.proofs.AcceptReads.{ReadStands, read-stands, reads-rise}
 use Rattle.plan.proofs.AcceptGood.{good}
 use Rattle.calendar.specs.Layout.{places, rowOf}
-use Rattle.calendar.specs.View.{SamePast, Spanned, Posted}
+use Rattle.calendar.specs.View.{SamePast, Posted}
 use Rattle.calendar.proofs.Spans.{posted-spanned}
 use Rattle.cluster.specs.declared.Cluster.{Cluster}
 use Rattle.cluster.specs.declared.Feed.{Feed}
 use Rattle.cluster.specs.declared.Reader.{Reader}
 use Rattle.cluster.specs.Bits.{sets}
-use Rattle.cluster.specs.Inputs.{pairAt, Knows, Sized, Fits}
+use Rattle.cluster.specs.Inputs.{pairAt, Sized, Fits}
 use Rattle.cluster.specs.Stored.{server, absent}
-use Rattle.cluster.specs.State.{Open, Idle, Rep, State}
-use Rattle.cluster.specs.Tick as Tick
+use Rattle.cluster.specs.State.{Rep, State}
 use Rattle.cluster.specs.Tick.{Ticked, noReader, endsOf, feedOf}
 use Rattle.cluster.specs.Settled.{CalmlyTicked}
 use Rattle.cluster.specs.Way.{forgedAs}
@@ -41,21 +34,18 @@ use Rattle.cluster.proofs.BitLaws.{unmarked}
 use Rattle.cluster.proofs.ReaderLaws.{Begins, Forges, end-of}
 use Rattle.cluster.proofs.StateLaws.{calm, noted-end, end-open, end-idle, next-server, next-state}
 use Rattle.script.specs.declared.Script.{Script}
-use Rattle.script.specs.Operations.{noRead}
-use Rattle.script.specs.Forged.{entriesEnd, mostEntries, entryAt, Entry, Starts}
+use Rattle.script.specs.Forged.{entriesEnd, entryAt, Entry, Starts}
 use Rattle.script.specs.Script.{messageOf, messageDelay, messageNumber}
 use Rattle.script.proofs.Messages.{sender-below}
 use Rattle.script.proofs.Naming.{entryAs, messages-named}
 use Rattle.script.proofs.Windows.{arrives-after, start-few, sent-earlier, sent-later, starts-rise}
-use Rattle.script.proofs.Fitting.{entries-kept, starts-kept, script-knows, script-fits, script-sized}
-use Rattle.answers.specs.Answers.{answerSize, answerBytes}
-use Rattle.answers.specs.Choosing.{highestOf, answerBy}
+use Rattle.script.proofs.Fitting.{entries-kept, starts-kept, script-fits, script-sized}
 use Rattle.answers.proofs.Answered.{answered}
 use Rattle.player.specs.Forging.{goesTo, forgedEntry, SentIn, forges}
-use Rattle.player.specs.Reading.{Until, There, readAt, chosenBytes, placed, begunBy, freshReader}
-use Rattle.player.specs.Run.{Decoded, Ready, FedBy, Playing, Played, answerIn, Went}
-use Rattle.player.proofs.Forgeries.{entry-still, server-row, reader-row, row-server, row-reader}
-use Rattle.player.proofs.Cursors.{until-more, placed-same, begun-size, begun-other, begun-there}
+use Rattle.player.specs.Reading.{Until, readAt, chosenBytes, placed, begunBy, freshReader}
+use Rattle.player.specs.Run.{Decoded, FedBy, answerIn}
+use Rattle.player.proofs.Forgeries.{server-row, reader-row, row-server, row-reader}
+use Rattle.player.proofs.Cursors.{placed-same, begun-size, begun-other, begun-there}
 use Rattle.player.proofs.Tables.{knows, servers-same, delta-same, few-servers, listed, in-table, reader-range, not-before}
 use Rattle.player.proofs.Feeding.{range, ticks-same, period-same, few-ticks}
 

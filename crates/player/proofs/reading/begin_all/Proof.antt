@@ -1,10 +1,9 @@
 -- `reading::begin_all` meets its contract. The loop's invariant: the readers of the reads passed are set up.
 use borrow.Author.Needs.{needs}
 use native.Mathlib.Omega.{arith}
-use mathlib.Core.Path.{_≡_, refl, ap, _∙_}
-use Prim.Native.Nat.{ℕ, _-_, _≤_, _<_}
+use mathlib.Core.Path.{_≡_}
+use Prim.Native.Nat.{_-_, _≤_, _<_}
 use lib.ListN.{length, length-set}
-use Rattle.cluster.specs.declared.Reader.{Reader}
 use Rattle.player.specs.Reading.{begunBy}
 use Rattle.player.proofs.Cursors.{begun-none, begun-more}
 use Rattle.player.proofs.reading.begin_all.Statement.{statement}

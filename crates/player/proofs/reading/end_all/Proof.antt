@@ -1,8 +1,8 @@
 -- `reading::end_all` meets its contract. The loop's invariant: the answers of the reads passed are placed.
 use borrow.Author.Needs.{needs}
 use native.Mathlib.Omega.{arith}
-use mathlib.Core.Path.{_≡_, refl, _∙_}
-use Prim.Native.Nat.{ℕ, _+_, _*_, _-_, _≤_, _<_}
+use mathlib.Core.Path.{_≡_, refl}
+use Prim.Native.Nat.{_+_, _*_, _-_, _≤_, _<_}
 use lib.ListN.{length, length-drop}
 use Rattle.player.specs.Reading.{placed, chosenBytes}
 use Rattle.player.proofs.Buffers.{part-from, part-back}
