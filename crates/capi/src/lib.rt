@@ -15,7 +15,7 @@ use plan::header::Shape;
 pub extern "C" fn register_check(plan: &[u8]) -> usize
     ensures { λ r. ⌜ r ≡ readsCode (checkOf 16 (now (plan .entry))) ⌝ }
 {
-    codes::of_check(plan::check(plan))
+    codes::of_check(checks::check(plan))
 }
 
 // The number of reads; an answer's five bytes for each of them.

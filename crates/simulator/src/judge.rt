@@ -182,7 +182,7 @@ fn judge_answers(plan: &[u8], answers: &[u8], count: usize) -> Judged
 pub fn judge(plan: &[u8], answers: &[u8]) -> Judged
     ensures { λ r. ⌜ judged r ≡ judgeOf 16 (now (plan .entry)) (now (answers .entry)) ⌝ }
 {
-    let checked = plan::check(plan);
+    let checked = checks::check(plan);
     match checked {
         Checked::Refused(refusal) => Judged::Refused(refusal),
         Checked::Reads(count) => judge_answers(plan, answers, count),

@@ -78,7 +78,7 @@ fn refusal(seen: Seen) -> Looked
 pub fn look(plan: &[u8], work: &mut [u8], server: usize, tick: usize) -> Looked
     ensures { λ r. ⌜ record { outcome = looked r; places = r .places; workspace = now (work .exit) } ≡ lookOf 16 (now (plan .entry)) (now (work .entry)) server tick ⌝ }
 {
-    let checked = plan::check(plan);
+    let checked = checks::check(plan);
     match checked {
         Checked::Refused(why) => refusal(Seen::Refused(why)),
         Checked::Reads(_reads) => {

@@ -19,7 +19,7 @@ pub fn play(plan: &[u8], answers: &mut [u8], work: &mut [u8]) -> Played
     ensures { λ r. ⌜ record { outcome = played r; answers = now (answers .exit); workspace = now (work .exit) } ≡ playOf 16 (now (plan .entry)) (now (answers .entry)) (now (work .entry)) ⌝ }
     ensures { λ r. ⌜ Promised (now (plan .entry)) (played r) (now (answers .exit)) ⌝ }
 {
-    let checked = plan::check(plan);
+    let checked = checks::check(plan);
     match checked {
         Checked::Refused(why) => Played::Refused(why),
         Checked::Reads(reads) => {

@@ -56,7 +56,7 @@ fn look(plan: &[u8], tick: usize, server: usize) {
 fn run(plan: &[u8], index: u64) -> [u8; lent::ANSWERS] {
     shown::word(b"plan ");
     shown::number(index, b"\ncheck ");
-    shown::outcome(codes::of_check(plan::check(plan)));
+    shown::outcome(codes::of_check(checks::check(plan)));
     shown::word(b"\n");
     console::print_text(STDOUT_FILENO, plan);
     let mut answers = [0u8; lent::ANSWERS];

@@ -1,0 +1,4 @@
+pub mod Ones
+pub mod Passed
+pub mod Spans
+pub mod Forging

@@ -1,0 +1,53 @@
+-- What single steps of the code find: what an operation or a forgery must meet by itself, and the table of open reads.
+use mathlib.Core.Path.{_≡_}
+use mathlib.Core.Bool.{Bool, false, not, _&&_, _||_}
+use mathlib.Core.List.{List}
+use Prim.Native.Nat.{ℕ, _+_, _*_, _-_, _/_, _%_, _<_}
+use lib.Dec.{leb, ltb, eqb}
+use lib.ListN.{getD, drop}
+use Rattle.register.specs.Lists.{anyUpTo}
+use Rattle.register.specs.Plan.{Forgery}
+use Rattle.plan.specs.Header.{Header, operationAt}
+use Rattle.plan.specs.Parts as Parts
+use Rattle.plan.specs.Parts.{operationOf}
+use Rattle.plan.specs.Packed.{planOf}
+use Rattle.plan.specs.Check.{endOf, readOpen}
+
+-- the part of an operation's test that looks at no other operation
+abbrev pub standsAlone : Header → Parts.Operation → Bool
+standsAlone h o = leb (o .party) (h .readers) && ((eqb (o .party) 0 || eqb (o .value) 0) && ltb (endOf h o) (h .ticks))
+
+-- a span of ticks, `from` up to and without `to`, of reader x: is tick t of reader y in it
+unfoldable pub spans : ℕ → ℕ → ℕ → ℕ → ℕ → Bool
+spans from to x y t = eqb x y && (leb from t && ltb t to)
+
+-- the table l, places 128 x + tick, is k with that span marked
+abbrev pub Marked : List Bool → List Bool → ℕ → ℕ → ℕ → Type 0
+Marked l k x from to = (y t : ℕ) → t < 128 → getD l (128 * y + t) false ≡ spans from to x y t || getD k (128 * y + t) false
+
+-- has reader x a read open in tick t, among the first i operations
+unfoldable pub openAmong : List ℕ → Header → ℕ → ℕ → ℕ → Bool
+openAmong s h i x t =
+    anyUpTo i (λ j.
+    let o : Parts.Operation = operationOf 16 s h j in not (eqb (o .party) 0) && spans (o .at) (o .at + 2 * h .delta) (o .party) x t)
+
+-- a table that says so at places 128 x + t
+abbrev pub Opened : List ℕ → Header → ℕ → List Bool → Type 0
+Opened s h i l = (x t : ℕ) → t < 128 → getD l (128 * x + t) false ≡ openAmong s h i x t
+
+-- is the tick below the plan's, and the sender faulty then
+abbrev pub isSent : List ℕ → Header → ℕ → ℕ → Bool
+isSent s h at from = ltb at (h .ticks) && planOf 16 s .placed (at / h .period) from
+
+-- is the receiver another server, or a reader with an open read in the table
+abbrev pub isReceived : ℕ → List Bool → ℕ → ℕ → ℕ → Bool
+isReceived n table at from to = (ltb to n && not (eqb to from)) || (leb n to && getD table (128 * (to - n) + at) false)
+
+-- the part of a forgery's test that looks at no other forgery
+abbrev pub forgedAlone : List ℕ → Header → Forgery → Bool
+forgedAlone s h g = isSent s h (g .at) (g .from) && ((ltb (g .to) (h .n) && not (eqb (g .to) (g .from))) || readOpen 16 s h g)
+
+-- the bytes from the one that holds the first bit of the forgeries, and where that bit is in it
+pub record ForgedPart (s : List ℕ) (h : Header) (part : List ℕ) (offset : ℕ) : Type 0 where
+  pub bytes : part ≡ drop (operationAt 16 h (h .operations) / 8) s
+  pub first : offset ≡ operationAt 16 h (h .operations) % 8
