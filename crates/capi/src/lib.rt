@@ -6,7 +6,7 @@ ghost use Rattle.answers.specs.Answers.{answerSize};
 ghost use Rattle.answers.specs.Workspace.{workspaceSize};
 ghost use Rattle.simulator.specs.Judge.{judgeOf};
 ghost use Rattle.codes.specs.Codes.{readsCode, verdictCode, lookCoded};
-ghost use Rattle.codes.specs.Fields.{answerField, headerField};
+ghost use Rattle.fields.specs.Fields.{answerField, headerField};
 ghost use Rattle.capi.specs.Exported.{playExported};
 use plan::header::Shape;
 
@@ -23,7 +23,7 @@ pub extern "C" fn register_check(plan: &[u8]) -> usize
 pub extern "C" fn register_play(plan: &[u8], answers: &mut [u8], workspace: &mut [u8]) -> usize
     ensures { λ r. ⌜ record { code = r; answers = now (answers .exit); workspace = now (workspace .exit) } ≡ playExported (now (plan .entry)) (now (answers .entry)) (now (workspace .entry)) ⌝ }
 {
-    codes::of_play(simulator::play::play(plan, answers, workspace))
+    codes::of_play(play::play(plan, answers, workspace))
 }
 
 // A server's condition and 4 for each pair that it keeps. As many whole pairs as fit stand at the start of `pairs`, three bytes each.
@@ -37,7 +37,7 @@ pub extern "C" fn register_look(
 ) -> usize
     ensures { λ r. ⌜ record { code = r; workspace = now (workspace .exit); pairs = now (pairs .exit) } ≡ lookCoded (now (plan .entry)) (now (workspace .entry)) server tick (now (pairs .entry)) ⌝ }
 {
-    codes::look(plan, workspace, server, tick, pairs)
+    codes::of_look(look::look(plan, workspace, server, tick), pairs)
 }
 
 // 1 for yes, 0 for no.
@@ -45,7 +45,7 @@ pub extern "C" fn register_look(
 pub extern "C" fn register_judge(plan: &[u8], answers: &[u8]) -> usize
     ensures { λ r. ⌜ r ≡ verdictCode (judgeOf 16 (now (plan .entry)) (now (answers .entry))) ⌝ }
 {
-    codes::of_judge(simulator::judge::judge(plan, answers))
+    codes::of_judge(judge::judge(plan, answers))
 }
 
 // A field of answer i: 0 begin, 1 reader, 2 value, 3 number, 4 count. 0 where there is no such answer or field.
@@ -53,7 +53,7 @@ pub extern "C" fn register_judge(plan: &[u8], answers: &[u8]) -> usize
 pub extern "C" fn register_answer(answers: &[u8], i: usize, field: usize) -> usize
     ensures { λ r. ⌜ r ≡ answerField (now (answers .entry)) i field ⌝ }
 {
-    codes::fields::of_answer(answers, i, field)
+    fields::of_answer(answers, i, field)
 }
 
 // A field of a plan's header: 0 n, 1 f, 2 delta, 3 period, 4 readers, 5 ticks, 6 initial value, 7 operations, 8 forgeries. 0 where there is no header, or
@@ -62,7 +62,7 @@ pub extern "C" fn register_answer(answers: &[u8], i: usize, field: usize) -> usi
 pub extern "C" fn register_header(plan: &[u8], field: usize) -> usize
     ensures { λ r. ⌜ r ≡ headerField (now (plan .entry)) field ⌝ }
 {
-    codes::fields::of_header(plan, field)
+    fields::of_header(plan, field)
 }
 
 // The bytes of the longest plan that Check accepts.

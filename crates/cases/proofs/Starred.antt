@@ -23,7 +23,7 @@ use Rattle.answers.specs.Answers
 use Rattle.simulator.specs.Look
 use Rattle.simulator.specs.Judge
 use Rattle.decimal.specs.Decimal
-use Rattle.text.specs.Text
+use Rattle.lines.specs.Text
 use Rattle.cases.specs.Starred as S
 
 -- every definition that a row computes with, opened under one name

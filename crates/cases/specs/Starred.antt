@@ -13,7 +13,7 @@ use Rattle.plan.specs.Check.{Outcome, refused, result, checkOf}
 use Rattle.answers.specs.Answers.{bytesOf, answersOf}
 use Rattle.simulator.specs.Look.{is-cured, is-correct, Shown, shownBy}
 use Rattle.simulator.specs.Judge.{readOf}
-use Rattle.text.specs.Text.{textOf}
+use Rattle.lines.specs.Text.{textOf}
 
 -- n = 1, δ = 2, Δ = 4
 unfoldable pub k-one : List ℕ

@@ -1,4 +1,3 @@
 pub mod Pairs
 pub mod Coded
-pub mod FieldLaws
 pub mod Apart

@@ -8,17 +8,16 @@ ghost use lib.ListN.{length};
 ghost use lib.Seq.{sets};
 ghost use Rattle.plan.specs.Packed.{storeDepth};
 ghost use Rattle.plan.specs.Numbered.{refusalNumber, numbered};
-ghost use Rattle.simulator.specs.Numbered.{played, judged, lookedAs, shownIn};
-ghost use Rattle.codes.specs.Codes.{refusalCode, readsCode, verdictCode, shownCode, pairSize, pairBytes, pairsOver, lookCoded};
+ghost use Rattle.simulator.specs.Numbered.{played, judged, lookedAs, looked, shownIn};
+ghost use Rattle.codes.specs.Codes.{refusalCode, readsCode, verdictCode, shownCode, pairSize, pairBytes, pairsOf, pairsOver};
 use calendar::DEPTH;
 use calendar::Stamped;
 use plan::Checked;
 use plan::Refusal;
 use simulator::judge::Judged;
+use simulator::look::Looked;
 use simulator::look::Seen;
 use simulator::play::Played;
-
-pub mod fields;
 
 // What a refusal's number is added to.
 pub const REFUSED: usize = 256;
@@ -142,16 +141,15 @@ fn put_pairs(out: &mut [u8], places: [Stamped; DEPTH]) -> usize
 }
 
 // Look: the condition and PER_PAIR for each pair. As many whole pairs as fit stand at the start of `pairs`; a refusal writes none.
-pub fn look(plan: &[u8], work: &mut [u8], server: usize, tick: usize, pairs: &mut [u8]) -> usize
-    ensures { λ r. ⌜ record { code = r; workspace = now (work .exit); pairs = now (pairs .exit) } ≡ lookCoded (now (plan .entry)) (now (work .entry)) server tick (now (pairs .entry)) ⌝ }
+pub fn of_look(l: Looked, pairs: &mut [u8]) -> usize
+    ensures { λ r. ⌜ (r ≡ shownCode (looked l)) × (now (pairs .exit) ≡ pairsOver (pairsOf (looked l)) (now (pairs .entry))) ⌝ }
 {
-    let looked = simulator::look::look(plan, work, server, tick);
-    let seen = looked.seen;
+    let seen = l.seen;
     let code = of_seen(seen);
     if REFUSED <= code {
         return code;
     }
-    let places = looked.places;
+    let places = l.places;
     let shown = put_pairs(pairs, places);
     code + PER_PAIR * shown
 }

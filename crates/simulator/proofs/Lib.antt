@@ -3,13 +3,6 @@ pub mod AnswerBytes
 pub mod Judged
 pub mod Played
 pub mod PointThree
-pub mod JudgeLaws
-pub mod JudgeLawsSteps
-pub mod JudgeLawsPlan
 pub mod Promised
-pub mod PlayCases
 pub mod Keeps
-pub mod LookCases
 pub mod ShownPlaces
-pub mod Places
-pub mod RehearseCases

@@ -2,7 +2,6 @@ pub mod Play
 pub mod Look
 pub mod Judge
 pub mod PointThree
-pub mod JudgeTables
 pub mod Promised
 pub mod Rehearse
 pub mod Numbered

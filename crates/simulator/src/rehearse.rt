@@ -1,13 +1,4 @@
-// A rehearsal in one call: Play, then Judge over the answers that it wrote.
-ghost use mathlib.Core.Path.{_≡_};
-ghost use Rattle.simulator.specs.Rehearse.{rehearseOf};
-ghost use Rattle.simulator.specs.Numbered.{rehearsed, saysYes, NotNo};
-use super::judge;
-use super::judge::Judged;
-use super::play;
-use super::play::Played;
 use plan::Refusal;
-use plan::header::Shape;
 
 // What a rehearsal returns: Judge's yes with the number of reads, its no, or Play's refusal.
 pub enum Rehearsed {
@@ -16,36 +7,4 @@ pub enum Rehearsed {
     Refused(Refusal),
     AnswersShort,
     WorkspaceShort,
-}
-
-fn is_yes(verdict: Judged) -> bool
-    ensures { λ r. ⌜ r ≡ saysYes verdict ⌝ }
-{
-    match verdict {
-        Judged::Yes => true,
-        Judged::No => false,
-        Judged::Refused(_) => false,
-        Judged::WrongLength => false,
-        Judged::WrongRead => false,
-    }
-}
-
-// It is never No: point 3.
-pub fn rehearse(plan: &[u8], answers: &mut [u8], work: &mut [u8]) -> Rehearsed
-    ensures { λ r. ⌜ record { outcome = rehearsed r; answers = now (answers .exit); workspace = now (work .exit) } ≡ rehearseOf 16 (now (plan .entry)) (now (answers .entry)) (now (work .entry)) ⌝ }
-    ensures { λ r. ⌜ NotNo r ⌝ }
-{
-    let played = play::play(plan, answers, work);
-    match played {
-        Played::Refused(why) => Rehearsed::Refused(why),
-        Played::AnswersShort => Rehearsed::AnswersShort,
-        Played::WorkspaceShort => Rehearsed::WorkspaceShort,
-        Played::Reads(reads) => {
-            let end = Shape::ANSWER_BYTES * reads;
-            if is_yes(judge::judge(plan, &answers[..end])) {
-                return Rehearsed::Yes(reads);
-            }
-            Rehearsed::No
-        }
-    }
 }

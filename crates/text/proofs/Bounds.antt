@@ -18,8 +18,8 @@ use Rattle.plan.specs.Check.{Outcome, refused, result, checkOf}
 use Rattle.plan.proofs.Accept.{playable, reads-counted, in-range}
 use Rattle.plan.proofs.AcceptReads.{read-stands}
 use Rattle.plan.proofs.Longest.{most-reads}
-use Rattle.text.specs.Text.{lineWith, lineOf, linesFor, textAfter, textOf, mostLine, mostText, writtenOver}
-use Rattle.text.proofs.Lines.{answer-fits}
+use Rattle.lines.specs.Text.{lineWith, lineOf, linesFor, textAfter, textOf, mostLine, mostText, writtenOver}
+use Rattle.lines.proofs.Lines.{answer-fits}
 use Rattle.text.proofs.Refusals.{refusal-low}
 use Rattle.text.proofs.Over.{whole}
 

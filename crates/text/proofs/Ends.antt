@@ -15,7 +15,7 @@ use Rattle.answers.specs.Workspace.{workspaceSize}
 use Rattle.simulator.specs.Play.{Played, playAfter, playOf}
 use Rattle.simulator.proofs.Played.{play-plays, play-writes}
 use Rattle.codes.specs.Codes.{refusalCode, readsCode}
-use Rattle.text.specs.Text.{readsWord, refusedWord, numberThen, lineFeed, lineWith, linesFor, textAfter, textOf}
+use Rattle.lines.specs.Text.{readsWord, refusedWord, numberThen, lineFeed, lineWith, linesFor, textAfter, textOf}
 
 -- a code tells a result from a refusal: no plan has so many reads
 below : (o : Outcome ℕ) → readsCode o < refusalCode 0 → o ≡ result (readsCode o)

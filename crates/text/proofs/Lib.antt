@@ -1,4 +1,3 @@
-pub mod Lines
 pub mod Refusals
 pub mod Over
 pub mod Bounds

@@ -7,7 +7,7 @@ use native.Mathlib.Nat.{zero-add}
 use lib.ListN.{length, take, drop, set}
 use lib.Seq.{sets, take-all, take-at}
 use Rattle.decimal.specs.Stored.{Stored}
-use Rattle.text.specs.Text.{writtenOver}
+use Rattle.lines.specs.Text.{writtenOver}
 
 sets-nil : (i : ℕ) (t : List ℕ) → sets {A = ℕ} [] i t ≡ []
 sets-nil i [] = refl

@@ -1,18 +1,11 @@
 // The text that the program prints for a plan, written into a lent buffer: `reads` and the count with a line for each read, or `refused` and the
 // number.
-use codes::fields::of_answer;
+use lines::put_first;
+use lines::put_lines;
 use plan::header::Shape;
 ghost use mathlib.Core.Path.{_≡_};
-ghost use mathlib.Core.List.{_++_};
-ghost use Prim.Native.Nat.{_+_, _*_, _^_, _≤_, _<_};
-ghost use lib.ListN.{length};
-ghost use Rattle.decimal.specs.Decimal.{mostDigits};
-ghost use Rattle.decimal.specs.Stored.{Stored};
-ghost use Rattle.plan.specs.Packed.{planOf};
-ghost use Rattle.plan.specs.Check.{result, checkOf};
-ghost use Rattle.answers.specs.Answers.{answersOf};
-ghost use Rattle.text.specs.Text.{numberThen, lineFeed, linesFor, textOf, writtenOver};
-ghost use Rattle.text.specs.Lines.{answerIn, lineFor};
+ghost use Prim.Native.Nat.{_≤_};
+ghost use Rattle.lines.specs.Text.{textOf, writtenOver};
 
 // The longest first line, `reads 168`, and the longest line of a read: numbers of 3, 1, 3, 5, 3 and 2 digits. Each with its line feed.
 const FIRST_BYTES: usize = 10;
@@ -22,80 +15,6 @@ const LINE_BYTES: usize = 23;
 // The longest text.
 pub const MOST_BYTES: usize = FIRST_BYTES + LINE_BYTES * Shape::MOST_READS;
 
-// A number and the byte behind it.
-fn put_number(out: &mut [u8], at: usize, n: u64, after: u8) -> usize
-    requires { ⌜ at < 2 ^ 60 ⌝ }
-    ensures { λ r. ⌜ Stored (now (out .entry)) at (numberThen after n) (now (out .exit)) r ⌝ }
-    ensures { λ r. ⌜ r ≤ at + (mostDigits + 1) ⌝ }
-{
-    let end = decimal::put(out, at, n);
-    decimal::put_byte(out, end, after)
-}
-
-// The first line: a word and a number.
-fn put_first(out: &mut [u8], word: &[u8], n: u64) -> usize
-    requires { ⌜ length (now word) < 2 ^ 8 ⌝ }
-    ensures { λ r. ⌜ Stored (now (out .entry)) 0 (now (word .entry) ++ numberThen lineFeed n) (now (out .exit)) r ⌝ }
-    ensures { λ r. ⌜ r ≤ length (now (word .entry)) + (mostDigits + 1) ⌝ }
-{
-    let at = decimal::put_all(out, 0, word);
-    put_number(out, at, n, b'\n')
-}
-
-// The fields of an answer.
-struct Answer {
-    begin: u64,
-    reader: u64,
-    value: u64,
-    number: u64,
-    count: u64,
-}
-
-impl Answer {
-    // Answer i of the answer bytes.
-    fn read(answers: &[u8], i: usize) -> Answer
-        ensures { λ r. ⌜ (r ≡ answerIn (now (answers .entry)) i) × (r .begin < 128) ⌝ }
-    {
-        Answer {
-            begin: of_answer(answers, i, 0) as u64,
-            reader: of_answer(answers, i, 1) as u64,
-            value: of_answer(answers, i, 2) as u64,
-            number: of_answer(answers, i, 3) as u64,
-            count: of_answer(answers, i, 4) as u64,
-        }
-    }
-}
-
-// The line of an answer to a read that lasts `span` ticks: begin, reader, end, value, number, count.
-fn put_line(out: &mut [u8], at: usize, a: Answer, span: u64) -> usize
-    requires { ⌜ (at < 2 ^ 32) × (a .begin < 128) × (span < 256) ⌝ }
-    ensures { λ r. ⌜ Stored (now (out .entry)) at (lineFor span a) (now (out .exit)) r ⌝ }
-    ensures { λ r. ⌜ r ≤ at + 6 * (mostDigits + 1) ⌝ }
-{
-    let mut next = put_number(out, at, a.begin, b' ');
-    next = put_number(out, next, a.reader, b' ');
-    next = put_number(out, next, a.begin + span, b' ');
-    next = put_number(out, next, a.value, b' ');
-    next = put_number(out, next, a.number, b' ');
-    put_number(out, next, a.count, b'\n')
-}
-
-// A line for each answer to an accepted plan.
-fn put_lines(out: &mut [u8], start: usize, plan: &[u8], answers: &[u8], count: usize) -> usize
-    requires { ⌜ (start < 2 ^ 16) × (checkOf 16 (now plan) ≡ result count) × (now answers ≡ answersOf 16 (now plan)) ⌝ }
-    ensures { λ r. ⌜ Stored (now (out .entry)) start (linesFor 16 (planOf 16 (now (plan .entry))) (planOf 16 (now (plan .entry)) .reads)) (now (out .exit)) r ⌝ }
-{
-    let shape = Shape::read(plan);
-    let span = 2 * shape.delta as u64;
-    let mut at = start;
-    let mut i: usize = 0;
-    while i < count {
-        at = put_line(out, at, Answer::read(answers, i), span);
-        i += 1;
-    }
-    at
-}
-
 // Writes the text for a plan, as much of it as fits, and returns its length. A buffer of MOST_BYTES holds every text.
 pub fn write(plan: &[u8], out: &mut [u8]) -> usize
     ensures { λ r. ⌜ record { size = r; bytes = now (out .exit) } ≡ writtenOver (textOf 16 (now (plan .entry))) (now (out .entry)) ⌝ }
@@ -103,7 +22,7 @@ pub fn write(plan: &[u8], out: &mut [u8]) -> usize
 {
     let mut answers = [0u8; Shape::ANSWER_BYTES * Shape::MOST_READS];
     let mut work = [0u8; Shape::WORKSPACE_BYTES];
-    let code = codes::of_play(simulator::play::play(plan, &mut answers, &mut work));
+    let code = codes::of_play(play::play(plan, &mut answers, &mut work));
     if codes::REFUSED <= code {
         return put_first(out, b"refused ", (code - codes::REFUSED) as u64);
     }

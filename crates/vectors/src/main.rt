@@ -44,7 +44,7 @@ fn looks(plan: &[u8]) {
 fn look(plan: &[u8], tick: usize, server: usize) {
     let mut pairs = [0u8; lent::PAIRS];
     let mut work = [0u8; lent::WORKSPACE];
-    let code = codes::look(plan, &mut work, server, tick, &mut pairs);
+    let code = codes::of_look(look::look(plan, &mut work, server, tick), &mut pairs);
     shown::word(b"look ");
     shown::number(tick as u64, b" ");
     shown::number(server as u64, b" ");
@@ -61,7 +61,7 @@ fn run(plan: &[u8], index: u64) -> [u8; lent::ANSWERS] {
     console::print_text(STDOUT_FILENO, plan);
     let mut answers = [0u8; lent::ANSWERS];
     let mut work = [0u8; lent::WORKSPACE];
-    let code = codes::of_play(simulator::play::play(plan, &mut answers, &mut work));
+    let code = codes::of_play(play::play(plan, &mut answers, &mut work));
     if codes::REFUSED <= code {
         return answers;
     }

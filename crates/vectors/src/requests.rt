@@ -13,7 +13,7 @@ const REPLACED_AT: usize = 8;
 fn play(plan: &[u8], room: usize, space: usize) {
     let mut answers = [lent::FILLER; lent::ANSWERS];
     let mut work = [lent::FILLER; lent::WORKSPACE];
-    let played = simulator::play::play(
+    let played = play::play(
         plan,
         lent::first_mut(&mut answers, room),
         lent::first_mut(&mut work, space),
@@ -28,13 +28,8 @@ fn play(plan: &[u8], room: usize, space: usize) {
 fn look(plan: &[u8], space: usize, server: usize, tick: usize) {
     let mut pairs = [lent::FILLER; lent::PAIRS];
     let mut work = [lent::FILLER; lent::WORKSPACE];
-    let code = codes::look(
-        plan,
-        lent::first_mut(&mut work, space),
-        server,
-        tick,
-        &mut pairs,
-    );
+    let looked = look::look(plan, lent::first_mut(&mut work, space), server, tick);
+    let code = codes::of_look(looked, &mut pairs);
     shown::word(b"look ");
     shown::seen(code, &pairs);
     shown::kept(lent::is_kept(&work));
@@ -47,7 +42,7 @@ fn judge(plan: &[u8], answers: [u8; lent::ANSWERS], request: [u8; BYTES]) {
     let i = bits::field(&request, 40, 24) as usize;
     let mut given = answers;
     decimal::put_all(&mut given, Shape::ANSWER_BYTES * i, &request[REPLACED_AT..]);
-    let judged = simulator::judge::judge(plan, lent::first(&given, length));
+    let judged = judge::judge(plan, lent::first(&given, length));
     shown::word(b"judge ");
     shown::verdict(codes::of_judge(judged));
 }

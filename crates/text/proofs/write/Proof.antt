@@ -10,7 +10,7 @@ use lib.ListN.{length-replicate}
 use lib.Seq.{length-take-le}
 use Rattle.decimal.specs.Stored.{Stored}
 use Rattle.decimal.proofs.Stores.{stored-as, stored-then}
-use Rattle.text.specs.Text.{textOf, mostText, writtenOver}
+use Rattle.lines.specs.Text.{textOf, mostText, writtenOver}
 use Rattle.text.proofs.Over.{stored-over}
 use Rattle.text.proofs.Bounds.{text-length}
 use Rattle.text.proofs.Ends.{Decided, decided}

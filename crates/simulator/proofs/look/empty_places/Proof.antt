@@ -1,4 +1,4 @@
--- `empty_places` meets its contract: no pair, and an empty place up to the depth.
+-- `look::empty_places` meets its contract: no pair, and an empty place up to the depth.
 use Rattle.simulator.specs.Look.{placesOf}
 use mathlib.Core.Path.{refl}
 use Rattle.simulator.proofs.look.empty_places.Statement.{statement}

@@ -1,4 +1,4 @@
--- `refusal` meets its contract: its number, and no pair.
+-- `look::refusal` meets its contract: its number, and no pair.
 use borrow.Author.Needs.{needs}
 use Rattle.simulator.proofs.look.refusal.Statement.{statement}
 use Rattle.simulator.proofs.look.refusal.Tie as tie

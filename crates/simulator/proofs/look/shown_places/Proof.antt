@@ -1,4 +1,4 @@
--- `shown_places` meets its contract. The loop's invariant: the places passed have pairs, and the array has these and no other.
+-- `look::shown_places` meets its contract. The loop's invariant: the places passed have pairs, and the array has these and no other.
 use mathlib.Core.Path.{_≡_, ap, _∙_}
 use Prim.Native.Nat.{_-_, _≤_, _<_}
 use native.Mathlib.Omega.{arith}

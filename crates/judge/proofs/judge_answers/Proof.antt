@@ -1,0 +1,140 @@
+-- `judge_answers` meets the definition of Judge behind Check: the length, then all reads, then all pairs.
+-- It stands on Laws, which says what is decoded of an accepted plan.
+use mathlib.Core.Path.{_≡_, sym, ap, _∙_}
+use mathlib.Core.Bool.{Bool}
+use native.Mathlib.Omega.{arith}
+use denote.Ref.{now}
+use borrow.Author.Needs.{needs}
+use borrow.Author.Tests.{ne-eqb, eq-eqb, not-true, not-false}
+use Rattle.register.specs.Lists.{allUpTo}
+use Rattle.plan.specs.Packed.{planOf}
+use Rattle.plan.specs.Check.{result}
+use Rattle.plan.specs.Playable.{Playable}
+use Rattle.plan.proofs.Accept.{playable}
+use Rattle.script.specs.Operations.{Room}
+use Rattle.script.proofs.Scripting.{header-there, operations-room}
+use Rattle.simulator.specs.Judge.{answerFits, answerAllowed, judgeAfter}
+use Rattle.judge.proofs.Laws as laws
+use Rattle.judge.proofs.judge_answers.Statement.{statement}
+use Rattle.judge.proofs.judge_answers.Tie as tie
+
+-- places of the code: from a later one back to the one that the name says
+abbrev fitting : tie.After-all-allowed → tie.After-all-fit
+fitting c = c .before .before .before .before .before .before .before .before .before .before
+
+abbrev reading : tie.After-all-fit → tie.After-reads-of
+reading c = c .before .before .before .before
+
+abbrev operating : tie.After-reads-of → tie.After-operations-at
+operating c = c .before .before
+
+abbrev entry : tie.After-operations-at → tie.Start
+entry c = c .before .before .before .before .before
+
+plays : (c : tie.Start) → Playable 16 (now (c .args .plan))
+plays c = playable 16 _ (c .args .count) (c .pre)
+
+-- both loops' results, by the definitions of Judge
+fits : (c : tie.After-all-fit) → let a = entry (operating (reading c)) .args in
+    allUpTo (a .count) (answerFits 16 (now (a .plan)) (now (a .answers))) ≡ c .all-fit .result
+fits c =
+    let r = reading c in
+    let o = operating r in
+    let x = entry o in
+    sym (c .all-fit .ensures ∙ laws.fits-same (now (x .args .plan)) (x .args .count) (x .pre) (o .before .read .result) (o .before .read .ensures)
+    (o .operations-at .result) (o .operations-at .ensures .0) _ _ _ (r .reads-of .ensures) (now (x .args .answers)))
+
+allows : (c : tie.After-all-allowed) → let a = entry (operating (reading (fitting c))) .args in
+    allUpTo (a .count) (answerAllowed 16 (now (a .plan)) (now (a .answers))) ≡ c .all-allowed .result
+unfolding answerAllowed
+allows c =
+    let r = reading (fitting c) in
+    let o = operating r in
+    let x = entry o in
+    let s = now (x .args .plan) in
+    let h = o .before .read in
+    let at = o .operations-at in
+    let w = c .before .before .before .before .before .before .before .before .writes-of in
+    sym (c .all-allowed .ensures (planOf 16 s)
+    (laws.write-tables s (x .args .count) (x .pre) (h .result) (h .ensures) (at .result) (at .ensures .0) _ _ _ (w .ensures))
+    (laws.delta-same s (x .args .count) (x .pre) (h .result) (h .ensures))
+    (laws.read-begins s (x .args .count) (x .pre) (h .result) (h .ensures) (at .result) (at .ensures .0) _ _ _ (r .reads-of .ensures)))
+
+has-room : (c : tie.After-operations-at) → Room (now (entry c .args .plan)) (c .operations-at .result) (c .before .read .result .operations)
+has-room c =
+    let x = entry c in
+    let h = c .before .read in
+    operations-room (now (x .args .plan)) (plays x) (h .result) (h .ensures) (c .operations-at .result) (c .operations-at .ensures .0)
+
+mul-if1 : tie.Need-mul-if1
+mul-if1 c = let x = c .before .before in omega (arith, laws.few-answers (now (x .args .plan)) (x .args .count) (x .pre))
+
+returns : tie.Need-returns
+unfolding judgeAfter
+returns c = rw (ne-eqb _ _ (c .if1 .taken))
+
+read-requires : tie.Need-read-requires
+read-requires c κs = let x = c .before .before .before in header-there (now (x .args .plan)) (plays x)
+
+operations-at-requires : tie.Need-operations-at-requires
+operations-at-requires c κs =
+    let x = c .before .before .before .before in
+    laws.shape-ranged (now (x .args .plan)) (x .args .count) (x .pre) (c .read .result) (c .read .ensures)
+
+cast-operations : tie.Need-cast-operations
+cast-operations c = search needs
+
+reads-of-requires : tie.Need-reads-of-requires
+reads-of-requires c κs = has-room (c .before)
+
+all-fit-requires : tie.Need-all-fit-requires
+all-fit-requires c κs =
+    let x = entry (operating (c .before .before .before)) in
+    (laws.few-answers (now (x .args .plan)) (x .args .count) (x .pre), search needs)
+
+returns-2 : tie.Need-returns-2
+unfolding judgeAfter
+returns-2 c =
+    let o = operating (reading (c .before)) in
+    rw (eq-eqb _ _ (o .before .before .if1 .left), fits (c .before) ∙ not-true _ (c .if2 .taken))
+
+writes-of-requires : tie.Need-writes-of-requires
+writes-of-requires c κs = has-room (operating (reading (c .before)))
+
+all-allowed-requires : tie.Need-all-allowed-requires
+all-allowed-requires c κs =
+    let x = entry (operating (reading (c .before .before .before .before .before .before .before .before .before))) in
+    let W = c .before .before .before .before .before .before .before .writes-of .ensures in
+    (omega (arith, W .count), W .few, laws.few-answers (now (x .args .plan)) (x .args .count) (x .pre), search needs)
+
+-- what both verdicts share
+verdict : (c : tie.After-all-allowed) → let a = entry (operating (reading (fitting c))) .args in
+    result (c .all-allowed .result) ≡ judgeAfter 16 (now (a .plan)) (now (a .answers)) (result (a .count))
+unfolding judgeAfter
+verdict c =
+    let o = operating (reading (fitting c)) in
+    let fit = c .before .before .before .before .before .before .before .before .before .if2 in
+    rw (eq-eqb _ _ (o .before .before .if1 .left), fits (fitting c) ∙ not-false _ (fit .left), allows c)
+
+returns-3 : tie.Need-returns-3
+returns-3 c = ap (λ (v : Bool). result v) (sym (c .if3 .taken)) ∙ verdict (c .before)
+
+returns-4 : tie.Need-returns-4
+returns-4 c = ap (λ (v : Bool). result v) (sym (c .if3 .left)) ∙ verdict (c .before)
+
+pub judge-answers-spec : {M : Type 1} → statement M
+judge-answers-spec =
+    tie.close
+    (tie.spec
+    mul-if1
+    returns
+    read-requires
+    operations-at-requires
+    cast-operations
+    reads-of-requires
+    all-fit-requires
+    returns-2
+    writes-of-requires
+    all-allowed-requires
+    returns-3
+    returns-4)

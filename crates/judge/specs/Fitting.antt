@@ -1,0 +1,10 @@
+-- What the code tests of an answer and its read.
+use mathlib.Core.Bool.{Bool, _&&_}
+use mathlib.Core.List.{List}
+use Prim.Native.Nat.{ℕ}
+use lib.Dec.{eqb}
+use Rattle.answers.specs.Answers.{beginIn, readerIn, zeroIn}
+
+-- begin, reader and zero bit of answer i are those of a read
+unfoldable pub fitsRead : List ℕ → ℕ → ℕ → ℕ → Bool
+fitsRead a i begun reader = eqb (beginIn 16 a i) begun && (eqb (readerIn 16 a i) reader && eqb (zeroIn 16 a i) 0)

@@ -1,0 +1,107 @@
+-- The lines read from the answers' bytes are those of the reads, where the answers are those of an accepted plan.
+-- It stands on point 3, by which an answer fits its fields, and on the answers' bytes.
+use mathlib.Core.Path.{_≡_, refl, sym, ap, _∙_}
+use mathlib.Core.Bool.{Bool, true, false, cond}
+use mathlib.Core.List.{List, [], _∷_, _++_, append-assoc, append-nil}
+use Prim.Native.Nat.{ℕ, zero, suc, _+_, _*_, _/_, _≤_, _<_}
+use native.Mathlib.Nat.{le-refl}
+use native.Mathlib.Omega.{arith}
+use lib.Dec.{ltb, leb→le}
+use lib.ListN.{length, take}
+use lib.Seq.{take-suc, take-all}
+use borrow.Author.Tests.{lt-ltb}
+use Rattle.bits.proofs.Laws.{field-lt}
+use Rattle.register.specs.Lists.{In}
+use Rattle.register.specs.Plan.{Plan, Read, valueOf, numberOf}
+use Rattle.register.specs.Reading.{Answer, answerOf}
+use Rattle.plan.specs.declared.header.Shape.{Shape}
+use Rattle.plan.specs.Shape.{shape}
+use Rattle.plan.specs.Header.{Header, headerOf}
+use Rattle.plan.specs.Packed.{planOf}
+use Rattle.plan.specs.Check.{result, checkOf}
+use Rattle.plan.proofs.Tests.{getD-in}
+use Rattle.plan.proofs.Accept.{accepted, reads-counted, in-range}
+use Rattle.answers.specs.Answers.{answerSize, answerAt, beginIn, answersFor, answersOf}
+use Rattle.simulator.specs.Judge.{readOf}
+use Rattle.simulator.proofs.AnswerBytes.{Fits, begin-of, reader-of, pair-of, count-of, answers-length}
+use Rattle.simulator.proofs.Judged.{fits}
+use Rattle.simulator.proofs.PointThree.{pointThree}
+use Rattle.fields.specs.Fields.{answerFields, answerField}
+use Rattle.lines.specs.declared.Answer.{Answer as Fields}
+use Rattle.lines.specs.Text.{lineOf, linesFor}
+use Rattle.lines.specs.Lines.{answerIn, lineFor, linesIn}
+
+-- what the fields of a read's answer have to be
+abbrev fieldsOf : Read → Answer → Fields
+fieldsOf r a = record { begin = r .begun; reader = r .reader; value = valueOf 16 (a .pair); number = numberOf 16 (a .pair); count = a .count }
+
+-- the begin of an answer, whatever the bytes
+pub begin-low : (a : List ℕ) (i : ℕ) → answerIn a i .begin < 128
+unfolding answerIn answerField answerFields beginIn
+begin-low a i = go (ltb i (length a / answerSize 16)) (field-lt a (answerAt 16 a i) 7)
+  where
+    go : (t : Bool) {x : ℕ} → x < 128 → cond t x 0 < 128
+    go true h = h
+    go false h = omega arith
+
+lines-append : (P : Plan) (a b : List Read) → linesFor 16 P (a ++ b) ≡ linesFor 16 P a ++ linesFor 16 P b
+unfolding linesFor
+lines-append P [] b = refl
+lines-append P (r ∷ a) b = rw (lines-append P a b) (sym (append-assoc (lineOf 16 P r) _ _))
+
+module _ (s : List ℕ) (m : ℕ) (e : checkOf 16 s ≡ result m) where
+  abbrev P : Plan
+  P = planOf 16 s
+
+  abbrev none : Read
+  none = record { begun = 0; reader = 0 }
+
+  inside : (i : ℕ) → i < m → i < length (P .reads)
+  inside i l = rw (reads-counted 16 s m e) at l
+
+  -- every answer fits its fields
+  pub answer-fits : (r : Read) → In r (P .reads) → Fits 16 r (answerOf P r)
+  answer-fits r i = fits 16 s (accepted 16 s m e) r i (pointThree 16 refl s m e .served r i)
+
+  fields-are : (i : ℕ) → i < m → answerIn (answersOf 16 s) i ≡ fieldsOf (readOf P i) (answerOf P (readOf P i))
+  unfolding answerIn answerField answerFields answersOf
+  fields-are i l =
+      let n = inside i l in
+      let F = answer-fits (readOf P i) (getD-in (P .reads) i none n) in
+      let whole : i < length (answersFor 16 P (P .reads)) / answerSize 16 = omega (arith, answers-length 16 P (P .reads)) in
+      rw (
+        lt-ltb _ _ whole,
+        begin-of 16 P refl (P .reads) none i n F,
+        reader-of 16 P refl (P .reads) none i n F,
+        pair-of 16 P refl (P .reads) none i n F,
+        count-of 16 P refl (P .reads) none i n F,
+      )
+
+  line-is : (i : ℕ) → i < m → lineFor (2 * P .delta) (answerIn (answersOf 16 s) i) ≡ lineOf 16 P (readOf P i)
+  unfolding lineFor lineOf
+  line-is i l = rw (fields-are i l)
+
+  first-lines : (i : ℕ) → i ≤ m → linesIn (answersOf 16 s) (2 * P .delta) i ≡ linesFor 16 P (take i (P .reads))
+  unfolding linesIn linesFor
+  first-lines zero l = refl
+  first-lines (suc i) l =
+      rw (first-lines i (omega arith), line-is i l, take-suc (P .reads) i none (inside i l), lines-append P (take i (P .reads)) (readOf P i ∷ []), append-nil)
+
+  lines-are : linesIn (answersOf 16 s) (2 * P .delta) m ≡ linesFor 16 P (P .reads)
+  lines-are = first-lines m (le-refl m) ∙ rw (take-all m (P .reads) (omega (arith, reads-counted 16 s m e)))
+
+  -- Sizes that the code meets.
+  pub header-there : 8 ≤ length s
+  header-there = leb→le 8 (length s) (accepted 16 s m e .playable .long)
+
+  -- how long a read lasts, from the header
+  module _ (x : Shape) (same : shape x ≡ headerOf 16 s) where
+    span-is : 2 * x .delta ≡ 2 * P .delta
+    unfolding planOf
+    span-is = ap (λ (h : Header). 2 * h .delta) same
+
+    pub span-few : 2 * x .delta ≤ 30
+    span-few = omega (arith, ap (λ (h : Header). h .delta) same, in-range 16 s (accepted 16 s m e .playable) .delta-hi)
+
+    pub all-lines : (a : List ℕ) (i : ℕ) → a ≡ answersOf 16 s → i ≡ m → linesIn a (2 * x .delta) i ≡ linesFor 16 P (P .reads)
+    all-lines a i is n = rw (is, span-is, n) lines-are

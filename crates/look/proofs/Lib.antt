@@ -1,0 +1,2 @@
+pub mod LookCases
+pub mod Places

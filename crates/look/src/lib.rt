@@ -1,0 +1,41 @@
+// Look: a server after a tick, with a lent workspace.
+ghost use mathlib.Core.Path.{_≡_};
+ghost use Rattle.simulator.specs.Look.{lookOf};
+ghost use Rattle.simulator.specs.Numbered.{looked};
+use plan::Checked;
+use plan::header::Shape;
+use simulator::look::Looked;
+use simulator::look::Seen;
+use simulator::look::condition;
+use simulator::look::refusal;
+use simulator::look::shown_places;
+
+pub fn look(plan: &[u8], work: &mut [u8], server: usize, tick: usize) -> Looked
+    ensures { λ r. ⌜ record { outcome = looked r; places = r .places; workspace = now (work .exit) } ≡ lookOf 16 (now (plan .entry)) (now (work .entry)) server tick ⌝ }
+{
+    let checked = checks::check(plan);
+    match checked {
+        Checked::Refused(why) => refusal(Seen::Refused(why)),
+        Checked::Reads(_reads) => {
+            if work.len() < Shape::WORKSPACE_BYTES {
+                return refusal(Seen::WorkspaceShort);
+            }
+            let shape = Shape::read(plan);
+            if shape.n as usize <= server {
+                return refusal(Seen::OutOfRange);
+            }
+            if shape.ticks as usize <= tick {
+                return refusal(Seen::OutOfRange);
+            }
+            let s = player::look(plan, work, server, tick as u8);
+            let status = s.status;
+            let kept = s.kept;
+            let seen = condition(status);
+            let places = shown_places(kept);
+            Looked {
+                seen: seen,
+                places: places,
+            }
+        }
+    }
+}
