@@ -1,34 +1,10 @@
 // What the program does: reads a plan, prints the text of its rehearsal, and says on standard error what the system refused.
-ghost use Rattle.console.specs.Taken.{Within};
+use input::Taken;
+use input::take;
 use libc::STDERR_FILENO;
 use libc::STDIN_FILENO;
 use libc::STDOUT_FILENO;
 use plan::header::Shape;
-
-// What reading gave: so many bytes at the start of the buffer, or a read that failed.
-pub enum Taken {
-    Bytes(usize),
-    Failed,
-}
-
-// Reads until the input ends, the buffer is full or a read fails.
-fn take(input: i32, bytes: &mut [u8]) -> Taken
-    ensures { λ r. ⌜ Within r (now (bytes .exit)) ⌝ }
-{
-    let mut done: usize = 0;
-    while done < bytes.len() {
-        let got = libc::read(input, &mut bytes[done..]);
-        if got < 0 {
-            return Taken::Failed;
-        }
-        let more = io::count(got, &bytes[done..]);
-        if more == 0 {
-            return Taken::Bytes(done);
-        }
-        done += more;
-    }
-    Taken::Bytes(done)
-}
 
 // A line on standard error: the program, what failed, and the system's reason.
 fn fail(what: &[u8]) {

@@ -1,5 +1,5 @@
 -- `rehearse` is safe: the part that holds the plan is as long as what was read.
-use Rattle.console.proofs.Within.{counted}
+use Rattle.input.proofs.Within.{counted}
 use borrow.Author.Needs.{needs}
 use Rattle.console.proofs.rehearse.Statement.{statement}
 use Rattle.console.proofs.rehearse.Tie as tie

@@ -4,8 +4,8 @@ use lib.ListN.{length}
 use mathlib.Core.Path.{_≡_, sym}
 use lib.Seq.{length-take-le}
 use borrow.Author.Needs.{needs}
-use Rattle.console.proofs.take.Statement.{statement}
-use Rattle.console.proofs.take.Tie as tie
+use Rattle.input.proofs.take.Statement.{statement}
+use Rattle.input.proofs.take.Tie as tie
 
 abbrev Inv-loop : tie.InvT-loop
 Inv-loop input bytes₀ done₀ bytes done = (done ≤ length bytes) × (length bytes ≡ length bytes₀)

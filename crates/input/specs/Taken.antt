@@ -2,8 +2,8 @@
 use mathlib.Core.List.{List}
 use Prim.Native.Nat.{ℕ}
 use Rattle.io.specs.Counts.{Counts}
-use Rattle.console.specs.declared.Taken.{Taken}
-use Rattle.console.specs.declared.Taken.the-variants.{Bytes, Failed}
+use Rattle.input.specs.declared.Taken.{Taken}
+use Rattle.input.specs.declared.Taken.the-variants.{Bytes, Failed}
 
 abbrev pub Within : Taken → List ℕ → Type 0
 Within (Bytes n) bytes = Counts n bytes
