@@ -3,7 +3,6 @@ ghost use mathlib.Core.Path.{_≡_};
 ghost use Rattle.plan.specs.Check.{checkOf};
 ghost use Rattle.plan.specs.Numbered.{numbered};
 use parts::forgeries;
-use parts::operations;
 use parts::placements;
 use parts::reads;
 use plan::Checked;

@@ -1,4 +1,3 @@
 pub mod Ones
-pub mod Passed
 pub mod Spans
 pub mod Forging

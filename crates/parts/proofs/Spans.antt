@@ -17,7 +17,7 @@ use Rattle.plan.specs.declared.operations.Operation.{Operation}
 use Rattle.plan.specs.Steps.{IsOperation}
 use Rattle.parts.specs.Steps.{spans, Marked, openAmong, Opened}
 use Rattle.plan.proofs.Laws.{and-false, getD-replicate-same}
-use Rattle.parts.proofs.Passed.{operation-is}
+use Rattle.operations.proofs.Passed.{operation-is}
 
 pub spans-none : (from x y u : ℕ) → spans from from x y u ≡ false
 unfolding spans

@@ -1,4 +1,4 @@
--- What single steps of the code find: what an operation or a forgery must meet by itself, and the table of open reads.
+-- What single steps of the code find: the table of open reads, and what a forgery must meet by itself.
 use mathlib.Core.Path.{_≡_}
 use mathlib.Core.Bool.{Bool, false, not, _&&_, _||_}
 use mathlib.Core.List.{List}
@@ -11,11 +11,7 @@ use Rattle.plan.specs.Header.{Header, operationAt}
 use Rattle.plan.specs.Parts as Parts
 use Rattle.plan.specs.Parts.{operationOf}
 use Rattle.plan.specs.Packed.{planOf}
-use Rattle.plan.specs.Check.{endOf, readOpen}
-
--- the part of an operation's test that looks at no other operation
-abbrev pub standsAlone : Header → Parts.Operation → Bool
-standsAlone h o = leb (o .party) (h .readers) && ((eqb (o .party) 0 || eqb (o .value) 0) && ltb (endOf h o) (h .ticks))
+use Rattle.plan.specs.Check.{readOpen}
 
 -- a span of ticks, `from` up to and without `to`, of reader x: is tick t of reader y in it
 unfoldable pub spans : ℕ → ℕ → ℕ → ℕ → ℕ → Bool

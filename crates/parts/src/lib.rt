@@ -1,5 +1,4 @@
-// The parts of a plan between its header and its delays, tested (refusals 5 to 7); and the reads among the operations.
+// The placements and the forgeries of a plan (refusals 5 and 7), and the reads among its operations.
 pub mod forgeries;
-pub mod operations;
 pub mod placements;
 pub mod reads;

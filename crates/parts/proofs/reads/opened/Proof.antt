@@ -10,7 +10,7 @@ use Rattle.plan.specs.Header.{Header, operationAt}
 use Rattle.plan.specs.Steps.{IsOperation}
 use Rattle.parts.specs.Steps.{Opened}
 use Rattle.plan.specs.Shape.{shape}
-use Rattle.parts.proofs.Passed.{read-ends}
+use Rattle.operations.proofs.Passed.{read-ends}
 use Rattle.parts.proofs.Spans.{opened-none, opened-write, opened-read}
 use Rattle.parts.proofs.reads.opened.Statement.{statement}
 use Rattle.parts.proofs.reads.opened.Tie as tie

@@ -16,7 +16,7 @@ use Rattle.plan.specs.Parts as Parts
 use Rattle.plan.specs.Parts.{operationOf}
 use Rattle.plan.specs.Check.{operationsStand, operationStands, operationRises, operationWaits, endOf}
 use Rattle.plan.specs.Steps.{operation, IsOperation}
-use Rattle.parts.specs.Steps.{standsAlone}
+use Rattle.operations.specs.Steps.{standsAlone}
 use Rattle.plan.specs.declared.operations.Operation.{Operation}
 use Rattle.plan.proofs.Laws.{all-none, all-more, all-at, and-both}
 use Rattle.plan.proofs.Waiting.{follows, follows-none, follows-more, follows-rises, ended, Free, free-none, free-more}

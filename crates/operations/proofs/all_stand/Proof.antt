@@ -1,4 +1,4 @@
--- `operations::all_stand` meets its contract: the loop has passed the first i operations; two tables say what may follow.
+-- `all_stand` meets its contract: the loop has passed the first i operations; two tables say what may follow.
 use mathlib.Core.Bool.{false, _&&_, true}
 use mathlib.Core.List.{List}
 use mathlib.Core.Path.{_≡_, _∙_, sym}
@@ -10,13 +10,13 @@ use borrow.Author.Tests.{not-true, not-false, lt-leb, le-leb}
 use denote.Ref.{now}
 use Rattle.plan.specs.Header.{Header, operationAt}
 use Rattle.plan.specs.Steps.{operation, IsOperation}
-use Rattle.parts.specs.Steps.{standsAlone}
+use Rattle.operations.specs.Steps.{standsAlone}
 use Rattle.plan.specs.Shape.{shape}
 use Rattle.plan.specs.Check.{operationStands, operationsStand}
-use Rattle.parts.proofs.Passed.{Passed, passed-none, stands-as, passed-more}
+use Rattle.operations.proofs.Passed.{Passed, passed-none, stands-as, passed-more}
 use Rattle.plan.proofs.Laws.{all-stop, all-end}
-use Rattle.parts.proofs.operations.all_stand.Statement.{statement}
-use Rattle.parts.proofs.operations.all_stand.Tie as tie
+use Rattle.operations.proofs.all_stand.Statement.{statement}
+use Rattle.operations.proofs.all_stand.Tie as tie
 
 abbrev Inv-loop : tie.InvT-loop
 Inv-loop plan h n first next₀ free₀ i₀ next free i = (i ≤ n) × Passed plan (shape h) i next free

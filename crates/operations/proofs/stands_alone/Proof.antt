@@ -1,7 +1,7 @@
--- `operations::stands_alone` meets its contract.
+-- `stands_alone` meets its contract.
 use native.Mathlib.Omega.{arith}
-use Rattle.parts.proofs.operations.stands_alone.Statement.{statement}
-use Rattle.parts.proofs.operations.stands_alone.Tie as tie
+use Rattle.operations.proofs.stands_alone.Statement.{statement}
+use Rattle.operations.proofs.stands_alone.Tie as tie
 
 either-requires : tie.Need-either-requires
 either-requires c κs = omega arith

@@ -4,7 +4,7 @@ ghost use Prim.Native.Nat.{_+_, _*_, _≤_, _<_};
 ghost use Rattle.plan.specs.Check.{operationsStand};
 ghost use Rattle.plan.specs.Shape.{shape, Sized};
 ghost use Rattle.plan.specs.Steps.{operation};
-ghost use Rattle.parts.specs.Steps.{standsAlone};
+ghost use Rattle.operations.specs.Steps.{standsAlone};
 use plan::header::Shape;
 use plan::logic::both;
 use plan::logic::either;
