@@ -1,3 +1,1 @@
-pub mod Pairs
-pub mod Coded
 pub mod Apart

@@ -1,32 +1,18 @@
 // What the operations return, as one number each: a result below REFUSED, or REFUSED and the refusal's number.
 ghost use mathlib.Core.Path.{_≡_};
-ghost use mathlib.Core.Bool.{cond};
-ghost use mathlib.Core.List.{[], _∷_};
-ghost use Prim.Native.Nat.{_+_, _*_, _/_, _%_, _<_, _≤_};
-ghost use lib.Dec.{ltb};
-ghost use lib.ListN.{length};
-ghost use lib.Seq.{sets};
-ghost use Rattle.plan.specs.Packed.{storeDepth};
+ghost use mathlib.Core.List.{[]};
+ghost use Prim.Native.Nat.{_<_};
 ghost use Rattle.plan.specs.Numbered.{refusalNumber, numbered};
-ghost use Rattle.simulator.specs.Numbered.{played, judged, lookedAs, looked, shownIn};
-ghost use Rattle.codes.specs.Codes.{refusalCode, readsCode, verdictCode, shownCode, pairSize, pairBytes, pairsOf, pairsOver};
-use calendar::DEPTH;
-use calendar::Stamped;
+ghost use Rattle.simulator.specs.Numbered.{played, judged, lookedAs};
+ghost use Rattle.codes.specs.Codes.{refusalCode, readsCode, verdictCode, shownCode};
 use plan::Checked;
 use plan::Refusal;
 use simulator::judge::Judged;
-use simulator::look::Looked;
 use simulator::look::Seen;
 use simulator::play::Played;
 
 // What a refusal's number is added to.
 pub const REFUSED: usize = 256;
-
-// What each pair that Look shows adds to the condition.
-pub const PER_PAIR: usize = 4;
-
-// The bytes of a pair that Look shows.
-pub const PAIR_BYTES: usize = 3;
 
 // The published number of Check's refusal.
 fn number(why: Refusal) -> usize
@@ -84,7 +70,7 @@ pub fn of_judge(j: Judged) -> usize
 }
 
 // What Look saw, its pairs left out: 0 faulty, 1 cured, 2 correct.
-fn of_seen(seen: Seen) -> usize
+pub fn of_seen(seen: Seen) -> usize
     ensures { λ r. ⌜ r ≡ shownCode (lookedAs [] seen) ⌝ }
 {
     match seen {
@@ -95,61 +81,4 @@ fn of_seen(seen: Seen) -> usize
         Seen::WorkspaceShort => REFUSED + 10,
         Seen::OutOfRange => REFUSED + 11,
     }
-}
-
-fn high(value: u16) -> u8
-    ensures { λ r. ⌜ r ≡ value / 256 ⌝ }
-{
-    (value / 256) as u8
-}
-
-fn low(value: u16) -> u8
-    ensures { λ r. ⌜ r ≡ value % 256 ⌝ }
-{
-    (value % 256) as u8
-}
-
-// Pair i at its own bytes, if there is room for all of them: the value's high and low byte, the number.
-fn put_pair(out: &mut [u8], i: usize, p: Stamped)
-    requires { ⌜ i < storeDepth ⌝ }
-    ensures { λ _. ⌜ (length (now (out .exit)) ≡ length (now (out .entry))) × (now (out .exit) ≡ cond (ltb (length (now (out .entry))) (pairSize * i + pairSize))
-        (now (out .entry)) (sets (now (out .entry)) (pairSize * i) (pairBytes (record { value = p .value; number = p .number } ∷ [])))) ⌝ }
-{
-    let at = PAIR_BYTES * i;
-    if out.len() < at + PAIR_BYTES {
-        return;
-    }
-    out[at] = high(p.value);
-    out[at + 1] = low(p.value);
-    out[at + 2] = p.number;
-}
-
-// As many of the pairs before the first empty place as fit `out`, at its start; how many they are, those left out too.
-fn put_pairs(out: &mut [u8], places: [Stamped; DEPTH]) -> usize
-    ensures { λ r. ⌜ (r ≤ storeDepth) × (r ≡ length (shownIn places)) × (now (out .exit) ≡ pairsOver (shownIn places) (now (out .entry))) ⌝ }
-{
-    let mut i: usize = 0;
-    while i < DEPTH {
-        let p = places[i];
-        if !p.kept {
-            return i;
-        }
-        put_pair(out, i, p);
-        i += 1;
-    }
-    i
-}
-
-// Look: the condition and PER_PAIR for each pair. As many whole pairs as fit stand at the start of `pairs`; a refusal writes none.
-pub fn of_look(l: Looked, pairs: &mut [u8]) -> usize
-    ensures { λ r. ⌜ (r ≡ shownCode (looked l)) × (now (pairs .exit) ≡ pairsOver (pairsOf (looked l)) (now (pairs .entry))) ⌝ }
-{
-    let seen = l.seen;
-    let code = of_seen(seen);
-    if REFUSED <= code {
-        return code;
-    }
-    let places = l.places;
-    let shown = put_pairs(pairs, places);
-    code + PER_PAIR * shown
 }

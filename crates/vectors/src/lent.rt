@@ -8,7 +8,7 @@ pub const ANSWERS: usize = 1300;
 pub const WORKSPACE: usize = 60010;
 
 // Room for all pairs of a server.
-pub const PAIRS: usize = codes::PAIR_BYTES * DEPTH;
+pub const PAIRS: usize = pairs::PAIR_BYTES * DEPTH;
 
 // What each lent byte holds before the call.
 pub const FILLER: u8 = 165;

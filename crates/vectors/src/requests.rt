@@ -29,7 +29,7 @@ fn look(plan: &[u8], space: usize, server: usize, tick: usize) {
     let mut pairs = [lent::FILLER; lent::PAIRS];
     let mut work = [lent::FILLER; lent::WORKSPACE];
     let looked = look::look(plan, lent::first_mut(&mut work, space), server, tick);
-    let code = codes::of_look(looked, &mut pairs);
+    let code = pairs::of_look(looked, &mut pairs);
     shown::word(b"look ");
     shown::seen(code, &pairs);
     shown::kept(lent::is_kept(&work));

@@ -57,7 +57,7 @@ fn pair(pairs: &[u8; lent::PAIRS], i: usize) {
     if DEPTH <= i {
         return;
     }
-    let at = 8 * codes::PAIR_BYTES * i;
+    let at = 8 * pairs::PAIR_BYTES * i;
     word(b" ");
     number(bits::field(pairs, at, 16), b" ");
     number(bits::field(pairs, at + 16, 8), b"");
@@ -77,8 +77,8 @@ pub fn seen(code: usize, pairs: &[u8; lent::PAIRS]) {
         refusal(code);
         return;
     }
-    number((code % codes::PER_PAIR) as u64, b"");
-    pairs_shown(pairs, code / codes::PER_PAIR);
+    number((code % pairs::PER_PAIR) as u64, b"");
+    pairs_shown(pairs, code / pairs::PER_PAIR);
 }
 
 // The answers as they stand in the buffer, each a number of 40 bits.

@@ -1,11 +1,11 @@
 -- `of_look` meets its contract: a refusal is passed on with the buffer as it was; else the pairs shown are stored.
 use native.Mathlib.Omega.{arith}
 use Rattle.simulator.specs.Numbered.{shownIn}
-use Rattle.codes.proofs.Coded.{refusal-code, condition-code}
-use Rattle.codes.proofs.Pairs.{over-none}
+use Rattle.pairs.proofs.Coded.{refusal-code, condition-code}
+use Rattle.pairs.proofs.Pairs.{over-none}
 use borrow.Author.Needs.{needs}
-use Rattle.codes.proofs.of_look.Statement.{statement}
-use Rattle.codes.proofs.of_look.Tie as tie
+use Rattle.pairs.proofs.of_look.Statement.{statement}
+use Rattle.pairs.proofs.of_look.Tie as tie
 
 of-seen-requires : tie.Need-of-seen-requires
 of-seen-requires c κs = search needs

@@ -7,10 +7,10 @@ use borrow.Author.Needs.{needs}
 use borrow.Author.Tests.{not-true, not-false}
 use Rattle.plan.specs.Packed.{storeDepth}
 use Rattle.simulator.proofs.ShownPlaces.{Passed, passed, none-passed, one-more, at-empty, at-end}
 use Rattle.codes.specs.Codes.{pairsOver}
-use Rattle.codes.proofs.Pairs.{over-none, put-more}
-use Rattle.codes.proofs.put_pairs.Statement.{statement}
-use Rattle.codes.proofs.put_pairs.Tie as tie
+use Rattle.pairs.proofs.Pairs.{over-none, put-more}
+use Rattle.pairs.proofs.put_pairs.Statement.{statement}
+use Rattle.pairs.proofs.put_pairs.Tie as tie
 
 abbrev Inv-loop : tie.InvT-loop
 Inv-loop out₀ places i₀ out i = (i ≤ storeDepth) × Passed places i × (length out ≡ length out₀) × (out ≡ pairsOver (passed places i) out₀)

@@ -4,11 +4,11 @@ use Prim.Native.Nat.{_*_}
 use native.Mathlib.Omega.{arith}
 use lib.ListN.{length-set}
 use borrow.Author.Tests.{lt-ltb, le-ltb}
 use Rattle.codes.specs.Codes.{pairSize, pairBytes}
-use Rattle.codes.proofs.Pairs.{stored}
+use Rattle.pairs.proofs.Pairs.{stored}
 use borrow.Author.Needs.{needs}
-use Rattle.codes.proofs.put_pair.Statement.{statement}
-use Rattle.codes.proofs.put_pair.Tie as tie
+use Rattle.pairs.proofs.put_pair.Statement.{statement}
+use Rattle.pairs.proofs.put_pair.Tie as tie
 
 mul-at : tie.Need-mul-at
 mul-at c = search needs
