@@ -19,7 +19,7 @@ use Rattle.register.proofs.Good.{Good}
 use Rattle.register.proofs.Genuine.{genuine-cases}
 use Rattle.register.proofs.ReadSafety.{quorum-genuine, answer-from}
 use Rattle.cluster.specs.Inputs.{Knows}
-use Rattle.cluster.proofs.RepLaws.{count-cut}
+use Rattle.states.proofs.RepLaws.{count-cut}
 use Rattle.answers.specs.declared.Choice.{Choice}
 use Rattle.answers.specs.Choosing.{highestOf, answerBy}
 

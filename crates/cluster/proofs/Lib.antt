@@ -9,12 +9,3 @@ pub mod SendLaws
 pub mod Settled
 pub mod IdleLaws
 pub mod ServeLaws
-pub mod Order
-pub mod Told
-pub mod RepLaws
-pub mod MoveLaws
-pub mod WayLaws
-pub mod VoteLaws
-pub mod ReplyLaws
-pub mod ReaderLaws
-pub mod StateLaws

@@ -6,5 +6,3 @@ pub mod Sends
 pub mod Tick
 pub mod Settled
 pub mod Inputs
-pub mod Way
-pub mod State

@@ -22,7 +22,7 @@ use Rattle.cluster.specs.Inputs.{pairAt, Sized}
 use Rattle.cluster.specs.Stored.{absent}
 use Rattle.cluster.specs.Settled.{CalmlyTicked}
 use Rattle.cluster.specs.Tick.{Started, feedOf}
-use Rattle.cluster.proofs.StateLaws.{first-state}
+use Rattle.states.proofs.StateLaws.{first-state}
 use Rattle.script.specs.declared.Script.{Script}
 use Rattle.script.specs.Operations.{noRead}
 use Rattle.script.specs.Script.{Scripted}

@@ -26,13 +26,13 @@ use Rattle.cluster.specs.declared.Reader.{Reader}
 use Rattle.cluster.specs.Bits.{sets}
 use Rattle.cluster.specs.Inputs.{pairAt, Sized, Fits}
 use Rattle.cluster.specs.Stored.{server, absent}
-use Rattle.cluster.specs.State.{Rep, State}
+use Rattle.states.specs.State.{Rep, State}
 use Rattle.cluster.specs.Tick.{Ticked, noReader, endsOf, feedOf}
 use Rattle.cluster.specs.Settled.{CalmlyTicked}
-use Rattle.cluster.specs.Way.{forgedAs}
+use Rattle.states.specs.Way.{forgedAs}
 use Rattle.cluster.proofs.BitLaws.{unmarked}
-use Rattle.cluster.proofs.ReaderLaws.{Begins, Forges, end-of}
-use Rattle.cluster.proofs.StateLaws.{calm, noted-end, end-open, end-idle, next-server, next-state}
+use Rattle.states.proofs.ReaderLaws.{Begins, Forges, end-of}
+use Rattle.states.proofs.StateLaws.{calm, noted-end, end-open, end-idle, next-server, next-state}
 use Rattle.script.specs.declared.Script.{Script}
 use Rattle.script.specs.Forged.{entriesEnd, entryAt, Entry, Starts}
 use Rattle.script.specs.Script.{messageOf, messageDelay, messageNumber}

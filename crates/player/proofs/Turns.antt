@@ -18,10 +18,10 @@ use Rattle.cluster.specs.declared.Reader.{Reader}
 use Rattle.cluster.specs.declared.Server.{Server}
 use Rattle.cluster.specs.Inputs.{pairAt, Sized}
 use Rattle.cluster.specs.Stored.{server, absent}
-use Rattle.cluster.specs.State.{Rep}
+use Rattle.states.specs.State.{Rep}
 use Rattle.cluster.specs.Tick.{Hearing, Heard, noReader, endsOf, feedOf}
 use Rattle.cluster.specs.Settled.{CalmlyServed, CalmlyTicked}
-use Rattle.cluster.proofs.ReaderLaws.{end-of}
+use Rattle.states.proofs.ReaderLaws.{end-of}
 use Rattle.cluster.proofs.ServeLaws.{sized-after, calmly-ticked}
 use Rattle.script.specs.declared.Script.{Script}
 use Rattle.script.specs.Forged.{entriesEnd}

@@ -10,7 +10,7 @@ use Rattle.calendar.specs.View.{SamePast}
 use Rattle.cluster.specs.declared.Cluster.{Cluster}
 use Rattle.cluster.specs.declared.Feed.{Feed}
 use Rattle.cluster.specs.Inputs.{pairAt}
-use Rattle.cluster.specs.State.{State}
+use Rattle.states.specs.State.{State}
 use Rattle.script.specs.declared.Script.{Script}
 use Rattle.script.specs.Operations.{noRead}
 use Rattle.script.specs.Forged.{entriesEnd}

@@ -17,7 +17,7 @@ use Rattle.plan.specs.Header.{headerOf}
 use Rattle.plan.specs.Packed.{planOf}
 use Rattle.plan.proofs.Stamped.{value-stamped, number-stamped, stamped-back}
 use Rattle.cluster.specs.declared.Known.{Known}
-use Rattle.cluster.specs.Way.{forgedAs}
+use Rattle.states.specs.Way.{forgedAs}
 use Rattle.cluster.specs.Inputs.{pairAt}
 use Rattle.script.specs.Forged.{entryAt, numberIn, Entry}
 use Rattle.script.specs.Script.{messageOf, messageDelay, messageNumber}

@@ -20,7 +20,7 @@ use Rattle.register.proofs.Claims.{has-nil, has-append, has-claims, has-flat}
 use Rattle.register.proofs.Trace.{end, sent-row}
 use Rattle.calendar.specs.Layout.{receivers, rowOf}
 use Rattle.calendar.proofs.Laws.{and-none, or-none}
-use Rattle.cluster.specs.Way.{forgedAs, voteFrom, voteWay}
+use Rattle.states.specs.Way.{forgedAs, voteFrom, voteWay}
 
 -- ---- tests over lists and numbers
 

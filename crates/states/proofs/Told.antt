@@ -11,8 +11,8 @@ use Rattle.register.specs.Plan.{Plan, Read, readEnd}
 use Rattle.register.specs.Server.{isFaulty, Claim, Server, Sent, Out}
 use Rattle.register.specs.Reading.{sameRead}
 use Rattle.calendar.specs.Layout.{depth}
 use Rattle.cluster.specs.Stored.{Said, Both}
-use Rattle.cluster.specs.State.{Votes, Rep}
+use Rattle.states.specs.State.{Votes, Rep}
 
 module _ (P : Plan) (g : ℕ → ℕ) (m : ℕ) where
   pub record Told (t : ℕ) (o : Sent) (q : Said) : Type 0 where

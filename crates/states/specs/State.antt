@@ -14,14 +14,14 @@ use Rattle.register.specs.Cluster.{Log, serverOf, cluster}
 use Rattle.register.specs.Reading.{sameRead}
 use Rattle.calendar.specs.Layout.{places, depth, rowOf, sender}
 use Rattle.calendar.specs.View.{Spanned}
 use Rattle.cluster.specs.declared.Cluster.{Cluster}
 use Rattle.cluster.specs.declared.Reader.{Reader}
 use Rattle.cluster.specs.Bits.{sets}
 use Rattle.cluster.specs.Stored.{Plain, server, absent}
 use Rattle.cluster.specs.Stages.{nobody, isNew}
 use Rattle.cluster.specs.Settled.{Settled}
 use Rattle.cluster.specs.Tick.{noReader}
-use Rattle.cluster.specs.Way.{voteWay, replyWay, heardWay}
+use Rattle.states.specs.Way.{voteWay, replyWay, heardWay}
 
 module _ (P : Plan) where
   -- a read that is open in tick t, or ends in it

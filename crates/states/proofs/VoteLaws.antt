@@ -28,20 +28,20 @@ use Rattle.calendar.specs.Bits.{bit}
 use Rattle.calendar.specs.Layout.{receivers, rows, places, depth, rowOf, sender}
 use Rattle.calendar.specs.Posts.{vacant, heldIn, held}
 use Rattle.calendar.proofs.Laws.{and-none, or-none}
 use Rattle.cluster.specs.declared.Cluster.{Cluster}
 use Rattle.cluster.specs.declared.Rules.{Rules}
 use Rattle.cluster.specs.Links.{delayAt}
 use Rattle.cluster.specs.Sends.{votesFor, sendsVote, sendsReply, sends}
 use Rattle.cluster.specs.Stored.{Plain, Both, keyOf, keys, server, both, absent}
 use Rattle.cluster.specs.Stages.{isNew, stageOne, stageTwo, stageFour, stagesOf}
 use Rattle.cluster.specs.Inputs.{pairAt, Knows, Fits}
 use Rattle.cluster.specs.Tick.{Feed, Small, Stepped, present, Ticked, endsOf}
-use Rattle.cluster.specs.Way.{forgedAs, voteWay}
-use Rattle.cluster.specs.State.{Votes, Rep, State}
-use Rattle.cluster.proofs.Told.{Mid, End, Came}
-use Rattle.cluster.proofs.RepLaws.{genuine-known, one-rep, two-rep}
-use Rattle.cluster.proofs.MoveLaws.{four-rep, still-rep}
-use Rattle.cluster.proofs.WayLaws.{votes-arrive, votes-next, votes-far, slot-is, slot-past, row-receiver, row-slot}
+use Rattle.states.specs.Way.{forgedAs, voteWay}
+use Rattle.states.specs.State.{Votes, Rep, State}
+use Rattle.states.proofs.Told.{Mid, End, Came}
+use Rattle.states.proofs.RepLaws.{genuine-known, one-rep, two-rep}
+use Rattle.states.proofs.MoveLaws.{four-rep, still-rep}
+use Rattle.states.proofs.WayLaws.{votes-arrive, votes-next, votes-far, slot-is, slot-past, row-receiver, row-slot}
 
 -- ---- a store's numbers
 

@@ -22,8 +22,8 @@ use Rattle.register.proofs.Claims.{has-in, in-has, has-nil, has-append, has-cla
 use Rattle.register.proofs.Trace.{before, delivered, mid, end, before-zero, before-suc, sent-row}
 use Rattle.register.proofs.Stages.{end-server, end-replies}
 use Rattle.calendar.proofs.Laws.{and-none}
-use Rattle.cluster.specs.Way.{forgedAs, replyFrom, replyWay, heardWay}
-use Rattle.cluster.proofs.WayLaws.{any-cong, any-one, none-up, none-any, any-or, before-next}
+use Rattle.states.specs.Way.{forgedAs, replyFrom, replyWay, heardWay}
+use Rattle.states.proofs.WayLaws.{any-cong, any-one, none-up, none-any, any-or, before-next}
 
 never : (b : Bool) → (T b → ⊥) → b ≡ false
 never true f = absurd (f tt)

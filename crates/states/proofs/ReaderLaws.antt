@@ -23,21 +23,21 @@ use Rattle.calendar.specs.Bits.{bit}
 use Rattle.calendar.specs.Layout.{receivers, rows, places, rowOf, sender}
 use Rattle.calendar.specs.Posts.{held}
 use Rattle.calendar.proofs.Laws.{and-none}
 use Rattle.cluster.specs.declared.Cluster.{Cluster}
 use Rattle.cluster.specs.declared.Reader.{Reader}
 use Rattle.cluster.specs.declared.Links.{Links}
 use Rattle.cluster.specs.declared.Row.{Row}
 use Rattle.cluster.specs.Bits.{sets}
 use Rattle.cluster.specs.Links.{delayAt}
 use Rattle.cluster.specs.Stored.{both}
 use Rattle.cluster.specs.Sends.{sends, sendsVote, sendsReply}
 use Rattle.cluster.specs.Inputs.{pairAt, Knows, Fits}
 use Rattle.cluster.specs.Tick.{Feed, Ticked, noReader, endsOf, present}
-use Rattle.cluster.specs.Way.{forgedAs, replyWay, heardWay}
-use Rattle.cluster.specs.State.{Open, Idle, Hears, State}
-use Rattle.cluster.proofs.Told.{End}
-use Rattle.cluster.proofs.WayLaws.{slot-is, row-receiver, row-slot, slot-past}
-use Rattle.cluster.proofs.ReplyLaws.{repliesIn, forgedNow, replies-next, heard-next, replies-first, heard-first, replies-far, replies-over, heard-end}
+use Rattle.states.specs.Way.{forgedAs, replyWay, heardWay}
+use Rattle.states.specs.State.{Open, Idle, Hears, State}
+use Rattle.states.proofs.Told.{End}
+use Rattle.states.proofs.WayLaws.{slot-is, row-receiver, row-slot, slot-past}
+use Rattle.states.proofs.ReplyLaws.{repliesIn, forgedNow, replies-next, heard-next, replies-first, heard-first, replies-far, replies-over, heard-end}
 
 -- ---- reads of one reader
 

@@ -18,19 +18,19 @@ use Rattle.register.proofs.Trace.{before, before-zero}
 use Rattle.calendar.specs.Layout.{rows, places, rowOf, sender}
 use Rattle.calendar.specs.View.{Spanned, Empty}
 use Rattle.calendar.proofs.Laws.{and-none}
 use Rattle.cluster.specs.declared.Cluster.{Cluster}
 use Rattle.cluster.specs.declared.Reader.{Reader}
 use Rattle.cluster.specs.Bits.{sets}
 use Rattle.cluster.specs.Stored.{server, absent}
 use Rattle.cluster.specs.Inputs.{pairAt, Knows, Fits}
 use Rattle.cluster.specs.Tick.{Feed, Ticked, Started, noReader}
-use Rattle.cluster.specs.Way.{forgedAs, voteWay}
-use Rattle.cluster.specs.State.{Open, Idle, Rep, State}
+use Rattle.states.specs.Way.{forgedAs, voteWay}
+use Rattle.states.specs.State.{Open, Idle, Rep, State}
 use Rattle.cluster.specs.Settled.{Calm}
 use Rattle.cluster.proofs.Settled.{first-settled, settled-next}
-use Rattle.cluster.proofs.WayLaws.{none-any}
-use Rattle.cluster.proofs.VoteLaws.{ended, held-is, new-server, new-votes}
-use Rattle.cluster.proofs.ReaderLaws.{Begins, Forges, noted-end as reader-noted, hears-next, idle-now, way-next, none-next}
+use Rattle.states.proofs.WayLaws.{none-any}
+use Rattle.states.proofs.VoteLaws.{ended, held-is, new-server, new-votes}
+use Rattle.states.proofs.ReaderLaws.{Begins, Forges, noted-end as reader-noted, hears-next, idle-now, way-next, none-next}
 
 -- the servers are settled, so that a tick may leave alone those that nothing reaches
 pub calm : (P : Plan) (F : Feed) → Fits P (F .t) (F .plan) (F .rules) (F .known) (F .links) (F .arrivals) (F .movement) → (c : Cluster)

@@ -21,16 +21,16 @@ use Rattle.register.proofs.Genuine.{Genuine, genuine-cases}
 use Rattle.register.proofs.Stores.{Falling}
 use Rattle.register.proofs.Claims.{quorum-named}
 use Rattle.register.proofs.Safety.{FreshSafe, OldSafe, ServerSafe, voted-genuine}
 use Rattle.cluster.specs.Stored.{Plain, Both}
 use Rattle.cluster.specs.Stages.{restated, silent, quorate, isNew, taken, voting, withWrite, repliesTo, delivered, deliveredOf, stageOne, stageTwo}
 use Rattle.cluster.specs.Inputs.{Knows}
-use Rattle.cluster.specs.State.{Votes, Rep}
+use Rattle.states.specs.State.{Votes, Rep}
 use Rattle.cluster.proofs.StageLaws.{write-kept}
-use Rattle.cluster.proofs.Told.{Mid, Came}
+use Rattle.states.proofs.Told.{Mid, Came}
 use Rattle.calendar.specs.Layout.{depth}
 use Rattle.calendar.proofs.Laws.{and-none, or-none}
-use Rattle.cluster.proofs.Order.{by-number}
+use Rattle.states.proofs.Order.{by-number}
 use Rattle.cluster.proofs.Settled.{written-alike, new-before}
 
 -- ---- counting by masks
 

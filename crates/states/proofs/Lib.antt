@@ -1,0 +1,9 @@
+pub mod Order
+pub mod Told
+pub mod RepLaws
+pub mod MoveLaws
+pub mod WayLaws
+pub mod VoteLaws
+pub mod ReplyLaws
+pub mod ReaderLaws
+pub mod StateLaws
