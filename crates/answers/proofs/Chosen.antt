@@ -11,8 +11,8 @@ use lib.Count.{ones}
 use Rattle.register.specs.Lists.{count}
 use Rattle.register.proofs.Logic.{cond-e}
 use Rattle.calendar.specs.Layout.{places}
-use Rattle.cluster.specs.Bits.{sets}
-use Rattle.cluster.proofs.BitLaws.{ones-count}
+use Rattle.serving.specs.Bits.{sets}
+use Rattle.serving.proofs.BitLaws.{ones-count}
 use Rattle.answers.specs.declared.Choice.{Choice}
 use Rattle.answers.specs.Choosing.{highestOf}
 

@@ -4,7 +4,7 @@ ghost use mathlib.Core.Bool.{true, cond};
 ghost use Prim.Native.Nat.{_≤_};
 ghost use lib.Dec.{leb};
 ghost use Rattle.calendar.specs.Layout.{places};
-ghost use Rattle.cluster.specs.Bits.{sets};
+ghost use Rattle.serving.specs.Bits.{sets};
 ghost use Rattle.answers.specs.Choosing.{highestOf};
 use super::Choice;
 use calendar::PLACES;

@@ -15,20 +15,20 @@ use Rattle.calendar.specs.Layout.{receivers, rows, places, rowOf, lowOf, highOf
 use Rattle.calendar.specs.View.{Inside, Spanned, Cleared}
 use Rattle.calendar.proofs.Laws.{and-none, or-none}
 use Rattle.calendar.proofs.Spans.{cleared-cells, cleared-spanned}
-use Rattle.cluster.specs.declared.Server.{Server}
-use Rattle.cluster.specs.declared.Rules.{Rules}
-use Rattle.cluster.specs.declared.Row.{Row}
-use Rattle.cluster.specs.declared.Links.{Links}
+use Rattle.serving.specs.declared.Server.{Server}
+use Rattle.serving.specs.declared.Rules.{Rules}
+use Rattle.serving.specs.declared.Row.{Row}
+use Rattle.serving.specs.declared.Links.{Links}
 use Rattle.cluster.specs.declared.Arrivals.{Arrivals}
 use Rattle.cluster.specs.declared.Movement.{Movement}
-use Rattle.cluster.specs.Sends.{reaches, sendsVote, sendsReply, sends}
-use Rattle.cluster.specs.Stored.{Plain, Both, server, saidBy, statusOf, keys, pairOf}
-use Rattle.cluster.specs.Stages.{nobody, voting, isNew, anyNew, taken, withWrite, repliesTo, stageOne, stageTwo, stagesOf}
+use Rattle.serving.specs.Sends.{reaches, sendsVote, sendsReply, sends}
+use Rattle.serving.specs.Stored.{Small, Plain, Both, server, saidBy, statusOf, keys, pairOf}
+use Rattle.serving.specs.Stages.{nobody, voting, isNew, anyNew, taken, withWrite, repliesTo, stageOne, stageTwo, stagesOf}
 use Rattle.cluster.specs.Settled.{Settled, called, reached}
-use Rattle.cluster.specs.Tick.{Feed, Small, Emptied, Turned}
-use Rattle.cluster.proofs.BitLaws.{bit-zero, bit-and}
-use Rattle.cluster.proofs.StoreLaws.{same-as-itself, some-new}
-use Rattle.cluster.proofs.StageLaws.{zero-set, write-kept, delivered-law, taken-law, lost-law}
+use Rattle.cluster.specs.Tick.{Feed, Emptied, Turned}
+use Rattle.serving.proofs.BitLaws.{bit-zero, bit-and}
+use Rattle.serving.proofs.StoreLaws.{same-as-itself, some-new}
+use Rattle.serving.proofs.StageLaws.{zero-set, write-kept, delivered-law, taken-law, lost-law}
 use Rattle.cluster.proofs.Settled.{taken-none}
 
 neither : (a b : Bool) → a || b ≡ false → (a ≡ false) × (b ≡ false)

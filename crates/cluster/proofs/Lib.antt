@@ -1,11 +1,6 @@
-pub mod BitLaws
-pub mod StoreLaws
-pub mod StageLaws
-pub mod Sizes
-pub mod SetLaws
 pub mod TickLaws
 pub mod HearLaws
-pub mod SendLaws
 pub mod Settled
 pub mod IdleLaws
 pub mod ServeLaws
+pub mod Sizes

@@ -18,19 +18,19 @@ use Rattle.calendar.specs.Posts.{held}
 use Rattle.calendar.proofs.Laws.{and-none, or-none, or-assoc, ltb-more}
 use Rattle.calendar.proofs.Posting.{same-row}
 use Rattle.calendar.proofs.Spans.{posted-spanned, cleared-cells, cleared-spanned}
-use Rattle.cluster.specs.declared.Server.{Server}
+use Rattle.serving.specs.declared.Server.{Server}
 use Rattle.cluster.specs.declared.Reader.{Reader}
 use Rattle.cluster.specs.declared.Cluster.{Cluster}
-use Rattle.cluster.specs.declared.Rules.{Rules}
+use Rattle.serving.specs.declared.Rules.{Rules}
 use Rattle.cluster.specs.declared.Known.{Known}
-use Rattle.cluster.specs.declared.Row.{Row}
-use Rattle.cluster.specs.declared.Links.{Links}
-use Rattle.cluster.specs.Links.{delayAt, linkBit}
-use Rattle.cluster.specs.Sends.{votesFor, reaches, sendsVote, sendsReply, sends}
-use Rattle.cluster.specs.Stored.{Step, server, both, statusOf, keys, pairOf, absent, unset}
+use Rattle.serving.specs.declared.Row.{Row}
+use Rattle.serving.specs.declared.Links.{Links}
+use Rattle.serving.specs.Links.{delayAt, linkBit}
+use Rattle.serving.specs.Sends.{votesFor, reaches, sendsVote, sendsReply, sends}
+use Rattle.serving.specs.Stored.{Small, Step, server, both, statusOf, keys, pairOf, absent, unset}
 use Rattle.cluster.specs.Inputs.{Sized}
 use Rattle.cluster.specs.Settled.{Settled, Calm, called, reached, CalmlyTurned, CalmlyServed, CalmlyTicked}
-use Rattle.cluster.specs.Tick.{Feed, Small, Heard, Emptied, Stepped, Turned, Served, Ticked, endsOf, present}
+use Rattle.cluster.specs.Tick.{Feed, Heard, Emptied, Stepped, Turned, Served, Ticked, endsOf, present}
 use Rattle.cluster.proofs.IdleLaws.{unreached, idle-turned}
 
 -- ---- nothing arrives in the tick in which it is sent

@@ -20,13 +20,13 @@ use Rattle.calendar.specs.Layout.{rows, places, depth, lowOf, highOf, sender}
 use Rattle.calendar.specs.View.{Spanned}
 use Rattle.calendar.proofs.Laws.{and-none, or-none}
 use Rattle.cluster.specs.declared.Cluster.{Cluster}
-use Rattle.cluster.specs.declared.Rules.{Rules}
-use Rattle.cluster.specs.Stored.{Plain, Both, server, pairOf, absent}
-use Rattle.cluster.specs.Stages.{noVotes, silent, blankAs, resetAt, restated, turned, isNew, within, Voted, taken, voting, withWrite, delivered, deliveredOf, stageOne, stageTwo, movedOn, stageFour, stagesOf}
+use Rattle.serving.specs.declared.Rules.{Rules}
+use Rattle.serving.specs.Stored.{Plain, Both, server, pairOf, absent}
+use Rattle.serving.specs.Stages.{noVotes, silent, blankAs, resetAt, restated, turned, isNew, within, Voted, taken, voting, withWrite, delivered, deliveredOf, stageOne, stageTwo, movedOn, stageFour, stagesOf}
 use Rattle.cluster.specs.Settled.{Settled}
 use Rattle.cluster.specs.Tick.{Feed, Ticked, firstOf}
-use Rattle.cluster.proofs.StoreLaws.{same-as-itself}
-use Rattle.cluster.proofs.StageLaws.{write-kept}
+use Rattle.serving.proofs.StoreLaws.{same-as-itself}
+use Rattle.serving.proofs.StageLaws.{write-kept}
 
 -- ---- putting a pair in changes nothing
 
@@ -185,39 +185,6 @@ taken-none c g (suc m) l h = rw (taken-none c g m l (λ j a. h j (omega arith)))
     go false e = refl
 
 -- ---- only the pairs that got votes
-
--- pairs from one on that do not pass
-pub taken-past : (c : ℕ → Bool) (g : ℕ → ℕ) (n m : ℕ) (l : List ℕ) → n ≤ m → ((j : ℕ) → n ≤ j → j < m → c j ≡ false) → taken c g m l ≡ taken c g n l
-unfolding taken
-taken-past c g zero zero l h e = refl
-taken-past c g (suc n) zero l h e = absurd (omega arith)
-taken-past c g n (suc m) l h e = go (ℕ-discrete n (suc m)) (λ k. taken-past c g n m l k (λ j a b. e j a (omega arith)))
-  where
-    go : Dec (n ≡ suc m) → (n ≤ m → taken c g m l ≡ taken c g n l) → taken c g (suc m) l ≡ taken c g n l
-    go (yes d) ih = rw d
-    go (no d) ih = rw (e m (omega arith) (omega arith)) (ih (omega arith))
-
-module _ (v : ℕ → Bool) (g : ℕ → ℕ) (low high : ℕ) where
-  -- no pair below the span
-  pub taken-below : (n : ℕ) (l : List ℕ) → n ≤ low → taken (λ j. within low high j && v j) g n l ≡ l
-  unfolding taken
-  taken-below n l h = taken-past (λ j. within low high j && v j) g 0 n l (omega arith) (λ j a b. rw (lt-leb low j (omega arith)))
-
-  -- none beyond it
-  pub taken-beyond : (n m : ℕ) (l : List ℕ) → n ≤ m → (high ≤ m → high ≤ n) → (m ≤ high → m ≤ n)
-      → taken (λ j. within low high j && v j) g m l ≡ taken (λ j. within low high j && v j) g n l
-  taken-beyond n m l h e f = go (decLe high m)
-    where
-      go : Dec (high ≤ m) → taken (λ j. within low high j && v j) g m l ≡ taken (λ j. within low high j && v j) g n l
-      go (yes d) = taken-past (λ j. within low high j && v j) g n m l h (λ j a b. rw (le-ltb j high (omega (arith, e d)), and-none (leb low j)))
-      go (no d) = let z : n ≡ m = omega (arith, f (omega arith)) in rw z
-
-pub from-low : (low m j : ℕ) → (low ≤ m → low ≤ j) → (m ≤ low → m ≤ j) → j < m → low ≤ j
-from-low low m j e f h = go (decLe low m)
-  where
-    go : Dec (low ≤ m) → low ≤ j
-    go (yes d) = e d
-    go (no d) = absurd (omega (arith, f (omega arith)))
 
 changes : (p : ℕ) (k : List ℕ) → isNew p k ≡ true → take depth (insert p k) ≡ k → ⊥
 unfolding isNew

@@ -9,16 +9,16 @@ use Rattle.register.specs.Server.{Status, isFaulty}
 use Rattle.register.specs.Plan.{stamped}
 use Rattle.calendar.specs.Layout.{places, sender}
 use Rattle.calendar.specs.declared.Stamped.{Stamped}
-use Rattle.cluster.specs.declared.Voters.{Voters}
-use Rattle.cluster.specs.declared.Server.{Server}
+use Rattle.serving.specs.declared.Voters.{Voters}
+use Rattle.serving.specs.declared.Server.{Server}
 use Rattle.cluster.specs.declared.Reader.{Reader}
-use Rattle.cluster.specs.declared.Rules.{Rules}
-use Rattle.cluster.specs.declared.Status.the-variants.{Correct}
-use Rattle.cluster.specs.Bits.{sets, listed, Joined}
-use Rattle.cluster.specs.Stored.{Plain, Both, server, keys, absent}
-use Rattle.cluster.specs.Stages.{noVotes, Voted, stageOne, delivered, deliveredOf, stageTwo, stageFour, stagesOf}
+use Rattle.serving.specs.declared.Rules.{Rules}
+use Rattle.serving.specs.declared.Status.the-variants.{Correct}
+use Rattle.serving.specs.Bits.{sets, listed, Joined}
+use Rattle.serving.specs.Stored.{Plain, Both, server, keys, absent}
+use Rattle.serving.specs.Stages.{noVotes, Voted, stageOne, delivered, deliveredOf, stageTwo, stageFour, stagesOf}
 use Rattle.cluster.specs.Tick.{noReader, endsOf, firstOf, Started}
-use Rattle.cluster.proofs.StageLaws.{zero-set, write-kept}
+use Rattle.serving.proofs.StageLaws.{zero-set, write-kept}
 
 -- ---- the stages do not look at the fresh votes that a server had
 
@@ -55,27 +55,6 @@ module _ (g : ℕ → ℕ) (m : ℕ) (rules : Rules) (w : ℕ) (votes : ℕ → 
   pub stages-moving : moving ≡ true → (placed : Bool) → placed ≡ h → (last : Both) → last ≡ stageFour (rules .two) placed t second → last ≡ stagesOf g m rules w votes asks live moving h t s
   unfolding stagesOf
   stages-moving e placed d last four = four ∙ rw (e, ← d) (ap (stageFour (rules .two) placed t) at-second)
-
--- ---- the votes that a server notes
-
-not-both : (b : Bool) → b ≡ true → b ≡ false → ⊥
-not-both b e f = let z : _≡_ {A = ℕ} 0 1 = ap (λ (x : Bool). cond x 0 1) (sym e ∙ f) in omega arith
-
--- a faulty server loses them
-pub votes-lost : (f : ℕ → ℕ → Bool) (s : Plain) → isFaulty (s .status) ≡ true → Voted f s s
-votes-lost f s h = record { status = refl; kept = refl; pending = refl; old = refl; fresh = λ e. absurd (not-both (isFaulty (s .status)) h e); lost = λ e. refl }
-
-pub votes-noted : (work : List ℕ) (row : ℕ) (fresh : List ℕ) (s r : Plain) → s .fresh ≡ sets fresh → (more : List ℕ)
-    → isFaulty (s .status) ≡ false → Joined work row fresh more
-    → r ≡ record { status = s .status; kept = s .kept; pending = s .pending; fresh = sets more; old = s .old } → Voted (sender work row) s r
-votes-noted work row fresh s r q more h J e = record {
-  status = rw e;
-  kept = rw e;
-  pending = rw e;
-  old = rw e;
-  fresh = λ d j i l. rw (e, q) (J .each j i l);
-  lost = λ d. absurd (not-both (isFaulty (s .status)) d h);
-}
 
 -- ---- the readers
 

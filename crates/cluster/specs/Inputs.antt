@@ -13,12 +13,12 @@ use Rattle.calendar.specs.Bits.{bit}
 use Rattle.calendar.specs.Layout.{places, depth, calendarSize}
 use Rattle.calendar.specs.View.{Spanned}
 use Rattle.cluster.specs.declared.Known.{Known}
-use Rattle.cluster.specs.declared.Rules.{Rules}
-use Rattle.cluster.specs.declared.Links.{Links}
+use Rattle.serving.specs.declared.Rules.{Rules}
+use Rattle.serving.specs.declared.Links.{Links}
 use Rattle.cluster.specs.declared.Arrivals.{Arrivals}
 use Rattle.cluster.specs.declared.Movement.{Movement}
-use Rattle.cluster.specs.Stored.{pairOf}
-use Rattle.cluster.specs.Links.{delayAt, Linked}
+use Rattle.serving.specs.Stored.{pairOf}
+use Rattle.serving.specs.Links.{delayAt, Linked}
 
 -- pair j: value j of the known ones, under number j
 abbrev pub pairAt : Known → ℕ → ℕ

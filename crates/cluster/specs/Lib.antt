@@ -1,8 +1,3 @@
-pub mod Bits
-pub mod Links
-pub mod Stored
-pub mod Stages
-pub mod Sends
 pub mod Tick
 pub mod Settled
 pub mod Inputs

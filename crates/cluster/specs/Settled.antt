@@ -10,14 +10,14 @@ use lib.ListN.{length, take, getD}
 use Rattle.register.specs.Server.{Status, isFaulty, insert, curedAt}
 use Rattle.calendar.specs.Layout.{places, depth, lowOf, highOf}
 use Rattle.calendar.specs.View.{SamePast, Spanned}
-use Rattle.cluster.specs.declared.Server.{Server}
+use Rattle.serving.specs.declared.Server.{Server}
 use Rattle.cluster.specs.declared.Cluster.{Cluster}
-use Rattle.cluster.specs.declared.Rules.{Rules}
+use Rattle.serving.specs.declared.Rules.{Rules}
 use Rattle.cluster.specs.declared.Known.{Known}
 use Rattle.cluster.specs.declared.Arrivals.{Arrivals}
 use Rattle.cluster.specs.declared.Movement.{Movement}
-use Rattle.cluster.specs.Stored.{Plain, server, pairOf, absent}
-use Rattle.cluster.specs.Stages.{voting, anyNew}
+use Rattle.serving.specs.Stored.{Plain, server, pairOf, absent}
+use Rattle.serving.specs.Stages.{voting, anyNew}
 use Rattle.cluster.specs.Tick.{Feed, Turned, Served, Ticked}
 
 pub record Settled (g : ℕ → ℕ) (m e r : ℕ) (s : Plain) : Type 0 where

@@ -10,23 +10,21 @@ use Rattle.register.specs.Lists.{anyUpTo}
 use Rattle.register.specs.Plan.{stamped}
 use Rattle.register.specs.Server.{correct, isFaulty}
 use Rattle.calendar.specs.Bits.{bit}
-use Rattle.calendar.specs.declared.Stamped.{Stamped}
-use Rattle.calendar.specs.Posts.{vacant}
 use Rattle.calendar.specs.Layout.{receivers, rows, places, depth, rowOf, highOf, sender}
 use Rattle.calendar.specs.View.{SamePast, Spanned}
-use Rattle.cluster.specs.declared.Server.{Server}
+use Rattle.serving.specs.declared.Server.{Server}
 use Rattle.cluster.specs.declared.Reader.{Reader}
 use Rattle.cluster.specs.declared.Cluster.{Cluster}
-use Rattle.cluster.specs.declared.Rules.{Rules}
+use Rattle.serving.specs.declared.Rules.{Rules}
 use Rattle.cluster.specs.declared.Known.{Known}
-use Rattle.cluster.specs.declared.Links.{Links}
+use Rattle.serving.specs.declared.Links.{Links}
 use Rattle.cluster.specs.declared.Arrivals.{Arrivals}
 use Rattle.cluster.specs.declared.Movement.{Movement}
 use Rattle.cluster.specs.declared.Feed.{Feed as Fed}
-use Rattle.cluster.specs.Bits.{sets}
-use Rattle.cluster.specs.Stored.{Plain, Both, Step, server, both, pairOf, absent}
-use Rattle.cluster.specs.Stages.{nobody, noVotes, isNew, stagesOf}
-use Rattle.cluster.specs.Sends.{sends}
+use Rattle.serving.specs.Bits.{sets}
+use Rattle.serving.specs.Stored.{Plain, Both, Step, Small, server, both, pairOf, absent}
+use Rattle.serving.specs.Stages.{nobody, noVotes, isNew, stagesOf}
+use Rattle.serving.specs.Sends.{sends}
 
 -- ---- the readers
 
@@ -66,10 +64,6 @@ pub record Emptied (work after : List ℕ) (row : ℕ) : Type 0 where
   pub rest : SamePast work after
   pub spans : Spanned after places
   pub cells : (x j i : ℕ) → x < rows → j < places → sender after x j i ≡ (not (eqb x row) && sender work x j i)
-
--- a store is no deeper than it may be, and its values have 16 bits
-abbrev pub Small : List Stamped → Type 0
-Small kept = (length kept ≤ depth) × ((q : ℕ) → getD kept q vacant .value < 65536)
 
 -- the stages of server b in tick t, with the votes that arrive for pairs that are new to it; what it notes of other votes changes nothing
 pub record Stepped (work : List ℕ) (b : ℕ) (arrivals : Arrivals) (movement : Movement) (t : ℕ) (rules : Rules) (values : List ℕ) (m : ℕ) (s : Plain) (r : Both) : Type 0 where

@@ -5,7 +5,7 @@ ghost use Rattle.calendar.specs.Layout.{rows, places, calendarSize};
 ghost use Rattle.calendar.specs.View.{Spanned};
 ghost use Rattle.cluster.specs.Tick.{Noted};
 use super::Reader;
-use super::sets;
+use serving::sets;
 
 impl Reader {
     // Notes the replies that arrive in its row of the calendar.

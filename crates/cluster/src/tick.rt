@@ -5,7 +5,7 @@ ghost use lib.ListN.{length};
 ghost use Rattle.calendar.specs.Bits.{bit};
 ghost use Rattle.calendar.specs.Layout.{rows, places, calendarSize, rowOf};
 ghost use Rattle.calendar.specs.View.{Spanned};
-ghost use Rattle.cluster.specs.Stored.{statusOf, keys, pairOf};
+ghost use Rattle.serving.specs.Stored.{statusOf, keys, pairOf};
 ghost use Rattle.cluster.specs.Inputs.{Sized};
 ghost use Rattle.cluster.specs.Settled.{called, reached, CalmlyTurned, CalmlyServed, CalmlyTicked};
 ghost use Rattle.cluster.specs.Tick.{anyHeard, Heard, Emptied, Started, endsOf, feedOf};
@@ -13,20 +13,20 @@ use super::Arrivals;
 use super::Cluster;
 use super::Feed;
 use super::Movement;
-use super::READERS;
 use super::Reader;
-use super::Rules;
 use super::SERVERS;
-use super::Server;
-use super::Status;
-use super::Voters;
-use super::sending;
-use super::servers;
-use super::stages;
-use super::store;
 use calendar::DEPTH;
 use calendar::PLACES;
 use calendar::Stamped;
+use serving::READERS;
+use serving::Rules;
+use serving::Server;
+use serving::Status;
+use serving::Voters;
+use serving::sending;
+use serving::servers;
+use serving::stages;
+use serving::store;
 
 // Does the placement make server b faulty.
 fn is_placed(faulty: u16, b: usize) -> bool

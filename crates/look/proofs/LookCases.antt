@@ -14,7 +14,7 @@ use Rattle.plan.specs.Packed.{storeDepth, planOf}
 use Rattle.plan.specs.Check.{refused, result, checkOf}
 use Rattle.plan.proofs.Stamped.{value-stamped, number-stamped}
 use Rattle.calendar.specs.declared.Stamped.{Stamped as Place}
-use Rattle.cluster.specs.Stored.{keys}
+use Rattle.serving.specs.Stored.{keys}
 use Rattle.answers.specs.Workspace.{workspaceSize, zeroed}
 use Rattle.simulator.specs.Look.{Stamped, conditionOf, shownBy, placeWith, emptyPlace, placesOf, Looked, lookShown, lookRefused, lookAfter, lookOf}
 use Rattle.simulator.specs.declared.look.Seen.{Seen}

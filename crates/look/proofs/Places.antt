@@ -7,11 +7,11 @@ use denote.Shadow.{shadow}
 use denote.Struct.Declared.{field}
 use denote.Struct.Laws as LL
 use Rattle.calendar.specs.declared.Stamped.{Stamped}
-use Rattle.cluster.specs.declared.Server.{Server}
+use Rattle.serving.specs.declared.Server.{Server}
 use Rattle.calendar.proofs.Stamped as TP
-use Rattle.cluster.proofs.Server as TS
-use Rattle.cluster.proofs.Server.Laws as TS′
-use Rattle.cluster.proofs.Sizes.{value-fits}
+use Rattle.serving.proofs.Server as TS
+use Rattle.serving.proofs.Server.Laws as TS′
+use Rattle.serving.proofs.Sizes.{value-fits}
 use Rattle.look.proofs.LookCases.{AllFit}
 
 all-fit : (ps : List Stamped) (us : List Val) → shadow (each (field TP.the-type .row .Denot) (field TP.the-type .row .own) (map (field TP.the-type .into) ps) us) → AllFit ps

@@ -8,7 +8,7 @@ use lib.ListN.{length}
 use Rattle.plan.specs.Header.{Header, headerOf}
 use Rattle.plan.specs.Shape.{Ranged}
 use Rattle.plan.proofs.Accept.{in-range}
-use Rattle.cluster.specs.Links.{Linked}
+use Rattle.serving.specs.Links.{Linked}
 use Rattle.script.specs.declared.Script.{Script}
 use Rattle.script.proofs.Placing.{table, placement-inside}
 use Rattle.player.specs.Run.{Decoded}

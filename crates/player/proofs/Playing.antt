@@ -19,7 +19,7 @@ use Rattle.calendar.specs.View.{SamePast, Empty}
 use Rattle.cluster.specs.declared.Cluster.{Cluster}
 use Rattle.cluster.specs.declared.Feed.{Feed}
 use Rattle.cluster.specs.Inputs.{pairAt, Sized}
-use Rattle.cluster.specs.Stored.{absent}
+use Rattle.serving.specs.Stored.{absent}
 use Rattle.cluster.specs.Settled.{CalmlyTicked}
 use Rattle.cluster.specs.Tick.{Started, feedOf}
 use Rattle.states.proofs.StateLaws.{first-state}

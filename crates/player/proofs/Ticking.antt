@@ -23,14 +23,14 @@ use Rattle.calendar.proofs.Spans.{posted-spanned}
 use Rattle.cluster.specs.declared.Cluster.{Cluster}
 use Rattle.cluster.specs.declared.Feed.{Feed}
 use Rattle.cluster.specs.declared.Reader.{Reader}
-use Rattle.cluster.specs.Bits.{sets}
+use Rattle.serving.specs.Bits.{sets}
 use Rattle.cluster.specs.Inputs.{pairAt, Sized, Fits}
-use Rattle.cluster.specs.Stored.{server, absent}
+use Rattle.serving.specs.Stored.{server, absent}
 use Rattle.states.specs.State.{Rep, State}
 use Rattle.cluster.specs.Tick.{Ticked, noReader, endsOf, feedOf}
 use Rattle.cluster.specs.Settled.{CalmlyTicked}
 use Rattle.states.specs.Way.{forgedAs}
-use Rattle.cluster.proofs.BitLaws.{unmarked}
+use Rattle.serving.proofs.BitLaws.{unmarked}
 use Rattle.states.proofs.ReaderLaws.{Begins, Forges, end-of}
 use Rattle.states.proofs.StateLaws.{calm, noted-end, end-open, end-idle, next-server, next-state}
 use Rattle.script.specs.declared.Script.{Script}

@@ -15,9 +15,9 @@ use Rattle.calendar.specs.View.{Posted}
 use Rattle.cluster.specs.declared.Cluster.{Cluster}
 use Rattle.cluster.specs.declared.Feed.{Feed}
 use Rattle.cluster.specs.declared.Reader.{Reader}
-use Rattle.cluster.specs.declared.Server.{Server}
+use Rattle.serving.specs.declared.Server.{Server}
 use Rattle.cluster.specs.Inputs.{pairAt, Sized}
-use Rattle.cluster.specs.Stored.{server, absent}
+use Rattle.serving.specs.Stored.{server, absent}
 use Rattle.states.specs.State.{Rep}
 use Rattle.cluster.specs.Tick.{Hearing, Heard, noReader, endsOf, feedOf}
 use Rattle.cluster.specs.Settled.{CalmlyServed, CalmlyTicked}

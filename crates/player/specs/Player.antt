@@ -5,8 +5,8 @@ use Prim.Native.Nat.{ℕ, suc, _*_}
 use lib.ListN.{length, drop}
 use Rattle.register.specs.Cluster.{cluster, serverOf}
 use Rattle.plan.specs.Packed.{planOf}
-use Rattle.cluster.specs.declared.Server.{Server}
-use Rattle.cluster.specs.Stored.{statusOf, keys}
+use Rattle.serving.specs.declared.Server.{Server}
+use Rattle.serving.specs.Stored.{statusOf, keys}
 use Rattle.answers.specs.Answers.{answerSize, answersOf}
 use Rattle.answers.specs.Workspace.{zeroed}
 

@@ -8,7 +8,7 @@ use lib.ListN.{getD, set, take, drop, replicate}
 use Rattle.calendar.specs.Layout.{places}
 use Rattle.cluster.specs.declared.Known.{Known}
 use Rattle.cluster.specs.declared.Reader.{Reader}
-use Rattle.cluster.specs.Bits.{sets}
+use Rattle.serving.specs.Bits.{sets}
 use Rattle.cluster.specs.Inputs.{pairAt}
 use Rattle.cluster.specs.Tick.{noReader, endsOf}
 use Rattle.script.specs.declared.operations.Reads.{Reads}

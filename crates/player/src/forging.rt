@@ -6,8 +6,8 @@ ghost use Rattle.calendar.specs.View.{Posted};
 ghost use Rattle.script.specs.Forged.{entryAt, entriesEnd, mostEntries};
 ghost use Rattle.player.specs.Forging.{forgedEntry, SentIn, forges};
 use super::size_of;
-use cluster::READERS;
 use script::forged;
+use serving::READERS;
 
 // Byte k of entry e.
 fn byte(work: &[u8], e: usize, k: usize) -> u8

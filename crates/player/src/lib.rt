@@ -9,9 +9,9 @@ ghost use Rattle.answers.specs.Answers.{answerSize};
 ghost use Rattle.answers.specs.Workspace.{workspaceSize};
 ghost use Rattle.player.specs.Player.{Answered, Seen};
 use calendar::PLACES;
-use cluster::Server;
 use plan::header::Shape;
 use script::operations;
+use serving::Server;
 
 pub mod forging;
 pub mod reading;

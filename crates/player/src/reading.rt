@@ -5,7 +5,7 @@ ghost use mathlib.Core.List.{_++_};
 ghost use Prim.Native.Nat.{_+_, _*_, _-_, _≤_, _<_};
 ghost use lib.ListN.{length, drop};
 ghost use Rattle.calendar.specs.Layout.{places};
-ghost use Rattle.cluster.specs.Bits.{sets};
+ghost use Rattle.serving.specs.Bits.{sets};
 ghost use Rattle.cluster.specs.Inputs.{pairAt};
 ghost use Rattle.cluster.specs.Tick.{endsOf};
 ghost use Rattle.answers.specs.Answers.{answerSize, answerBytes};
@@ -14,12 +14,12 @@ ghost use Rattle.player.specs.Reading.{Until, There, chosenBytes, placed
 use super::size_of;
 use calendar::PLACES;
 use cluster::Known;
-use cluster::READERS;
 use cluster::Reader;
 use cluster::tick;
 use plan::header::Shape;
 use script::Script;
 use script::operations::TABLE_READS;
+use serving::READERS;
 
 // The readers, the ticks in which their last reads end, and how many reads have begun and been answered.
 pub struct Reading {

@@ -15,11 +15,11 @@ use lib.ListN.{length, getD, set, replicate, getD-replicate}
 use lib.Seq.{getD-set-same, getD-set-other}
 use borrow.Author.Tests.{lt-ltb, le-ltb, eq-eqb, ne-eqb}
 use Rattle.register.proofs.Logic.{and-l, cond-e}
-use Rattle.cluster.specs.declared.Links.{Links}
+use Rattle.serving.specs.declared.Links.{Links}
 use Rattle.cluster.specs.declared.Arrivals.{Arrivals}
 use Rattle.calendar.specs.Bits.{bit}
-use Rattle.cluster.specs.Links.{Linked}
-use Rattle.cluster.proofs.BitLaws.{bit-or, bit-pow, bit-zero}
+use Rattle.serving.specs.Links.{Linked}
+use Rattle.serving.proofs.BitLaws.{bit-or, bit-pow, bit-zero}
 use Rattle.script.specs.Inputs.{Reach, due, LatestWrite, Wrote, latestOf, LatestReads, Before, askedBy, Asks, Live, Arrive}
 
 pub reach : (plan : List ℕ) (links : Links) (n t : ℕ) → Linked plan links n t → (u i b : ℕ) → u < t → i < links .parties → b < links .parties

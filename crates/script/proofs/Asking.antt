@@ -21,7 +21,7 @@ use Rattle.plan.specs.Packed.{planOf}
 use Rattle.plan.proofs.Tests.{getD-in, in-getD}
 use Rattle.plan.specs.Playable.{Playable}
 use Rattle.plan.proofs.AcceptReads.{read-stands, reads-apart, reads-rise}
-use Rattle.cluster.specs.declared.Links.{Links}
+use Rattle.serving.specs.declared.Links.{Links}
 use Rattle.script.specs.Operations.{noRead, ReadIn}
 use Rattle.script.specs.Inputs.{due, latestOf, askedBy}
 use Rattle.script.specs.Script.{LinksOf}

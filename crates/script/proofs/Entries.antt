@@ -9,8 +9,8 @@ use native.Mathlib.Decide.{decLe, ℕ-discrete}
 use lib.ListN.{length, getD, set, length-set}
 use lib.Seq.{getD-set-same, getD-set-other}
 use Rattle.register.specs.Plan.{Forgery}
-use Rattle.cluster.specs.declared.Links.{Links}
-use Rattle.cluster.specs.Links.{delayAt}
+use Rattle.serving.specs.declared.Links.{Links}
+use Rattle.serving.specs.Links.{delayAt}
 use Rattle.script.specs.Forged.{entriesAt, entryAt, numberIn, entryBytes, Entry, Filled, Start}
 use Rattle.script.specs.Inputs.{Reach}
 

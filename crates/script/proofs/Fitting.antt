@@ -27,9 +27,9 @@ use Rattle.cluster.specs.declared.Movement.{Movement}
 use Rattle.calendar.specs.Bits.{bit}
 use Rattle.calendar.specs.Layout.{places}
 use Rattle.calendar.specs.View.{SamePast, Spanned}
-use Rattle.cluster.specs.Links.{delayAt}
+use Rattle.serving.specs.Links.{delayAt}
 use Rattle.cluster.specs.Inputs.{pairAt, Knows, Sized, Fits}
-use Rattle.cluster.proofs.BitLaws.{bit-shift}
+use Rattle.serving.proofs.BitLaws.{bit-shift}
 use Rattle.script.specs.declared.Script.{Script}
 use Rattle.script.specs.Inputs.{Arrive, Moves}
 use Rattle.script.specs.Forged.{entriesEnd, entryAt, entriesAt, Entry, Starts}

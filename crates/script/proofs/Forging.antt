@@ -15,9 +15,9 @@ use Rattle.plan.specs.Shape.{Ranged, shape}
 use Rattle.plan.proofs.Stamped.{value-stamped, number-stamped}
 use Rattle.plan.specs.Playable.{Playable}
 use Rattle.plan.proofs.Accept.{in-range}
-use Rattle.cluster.specs.declared.Links.{Links}
+use Rattle.serving.specs.declared.Links.{Links}
 use Rattle.calendar.specs.Layout.{places}
-use Rattle.cluster.specs.Links.{delayAt}
+use Rattle.serving.specs.Links.{delayAt}
 use Rattle.script.specs.Forged.{entriesEnd, forgedBits, delayOf, Fillable, Entry, Filled, Starts}
 use Rattle.script.specs.Script.{LinksOf, messageOf, messageDelay, messageNumber, Forged}
 use Rattle.script.specs.Forged as F

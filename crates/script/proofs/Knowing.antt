@@ -25,7 +25,7 @@ use Rattle.plan.proofs.AcceptWrites.{writes-apart}
 use Rattle.plan.proofs.AcceptReads.{read-stands}
 use Rattle.plan.proofs.AcceptGood.{delay-range}
 use Rattle.cluster.specs.declared.Known.{Known}
-use Rattle.cluster.specs.declared.Links.{Links}
+use Rattle.serving.specs.declared.Links.{Links}
 use Rattle.cluster.specs.Inputs.{pairAt, Knows}
 use Rattle.script.specs.Operations.{noWrite, Written}
 use Rattle.script.specs.Inputs.{due, LatestWrite}

@@ -21,7 +21,7 @@ use Rattle.plan.proofs.Tests.{all-at}
 use Rattle.plan.specs.Playable.{Playable}
 use Rattle.plan.proofs.AcceptReads.{read-stands}
 use Rattle.plan.proofs.AcceptForgeries.{ForgedVote, ForgedReply, placed-below, forger-placed, forged-below, forged-to}
-use Rattle.cluster.specs.declared.Links.{Links}
+use Rattle.serving.specs.declared.Links.{Links}
 use Rattle.script.specs.Inputs.{Reach}
 use Rattle.script.specs.Forged.{forgedBits}
 use Rattle.script.specs.Script.{LinksOf, messageOf}

@@ -17,8 +17,8 @@ use Rattle.plan.proofs.Laws.{moves-few}
 use Rattle.plan.specs.Playable.{Playable}
 use Rattle.plan.proofs.Accept.{in-range, exact}
 use Rattle.plan.proofs.AcceptWrites.{few-writes}
-use Rattle.cluster.specs.declared.Links.{Links}
-use Rattle.cluster.specs.Links.{linkBit, delayAt, Linked}
+use Rattle.serving.specs.declared.Links.{Links}
+use Rattle.serving.specs.Links.{linkBit, delayAt, Linked}
 use Rattle.script.specs.Operations.{opAt, Room}
 use Rattle.script.specs.Script.{LinksOf}
 

@@ -9,9 +9,9 @@ use lib.Dec.{eqb, ltb}
 use lib.ListN.{length, getD, set}
 use Rattle.bits.specs.Field.{fieldOf}
 use Rattle.register.specs.Plan.{Forgery, stamped}
-use Rattle.cluster.specs.declared.Links.{Links}
+use Rattle.serving.specs.declared.Links.{Links}
 use Rattle.calendar.specs.Layout.{places, calendarSize}
-use Rattle.cluster.specs.Links.{delayAt}
+use Rattle.serving.specs.Links.{delayAt}
 use Rattle.plan.specs.declared.forgeries.Forged.{Forged}
 use Rattle.script.specs.Inputs.{Reach}
 

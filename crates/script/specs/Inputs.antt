@@ -6,11 +6,11 @@ use Prim.Native.Nat.{ℕ, zero, suc, _+_, _*_, _-_, _/_, _%_, _≤_, _<_}
 use lib.Dec.{eqb, ltb}
 use lib.ListN.{getD}
 use Rattle.bits.specs.Field.{fieldOf}
-use Rattle.cluster.specs.declared.Links.{Links}
+use Rattle.serving.specs.declared.Links.{Links}
 use Rattle.cluster.specs.declared.Arrivals.{Arrivals}
 use Rattle.cluster.specs.declared.Movement.{Movement}
 use Rattle.calendar.specs.Bits.{bit}
-use Rattle.cluster.specs.Links.{delayAt, Linked}
+use Rattle.serving.specs.Links.{delayAt, Linked}
 
 -- the delay of tick u from party i to party b lies in the plan
 pub record Reach (plan : List ℕ) (links : Links) (n u i b : ℕ) : Type 0 where

@@ -8,8 +8,8 @@ use Rattle.plan.specs.Header.{Header, headerOf, forgeryAt, parties, kIn}
 use Rattle.plan.specs.Parts.{forgeryOf}
 use Rattle.plan.specs.Packed.{planOf}
 use Rattle.plan.specs.Shape.{shape}
-use Rattle.cluster.specs.declared.Rules.{Rules}
-use Rattle.cluster.specs.declared.Links.{Links}
+use Rattle.serving.specs.declared.Rules.{Rules}
+use Rattle.serving.specs.declared.Links.{Links}
 use Rattle.script.specs.declared.Script.{Script}
 use Rattle.script.specs.Operations.{Written, ReadIn}
 use Rattle.script.specs.Forged.{numberIn, Filled, Starts}

@@ -5,9 +5,9 @@ ghost use lib.ListN.{length};
 ghost use Rattle.script.specs.Forged.{Packed, numberIn, entryBytes, Fillable, Filled, forgedBits, delayOf, numberOf, Start, Starts, entriesEnd, mostEntries};
 ghost use Rattle.calendar.specs.Layout.{places};
 use calendar::PLACES;
-use cluster::Links;
-use cluster::delays;
 use plan::forgeries::Forged;
+use serving::Links;
+use serving::delays;
 
 // The byte at which the forged entries begin, behind the calendar.
 pub const ENTRIES: usize = calendar::BYTES;

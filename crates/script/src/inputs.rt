@@ -3,14 +3,14 @@ ghost use mathlib.Core.Path.{_≡_};
 ghost use Prim.Native.Nat.{_+_, _*_, _/_, _≤_, _<_};
 ghost use lib.Dec.{eqb};
 ghost use lib.ListN.{length};
-ghost use Rattle.cluster.specs.Links.{delayAt, Linked};
+ghost use Rattle.serving.specs.Links.{delayAt, Linked};
 ghost use Rattle.script.specs.Inputs.{Reach, LatestWrite, Wrote, LatestReads, Before, AsksAt, Asks, Live, Arrive, Moves};
 use super::operations::Reads;
 use super::operations::Writes;
 use cluster::Arrivals;
-use cluster::Links;
 use cluster::Movement;
-use cluster::delays;
+use serving::Links;
+use serving::delays;
 
 // Does what is sent in tick u from party i to party b arrive in tick t? No delay is over 15, so most are not read.
 fn is_due(plan: &[u8], links: Links, n: usize, u: u8, i: usize, b: usize, t: u8) -> bool

@@ -8,11 +8,11 @@ ghost use Rattle.plan.specs.Shape.{Ranged, shape};
 ghost use Rattle.calendar.specs.Layout.{places};
 ghost use Rattle.script.specs.Forged.{entriesEnd};
 ghost use Rattle.script.specs.Script.{RulesOf, LinksOf, Forged, Scripted};
-use cluster::Links;
-use cluster::Rules;
 use operations::Reads;
 use operations::Writes;
 use plan::header::Shape;
+use serving::Links;
+use serving::Rules;
 
 pub mod forged;
 pub mod inputs;

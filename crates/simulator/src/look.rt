@@ -1,13 +1,13 @@
 // What Look returns, made of a server's condition and its store.
 ghost use mathlib.Core.Path.{_≡_};
 ghost use mathlib.Core.List.{[]};
-ghost use Rattle.cluster.specs.Stored.{statusOf};
+ghost use Rattle.serving.specs.Stored.{statusOf};
 ghost use Rattle.simulator.specs.Look.{placesOf};
 ghost use Rattle.simulator.specs.Numbered.{seenOf, shownIn};
 use calendar::DEPTH;
 use calendar::Stamped;
-use cluster::Status;
 use plan::Refusal;
+use serving::Status;
 
 // What Look sees: a server's condition, or the first refusal that applies: Check's; 10; 11.
 pub enum Seen {

@@ -10,8 +10,8 @@ use Rattle.register.specs.Plan.{Plan, kk, isMove}
 use Rattle.register.specs.Server.{cured, isFaulty, isCorrect, has, Server, Out, stage3, stage4, blank, moved}
 use Rattle.register.proofs.Logic.{T-eq, F-eq}
 use Rattle.register.proofs.Lists.{any-append}
-use Rattle.cluster.specs.Stored.{Plain, Both}
-use Rattle.cluster.specs.Stages.{noVotes, blankAs, turned, movedOn, stageFour}
+use Rattle.serving.specs.Stored.{Plain, Both}
+use Rattle.serving.specs.Stages.{noVotes, blankAs, turned, movedOn, stageFour}
 use Rattle.states.specs.State.{Votes, Rep}
 use Rattle.calendar.proofs.Laws.{and-none, or-none}
 use Rattle.states.proofs.Told.{Mid, End}

@@ -16,7 +16,7 @@ use Rattle.register.proofs.Logic.{or-e, or-l, or-r}
 use Rattle.register.proofs.Lists.{in-append, in-left, in-right}
 use Rattle.register.proofs.Stores.{Falling, in-insertAll, falling-insertAll, insertAll-in}
 use Rattle.calendar.specs.Layout.{depth}
-use Rattle.cluster.specs.Stages.{taken}
+use Rattle.serving.specs.Stages.{taken}
 
 -- two falling lists with the same members are equal
 falling-ext : (l m : List ℕ) → Falling l → Falling m → ((q : ℕ) → In q l → In q m) → ((q : ℕ) → In q m → In q l) → l ≡ m

@@ -25,12 +25,12 @@ use Rattle.calendar.specs.Posts.{held}
 use Rattle.calendar.proofs.Laws.{and-none}
 use Rattle.cluster.specs.declared.Cluster.{Cluster}
 use Rattle.cluster.specs.declared.Reader.{Reader}
-use Rattle.cluster.specs.declared.Links.{Links}
-use Rattle.cluster.specs.declared.Row.{Row}
-use Rattle.cluster.specs.Bits.{sets}
-use Rattle.cluster.specs.Links.{delayAt}
-use Rattle.cluster.specs.Stored.{both}
-use Rattle.cluster.specs.Sends.{sends, sendsVote, sendsReply}
+use Rattle.serving.specs.declared.Links.{Links}
+use Rattle.serving.specs.declared.Row.{Row}
+use Rattle.serving.specs.Bits.{sets}
+use Rattle.serving.specs.Links.{delayAt}
+use Rattle.serving.specs.Stored.{both}
+use Rattle.serving.specs.Sends.{sends, sendsVote, sendsReply}
 use Rattle.cluster.specs.Inputs.{pairAt, Knows, Fits}
 use Rattle.cluster.specs.Tick.{Feed, Ticked, noReader, endsOf, present}
 use Rattle.states.specs.Way.{forgedAs, replyWay, heardWay}

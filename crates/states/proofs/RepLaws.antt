@@ -21,11 +21,11 @@ use Rattle.register.proofs.Genuine.{Genuine, genuine-cases}
 use Rattle.register.proofs.Stores.{Falling}
 use Rattle.register.proofs.Claims.{quorum-named}
 use Rattle.register.proofs.Safety.{FreshSafe, OldSafe, ServerSafe, voted-genuine}
-use Rattle.cluster.specs.Stored.{Plain, Both}
-use Rattle.cluster.specs.Stages.{restated, silent, quorate, isNew, taken, voting, withWrite, repliesTo, delivered, deliveredOf, stageOne, stageTwo}
+use Rattle.serving.specs.Stored.{Plain, Both}
+use Rattle.serving.specs.Stages.{restated, silent, quorate, isNew, taken, voting, withWrite, repliesTo, delivered, deliveredOf, stageOne, stageTwo}
 use Rattle.cluster.specs.Inputs.{Knows}
 use Rattle.states.specs.State.{Votes, Rep}
-use Rattle.cluster.proofs.StageLaws.{write-kept}
+use Rattle.serving.proofs.StageLaws.{write-kept}
 use Rattle.states.proofs.Told.{Mid, Came}
 use Rattle.calendar.specs.Layout.{depth}
 use Rattle.calendar.proofs.Laws.{and-none, or-none}

@@ -20,8 +20,8 @@ use Rattle.calendar.specs.View.{Spanned, Empty}
 use Rattle.calendar.proofs.Laws.{and-none}
 use Rattle.cluster.specs.declared.Cluster.{Cluster}
 use Rattle.cluster.specs.declared.Reader.{Reader}
-use Rattle.cluster.specs.Bits.{sets}
-use Rattle.cluster.specs.Stored.{server, absent}
+use Rattle.serving.specs.Bits.{sets}
+use Rattle.serving.specs.Stored.{server, absent}
 use Rattle.cluster.specs.Inputs.{pairAt, Knows, Fits}
 use Rattle.cluster.specs.Tick.{Feed, Ticked, Started, noReader}
 use Rattle.states.specs.Way.{forgedAs, voteWay}

@@ -11,7 +11,7 @@ use Rattle.register.specs.Plan.{Plan, Read, readEnd}
 use Rattle.register.specs.Server.{isFaulty, Claim, Server, Sent, Out}
 use Rattle.register.specs.Reading.{sameRead}
 use Rattle.calendar.specs.Layout.{depth}
-use Rattle.cluster.specs.Stored.{Said, Both}
+use Rattle.serving.specs.Stored.{Said, Both}
 use Rattle.states.specs.State.{Votes, Rep}
 
 module _ (P : Plan) (g : ℕ → ℕ) (m : ℕ) where

@@ -29,13 +29,13 @@ use Rattle.calendar.specs.Layout.{receivers, rows, places, depth, rowOf, sender
 use Rattle.calendar.specs.Posts.{vacant, heldIn, held}
 use Rattle.calendar.proofs.Laws.{and-none, or-none}
 use Rattle.cluster.specs.declared.Cluster.{Cluster}
-use Rattle.cluster.specs.declared.Rules.{Rules}
-use Rattle.cluster.specs.Links.{delayAt}
-use Rattle.cluster.specs.Sends.{votesFor, sendsVote, sendsReply, sends}
-use Rattle.cluster.specs.Stored.{Plain, Both, keyOf, keys, server, both, absent}
-use Rattle.cluster.specs.Stages.{isNew, stageOne, stageTwo, stageFour, stagesOf}
+use Rattle.serving.specs.declared.Rules.{Rules}
+use Rattle.serving.specs.Links.{delayAt}
+use Rattle.serving.specs.Sends.{votesFor, sendsVote, sendsReply, sends}
+use Rattle.serving.specs.Stored.{Small, Plain, Both, keyOf, keys, server, both, absent}
+use Rattle.serving.specs.Stages.{isNew, stageOne, stageTwo, stageFour, stagesOf}
 use Rattle.cluster.specs.Inputs.{pairAt, Knows, Fits}
-use Rattle.cluster.specs.Tick.{Feed, Small, Stepped, present, Ticked, endsOf}
+use Rattle.cluster.specs.Tick.{Feed, Stepped, present, Ticked, endsOf}
 use Rattle.states.specs.Way.{forgedAs, voteWay}
 use Rattle.states.specs.State.{Votes, Rep, State}
 use Rattle.states.proofs.Told.{Mid, End, Came}

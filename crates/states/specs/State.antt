@@ -16,9 +16,9 @@ use Rattle.calendar.specs.Layout.{places, depth, rowOf, sender}
 use Rattle.calendar.specs.View.{Spanned}
 use Rattle.cluster.specs.declared.Cluster.{Cluster}
 use Rattle.cluster.specs.declared.Reader.{Reader}
-use Rattle.cluster.specs.Bits.{sets}
-use Rattle.cluster.specs.Stored.{Plain, server, absent}
-use Rattle.cluster.specs.Stages.{nobody, isNew}
+use Rattle.serving.specs.Bits.{sets}
+use Rattle.serving.specs.Stored.{Plain, server, absent}
+use Rattle.serving.specs.Stages.{nobody, isNew}
 use Rattle.cluster.specs.Settled.{Settled}
 use Rattle.cluster.specs.Tick.{noReader}
 use Rattle.states.specs.Way.{voteWay, replyWay, heardWay}

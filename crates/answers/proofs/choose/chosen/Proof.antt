@@ -3,7 +3,7 @@ use borrow.Author.Needs.{needs}
 use native.Mathlib.Omega.{arith}
 use mathlib.Core.Path.{_≡_, refl}
 use Prim.Native.Nat.{_≤_, _-_}
-use Rattle.cluster.specs.Bits.{sets}
+use Rattle.serving.specs.Bits.{sets}
 use Rattle.answers.specs.Choosing.{highestOf}
 use Rattle.answers.proofs.Chosen.{highest-more}
 use Rattle.answers.proofs.Sizes.{sets-fit}

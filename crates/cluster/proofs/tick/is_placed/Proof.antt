@@ -7,7 +7,7 @@ use mathlib.Core.Path.{_∙_}
 use mathlib.Core.Path.{ap, _∙_}
 use Rattle.cluster.proofs.tick.is_placed.Tie as tie
 use Rattle.cluster.proofs.tick.is_placed.Statement.{statement}
-use Rattle.cluster.proofs.BitLaws.{bit-shift}
+use Rattle.serving.proofs.BitLaws.{bit-shift}
 use Rattle.calendar.specs.Bits.{bit}
 
 sub-result : tie.Need-sub-result

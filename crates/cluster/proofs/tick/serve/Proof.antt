@@ -5,7 +5,7 @@ use Prim.Native.Nat.{_≤_, _-_}
 use native.Mathlib.Omega.{arith}
 use Rattle.cluster.specs.Tick.{feedOf}
 use Rattle.cluster.proofs.ServeLaws.{Serving, serving-none, serving-turn, serving-idle, sized-after, none-before}
-use Rattle.cluster.proofs.Sizes.{servers-small}
+use Rattle.serving.proofs.Sizes.{servers-small}
 use Rattle.cluster.proofs.tick.serve.Statement.{statement}
 use Rattle.cluster.proofs.tick.serve.Tie as tie
 

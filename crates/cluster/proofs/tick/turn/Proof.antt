@@ -11,16 +11,16 @@ use borrow.Author.Needs.{needs}
 use borrow.Author.Tests.{not-true, not-false}
 use Rattle.register.specs.Server.{isFaulty, curedAt}
 use Rattle.calendar.specs.Bits.{bit}
-use Rattle.cluster.specs.Bits.{sets, listed}
-use Rattle.cluster.specs.Stored.{Step, server, both, statusOf, pairOf}
-use Rattle.cluster.specs.Stages.{stageOne, stageTwo, stagesOf}
+use Rattle.serving.specs.Bits.{sets, listed}
+use Rattle.serving.specs.Stored.{Small, Step, server, both, statusOf, pairOf}
+use Rattle.serving.specs.Stages.{stageOne, stageTwo, stagesOf}
 use Rattle.cluster.specs.Settled.{Settled}
-use Rattle.cluster.specs.Tick.{Small, feedOf}
-use Rattle.cluster.proofs.StageLaws.{taken-law, lost-law, cure-law, no-cure-law, not-cured, echo-law}
+use Rattle.cluster.specs.Tick.{feedOf}
+use Rattle.serving.proofs.StageLaws.{taken-law, lost-law, cure-law, no-cure-law, not-cured, echo-law}
 use Rattle.cluster.proofs.Settled.{span-enough}
 use Rattle.cluster.proofs.TickLaws.{stages-moving, stages-still}
 use Rattle.cluster.proofs.ServeLaws.{turned-here}
-use Rattle.cluster.proofs.Sizes.{row-small, delivery-small}
+use Rattle.serving.proofs.Sizes.{row-small, delivery-small}
 use Rattle.cluster.proofs.tick.turn.Statement.{statement}
 use Rattle.cluster.proofs.tick.turn.Tie as tie
 

@@ -5,7 +5,7 @@ use native.Mathlib.Omega.{arith}
 use borrow.Author.Tests.{ne-eqb}
 use borrow.Author.Needs.{needs}
 use Rattle.bits.proofs.Laws.{field-lt}
-use Rattle.cluster.specs.Links.{linkBit, delayAt}
+use Rattle.serving.specs.Links.{linkBit, delayAt}
 use Rattle.script.proofs.inputs.is_due.Statement.{statement}
 use Rattle.script.proofs.inputs.is_due.Tie as tie
 

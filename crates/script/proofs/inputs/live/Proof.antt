@@ -9,7 +9,7 @@ use lib.Dec.{eqb, ltb}
 use borrow.Author.Tests.{le-ltb, lt-ltb, eq-eqb, ne-eqb}
 use borrow.Author.Needs.{needs}
 use Rattle.calendar.specs.Bits.{bit}
-use Rattle.cluster.proofs.BitLaws.{bit-zero}
+use Rattle.serving.proofs.BitLaws.{bit-zero}
 use Rattle.script.proofs.Arriving.{set-more, set-same}
 use Rattle.script.proofs.inputs.live.Statement.{statement}
 use Rattle.script.proofs.inputs.live.Tie as tie

@@ -1,0 +1,236 @@
+-- What a server sends, posted: where its delays stand in the plan; its votes; its replies, reader by reader.
+use mathlib.Core.Path.{_≡_, refl, sym, ap, _∙_}
+use mathlib.Core.Bool.{Bool, true, false, not, _&&_, _||_}
+use mathlib.Core.List.{List}
+use Prim.Native.Nat.{ℕ, _+_, _*_, _-_, _/_, _%_, _^_, _≤_, _<_}
+use native.Mathlib.Nat.{mul-le-mul}
+use native.Mathlib.Omega.{arith}
+use lib.Dec.{eqb, leb, ltb}
+use lib.ListN.{length, getD}
+use borrow.Author.Tests.{lt-ltb, le-ltb, le-leb, lt-leb, eq-eqb, ne-eqb, eqb-true, ltb-true, ltb-false}
+use Rattle.bits.specs.Field.{fieldOf}
+use Rattle.calendar.specs.declared.Sending.{Sending}
+use Rattle.calendar.specs.declared.Stamped.{Stamped}
+use Rattle.calendar.specs.Bits.{bit}
+use Rattle.calendar.specs.Layout.{receivers, rows, places, rowOf}
+use Rattle.calendar.specs.View.{Posted}
+use Rattle.calendar.specs.Posts.{Messages, inRow, held, dueIn, toOthers, arrivalOf, Sent}
+use Rattle.calendar.proofs.Laws.{and-none, or-none, ltb-more}
+use Rattle.calendar.proofs.Posting.{posted-eq, posted-trans, posted-none, same-row}
+use Rattle.serving.specs.declared.Links.{Links}
+use Rattle.serving.specs.declared.Row.{Row}
+use Rattle.serving.specs.Links.{linkBit, delayAt, Linked}
+use Rattle.serving.specs.Sends.{reaches, sendsVote, sendsReply, sends}
+use Rattle.serving.proofs.BitLaws.{bit-zero, bit-test}
+
+-- ---- where the delays stand
+
+pub row-small : (u p : ℕ) → u < 128 → p ≤ 24 → u * p ≤ 3048
+row-small u p h l = mul-le-mul {n₂ = 127} {m₂ = 24} (omega arith) l
+
+pub links-small : (u p i : ℕ) → u < 128 → p ≤ 24 → i < p → (u * p + i) * p ≤ 73704
+links-small u p i h l k = mul-le-mul {n₂ = 3071} {m₂ = 24} (omega (arith, row-small u p h l)) l
+
+pub link-at : (links : Links) (u i b : ℕ) → linkBit links u i 0 + 4 * b ≡ linkBit links u i b
+unfolding linkBit
+link-at links u i b = omega arith
+
+module _ (plan : List ℕ) (links : Links) (n u : ℕ) (L : Linked plan links n (u + 1)) where
+  pub parties-few : links .parties ≤ 24
+  parties-few = omega (arith, L .servers, L .readers)
+
+  pub link-small : (i : ℕ) → i < links .parties → linkBit links u i 0 < 2 ^ 33
+  unfolding linkBit
+  link-small i h = omega (arith, L .start, links-small u (links .parties) i (omega (arith, L .ticks)) parties-few h)
+
+  -- all delays of party i in tick u lie in the plan
+  pub link-inside : (i : ℕ) → i < links .parties → linkBit links u i 0 + 4 * links .parties ≤ 8 * length plan
+  unfolding linkBit
+  link-inside i h =
+      let p = links .parties in
+      let m : (u * p + (i + 1)) * p ≤ (u * p + p) * p = mul-le-mul {n₂ = u * p + p} {m₂ = p} (omega arith) (omega arith) in
+      omega (arith, m, L .inside)
+
+module _ (plan : List ℕ) (links : Links) (n t : ℕ) (ends : List ℕ) (i : ℕ) (row : Row) where
+  -- ---- its votes
+
+  -- the messages with the pairs of P to the servers but itself
+  to-servers : (ℕ → Bool) → Messages
+  to-servers P x j k =
+      eqb k i && (ltb (x % receivers) n && (not (eqb (x % receivers) i) && (eqb (reaches plan links n t ends i row (x % receivers) % 16) (x / receivers) && P j)))
+
+  others-sent : (s : Sending) (P : ℕ → Bool) → Sent plan (linkBit links t i 0) n t i s → (x j k : ℕ) → toOthers s P x j k ≡ to-servers P x j k
+  unfolding dueIn to-servers
+  others-sent s P S x j k = named (s .n) (s .sender) (S .servers) (S .sender)
+    where
+      turn : (a b c d : Bool) → (a && b) && (c && d) ≡ c && (a && (b && d))
+      turn true true c d = refl
+      turn true false true d = refl
+      turn true false false d = refl
+      turn false b true d = refl
+      turn false b false d = refl
+
+      go : (c : Bool) → ltb (x % receivers) n ≡ c
+          → c && ((not (eqb (x % receivers) i) && eqb (arrivalOf s (x % receivers) % 16) (x / receivers)) && (eqb k i && P j))
+          ≡ eqb k i && (c && (not (eqb (x % receivers) i) && (eqb (reaches plan links n t ends i row (x % receivers) % 16) (x / receivers) && P j)))
+      go false e = sym (and-none (eqb k i))
+      go true e =
+          let l = ltb-true (x % receivers) n e in
+          rw (S .arrives (x % receivers) l, link-at links t i (x % receivers)) (turn (not (eqb (x % receivers) i)) _ (eqb k i) (P j))
+
+      named : (m f : ℕ) → m ≡ n → f ≡ i
+          → ltb (x % receivers) m && ((not (eqb (x % receivers) f) && eqb (arrivalOf s (x % receivers) % 16) (x / receivers)) && (eqb k f && P j))
+          ≡ eqb k i && (ltb (x % receivers) n && (not (eqb (x % receivers) i) && (eqb (reaches plan links n t ends i row (x % receivers) % 16) (x / receivers) && P j)))
+      named m f p q = rw (p, q) (go (ltb (x % receivers) n) refl)
+
+  module _ (s : Sending) (S : Sent plan (linkBit links t i 0) n t i s) (a b : List ℕ) (A : Posted a b (toOthers s (λ y. eqb y (row .wrote)))) where
+    pub votes-plain : row .echoed ≡ false → Posted a b (λ x j k. eqb k i && sendsVote plan links n t ends i row x j)
+    unfolding sendsVote to-servers
+    votes-plain e =
+        posted-eq a b _ _ A
+        (λ x j k l m. others-sent s (λ y. eqb y (row .wrote)) S x j k ∙ rw (e, ← or-none (eqb j (row .wrote))))
+
+    pub votes-echo : (c : List ℕ) → row .echoed ≡ true → Posted b c (toOthers s (held (row .kept)))
+        → Posted a c (λ x j k. eqb k i && sendsVote plan links n t ends i row x j)
+    unfolding sendsVote to-servers
+    votes-echo c e K =
+        posted-eq a c _ _ (posted-trans a b c _ _ A K)
+        (λ x j k l m. rw (others-sent s (λ y. eqb y (row .wrote)) S x j k, others-sent s (held (row .kept)) S x j k, e)
+        (join (eqb k i) (ltb (x % receivers) n) (not (eqb (x % receivers) i)) (eqb (reaches plan links n t ends i row (x % receivers) % 16) (x / receivers)) (eqb j (row .wrote)) (held (row .kept) j)))
+      where
+        join : (a b c d e f : Bool) → (a && (b && (c && (d && e)))) || (a && (b && (c && (d && f)))) ≡ a && (b && (c && (d && (e || f))))
+        join true true true true e f = refl
+        join true true true false e f = refl
+        join true true false d e f = refl
+        join true false c d e f = refl
+        join false b c d e f = refl
+
+  -- ---- its replies
+
+  -- those to the readers below y
+  abbrev pub repliesBelow : ℕ → Messages
+  repliesBelow y x j k = ltb (x % receivers) (15 + y) && (eqb k i && sendsReply plan links n t ends i row x j)
+
+  -- a reply is for a reader
+  no-reply : (x j : ℕ) → x % receivers < 16 → sendsReply plan links n t ends i row x j ≡ false
+  unfolding sendsReply
+  no-reply x j h = rw (lt-leb 16 (x % receivers) h)
+
+  reply-at : (x j y : ℕ) → x % receivers ≡ 15 + y → 1 ≤ y
+      → sendsReply plan links n t ends i row x j
+      ≡ bit y (row .readers)
+      && (ltb (n + y) (links .parties)
+      && (leb (reaches plan links n t ends i row (n + y)) (getD ends (y - 1) 0)
+      && (eqb (reaches plan links n t ends i row (n + y) % 16) (x / receivers) && held (row .kept) j)))
+  unfolding sendsReply
+  reply-at x j y e h =
+      let p : 15 + y - 15 ≡ y = omega arith in
+      let q : 15 + y - 16 ≡ y - 1 = omega arith in
+      rw (e, le-leb 16 (15 + y) (omega arith), p, q)
+
+  pub replies-first : (a : List ℕ) → Posted a a (repliesBelow 1)
+  replies-first a = posted-none a _ (λ x j k l m. go x j (eqb k i) (ltb (x % receivers) 16) refl)
+    where
+      go : (x j : ℕ) (d c : Bool) → ltb (x % receivers) 16 ≡ c → c && (d && sendsReply plan links n t ends i row x j) ≡ false
+      go x j d false e = refl
+      go x j d true e = rw (no-reply x j (ltb-true (x % receivers) 16 e)) (and-none d)
+
+  replies-more : (a r w : List ℕ) (y : ℕ) (f : Messages) → Posted a r (repliesBelow y) → Posted r w f
+      → ((x j k : ℕ) → x < rows → f x j k ≡ eqb (x % receivers) (15 + y) && (eqb k i && sendsReply plan links n t ends i row x j))
+      → Posted a w (repliesBelow (y + 1))
+  replies-more a r w y f A B e =
+      posted-eq a w _ _ (posted-trans a r w _ _ A B)
+      (λ x j k l m.
+      let p : 15 + (y + 1) ≡ 15 + y + 1 = omega arith in
+      rw (e x j k l, p) (ltb-more (x % receivers) (15 + y) (eqb k i && sendsReply plan links n t ends i row x j)))
+
+  -- one more reader, who gets nothing
+  pub replies-none : (a r : List ℕ) (y : ℕ) → Posted a r (repliesBelow y)
+      → ((x j : ℕ) → x % receivers ≡ 15 + y → sendsReply plan links n t ends i row x j ≡ false) → Posted a r (repliesBelow (y + 1))
+  replies-none a r y A e =
+      replies-more a r r y (λ x j k. false) A (posted-none r _ (λ x j k l m. refl)) (λ x j k l. go x j (eqb k i) (eqb (x % receivers) (15 + y)) refl)
+    where
+      go : (x j : ℕ) (d c : Bool) → eqb (x % receivers) (15 + y) ≡ c → false ≡ c && (d && sendsReply plan links n t ends i row x j)
+      go x j d false q = refl
+      go x j d true q = rw (e x j (eqb-true (x % receivers) (15 + y) q)) (sym (and-none d))
+
+  module _ (a r : List ℕ) (y : ℕ) (h : 1 ≤ y) (A : Posted a r (repliesBelow y)) where
+    pub replies-unasked : (row .readers / 2 ^ y % 2 ≡ 1 → ⊥) → Posted a r (repliesBelow (y + 1))
+    replies-unasked d =
+        let e : bit y (row .readers) ≡ false = sym (bit-test y (row .readers)) ∙ ne-eqb (row .readers / 2 ^ y % 2) 1 d in
+        replies-none a r y A (λ x j p. reply-at x j y p h ∙ rw e)
+
+    pub replies-absent : links .parties ≤ n + y → Posted a r (repliesBelow (y + 1))
+    replies-absent e = replies-none a r y A (λ x j p. reply-at x j y p h ∙ rw (le-ltb (n + y) (links .parties) e) (and-none (bit y (row .readers))))
+
+    pub replies-late : getD ends (y - 1) 0 < reaches plan links n t ends i row (n + y) → Posted a r (repliesBelow (y + 1))
+    replies-late e =
+        replies-none a r y A
+        (λ x j p. reply-at x j y p h ∙ rw (lt-leb (reaches plan links n t ends i row (n + y)) (getD ends (y - 1) 0) e, and-none (ltb (n + y) (links .parties))) (and-none (bit y (row .readers))))
+
+    pub replies-sent : (w : List ℕ) → y < 5 → row .readers / 2 ^ y % 2 ≡ 1 → n + y < links .parties
+        → reaches plan links n t ends i row (n + y) ≤ getD ends (y - 1) 0
+        → Posted r w (inRow (rowOf (reaches plan links n t ends i row (n + y)) (15 + y)) i (held (row .kept))) → Posted a w (repliesBelow (y + 1))
+    replies-sent w g u p l B = replies-more a r w y _ A B (λ x j k m. rw (same-row x at (15 + y) m (omega arith)) (go x j (eqb k i) (eqb (x % receivers) (15 + y)) refl))
+      where
+        e : bit y (row .readers) ≡ true
+        e = sym (bit-test y (row .readers)) ∙ eq-eqb (row .readers / 2 ^ y % 2) 1 u
+
+        at : ℕ
+        at = reaches plan links n t ends i row (n + y)
+
+        turn : (d q f : Bool) → q && (d && f) ≡ d && (true && (true && (true && (q && f))))
+        turn true true f = refl
+        turn true false f = refl
+        turn false true f = refl
+        turn false false f = refl
+
+        go : (x j : ℕ) (d c : Bool) → eqb (x % receivers) (15 + y) ≡ c
+            → (c && eqb (at % 16) (x / receivers)) && (d && held (row .kept) j) ≡ c && (d && sendsReply plan links n t ends i row x j)
+        go x j d false q = refl
+        go x j d true q = rw (reply-at x j y (eqb-true (x % receivers) (15 + y) q) h, e, lt-ltb (n + y) (links .parties) p, le-leb at (getD ends (y - 1) 0) l)
+            (turn d (eqb (at % 16) (x / receivers)) (held (row .kept) j))
+
+  -- ---- both
+
+  pub sent-both : (a b c : List ℕ) → Posted a b (λ x j k. eqb k i && sendsVote plan links n t ends i row x j)
+      → Posted b c (λ x j k. eqb k i && sendsReply plan links n t ends i row x j) → Posted a c (λ x j k. eqb k i && sends plan links n t ends i row x j)
+  sent-both a b c A B =
+      posted-eq a c _ _ (posted-trans a b c _ _ A B) (λ x j k l m. join (eqb k i) (sendsVote plan links n t ends i row x j) (sendsReply plan links n t ends i row x j))
+    where
+      join : (a b c : Bool) → (a && b) || (a && c) ≡ a && (b || c)
+      join true b c = refl
+      join false b c = refl
+
+  -- no vote for a known pair
+  pub votes-nobody : (a : List ℕ) → false ≡ row .echoed || ltb (row .wrote) places → Posted a a (λ x j k. eqb k i && sendsVote plan links n t ends i row x j)
+  unfolding sendsVote
+  votes-nobody a e = go (row .echoed) refl e
+    where
+      go : (b : Bool) → row .echoed ≡ b → false ≡ b || ltb (row .wrote) places → Posted a a (λ x j k. eqb k i && sendsVote plan links n t ends i row x j)
+      go true d q = absurd (let z : _≡_ {A = ℕ} 0 1 = cc in omega arith)
+      go false d q =
+          posted-none a _ (λ x j k l m.
+          rw (
+            d,
+            ne-eqb j (row .wrote) (λ h. omega (arith, ltb-false (row .wrote) places (sym q))),
+            and-none (eqb (reaches plan links n t ends i row (x % receivers) % 16) (x / receivers)),
+            and-none (not (eqb (x % receivers) i)),
+            and-none (ltb (x % receivers) n),
+          )
+          (and-none (eqb k i)))
+
+  pub replies-nobody : (a : List ℕ) → row .readers ≡ 0 → Posted a a (λ x j k. eqb k i && sendsReply plan links n t ends i row x j)
+  unfolding sendsReply
+  replies-nobody a e =
+      posted-none a _ (λ x j k l m. rw (e, bit-zero (x % receivers - 15), and-none (leb 16 (x % receivers))) (and-none (eqb k i)))
+
+-- a row of which only the replies matter
+abbrev pub replying : ℕ → List Stamped → Row
+replying readers kept = record { wrote = 0; echoed = false; readers = readers; kept = kept }
+
+module _ (plan : List ℕ) (links : Links) (n t : ℕ) (ends : List ℕ) (i : ℕ) (row : Row) where
+  pub replies-last : (a r : List ℕ) → Posted a r (repliesBelow plan links n t ends i (replying (row .readers) (row .kept)) 5)
+      → Posted a r (λ x j k. eqb k i && sendsReply plan links n t ends i row x j)
+  unfolding sendsReply
+  replies-last a r A = posted-eq a r _ _ A (λ x j k l m. rw (lt-ltb (x % receivers) 20 (omega arith)))

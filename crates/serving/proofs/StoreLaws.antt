@@ -1,0 +1,232 @@
+-- Putting a pair into a store, comparing two stores, and pairs that are new to one. It stands on the definition of insert.
+use mathlib.Core.Path.{_≡_, refl, sym, ap, _∙_}
+use mathlib.Core.Bool.{Bool, true, false, not, _&&_, _||_, cond}
+use mathlib.Core.Logic.{_⊎_, inl, inr, _≢_}
+use mathlib.Core.List.{List, [], _∷_}
+use Prim.Native.Nat.{ℕ, zero, suc, _+_, _≤_, _<_}
+use native.Mathlib.Numerals.{add-one}
+use native.Mathlib.Nat.{le-of-suc-le-suc, eq-or-lt-of-le, suc-inj}
+use native.Mathlib.Omega.{arith}
+use native.Mathlib.Decide.{decLe}
+use lib.Dec.{eqb, leb, ltb, eqb·zero-suc, eqb·suc-zero, eqb·suc-suc}
+use lib.ListN.{length, take, drop, getD, set, drop-of-length-le, List·getD-eq-default}
+use lib.Seq.{take-all, take-at, length-take-le, take-suc-set, drop-set-lt, drop-cons, append-snoc}
+use borrow.Author.Tests.{lt-ltb, le-ltb, le-leb, lt-leb, eq-eqb, ne-eqb}
+use Rattle.register.specs.Lists.{anyUpTo, sameList}
+use Rattle.register.specs.Server.{insert}
+use Rattle.register.proofs.Counting.{anyUpTo-i}
+use Rattle.register.proofs.Logic.{T-eq}
+use Rattle.calendar.specs.declared.Stamped.{Stamped}
+use Rattle.calendar.specs.Layout.{depth}
+use Rattle.calendar.specs.Posts.{vacant}
+use Rattle.serving.specs.Stored.{keyOf, keys, placeOf, putAt}
+use Rattle.serving.specs.Stages.{isNew, anyNew}
+
+cut : (b : Bool) (n p : ℕ) (ps : List ℕ) → take (suc n) (cond b (p ∷ ps) []) ≡ cond b (p ∷ take n ps) []
+cut true n p ps = refl
+cut false n p ps = refl
+
+take-keys : (n : ℕ) (ps : List Stamped) → take n (keys ps) ≡ keys (take n ps)
+unfolding keys
+take-keys zero ps = refl
+take-keys (suc n) [] = refl
+take-keys (suc n) (p ∷ ps) = cut (p .kept) n (keyOf p) (keys ps) ∙ rw (take-keys n ps)
+
+-- ---- the places from one on move by one
+
+-- what is carried is put down, what stood there is carried on
+pub carried-on : (i : ℕ) (p : Stamped) (ps : List Stamped) → i < length ps → putAt (i + 1) (getD ps i vacant) (set ps i p) ≡ putAt i p ps
+carried-on i p ps h = rw (add-one i, take-suc-set ps i p h, drop-set-lt (suc i) ps i p (omega arith), drop-cons ps i vacant h) (append-snoc (take i ps) p _)
+
+-- what is carried past the last place is dropped
+pub dropped : (n : ℕ) (p : Stamped) (ps : List Stamped) → length ps ≡ n → ps ≡ take n (putAt n p ps)
+dropped n p ps e = sym (take-at (take n ps) _ n (length-take-le n ps (omega arith)) ∙ take-all n ps (omega arith))
+
+-- ---- where a pair is put
+
+-- every place before i is higher than p's
+abbrev pub Above : Stamped → ℕ → List Stamped → Type 0
+Above p i ps = (j : ℕ) → j < i → placeOf p < placeOf (getD ps j vacant)
+
+pub above-more : (p : Stamped) (i : ℕ) (ps : List Stamped) → Above p i ps → placeOf p < placeOf (getD ps i vacant) → Above p (i + 1) ps
+above-more p i ps a h j l = go (eq-or-lt-of-le l)
+  where
+    go : (suc j ≡ i + 1) ⊎ (suc j < i + 1) → placeOf p < placeOf (getD ps j vacant)
+    go (inl e) = let z : j ≡ i = omega arith in rw z h
+    go (inr k) = a j (omega arith)
+
+module _ (p : Stamped) (is : p .kept ≡ true) where
+  abbrev Put : List Stamped → List Stamped → Type 0
+  Put ps rs = insert (keyOf p) (keys ps) ≡ keys rs
+
+  at-end : Put [] (p ∷ [])
+  unfolding insert keys
+  at-end = rw is
+
+  at-lower : (x : Stamped) (ps : List Stamped) → placeOf x < placeOf p → Put (x ∷ ps) (p ∷ x ∷ ps)
+  unfolding insert keys
+  at-lower x ps h = go (x .kept) refl
+    where
+      go : (b : Bool) → x .kept ≡ b → Put (x ∷ ps) (p ∷ x ∷ ps)
+      go false e = rw (e, is)
+      go true e = rw (e, is, lt-ltb (keyOf x) (keyOf p) (le-of-suc-le-suc (rw (e, is) at h)))
+
+  at-same : (x : Stamped) (ps : List Stamped) → placeOf x ≡ placeOf p → Put (x ∷ ps) (x ∷ ps)
+  unfolding insert keys
+  at-same x ps h = go (x .kept) refl
+    where
+      go : (b : Bool) → x .kept ≡ b → Put (x ∷ ps) (x ∷ ps)
+      go false e = let z : 0 ≡ suc (keyOf p) = rw (e, is) at h in absurd (omega arith)
+      go true e = let z : keyOf x ≡ keyOf p = suc-inj (rw (e, is) at h) in rw (e, le-ltb (keyOf x) (keyOf p) (omega arith), eq-eqb (keyOf x) (keyOf p) z)
+
+  below : (x : Stamped) (ps rs : List Stamped) → placeOf p < placeOf x → Put ps rs → Put (x ∷ ps) (x ∷ rs)
+  unfolding insert keys
+  below x ps rs h q = go (x .kept) refl
+    where
+      go : (b : Bool) → x .kept ≡ b → Put (x ∷ ps) (x ∷ rs)
+      go false e = let z : suc (keyOf p) < 0 = rw (e, is) at h in absurd (omega arith)
+      go true e =
+          let z : keyOf p < keyOf x = le-of-suc-le-suc (rw (e, is) at h) in
+          rw (e, le-ltb (keyOf x) (keyOf p) (omega arith), ne-eqb (keyOf x) (keyOf p) (λ q. omega arith), q)
+
+  goes-at : (i : ℕ) (ps : List Stamped) → i ≤ length ps → Above p i ps → placeOf (getD ps i vacant) < placeOf p → Put ps (putAt i p ps)
+  goes-at zero [] h a l = at-end
+  goes-at zero (x ∷ ps) h a l = at-lower x ps l
+  goes-at (suc i) [] h a l = absurd (omega arith)
+  goes-at (suc i) (x ∷ ps) h a l = below x ps _ (a 0 (omega arith)) (goes-at i ps (omega arith) (λ j k. a (suc j) (omega arith)) l)
+
+  stands-at : (i : ℕ) (ps : List Stamped) → i < length ps → Above p i ps → placeOf (getD ps i vacant) ≡ placeOf p → Put ps ps
+  stands-at i [] h a e = absurd (omega arith)
+  stands-at zero (x ∷ ps) h a e = at-same x ps e
+  stands-at (suc i) (x ∷ ps) h a e = below x ps ps (a 0 (omega arith)) (stands-at i ps (omega arith) (λ j k. a (suc j) (omega arith)) e)
+
+  module _ (n : ℕ) (ps : List Stamped) (size : length ps ≡ n) where
+    -- at the first lower place
+    pub put-lower : (i : ℕ) → i < n → Above p i ps → placeOf (getD ps i vacant) < placeOf p
+        → (r : List Stamped) → r ≡ take n (putAt i p ps) → keys r ≡ take n (insert (keyOf p) (keys ps))
+    put-lower i h a l r e = ap keys e ∙ sym (take-keys n (putAt i p ps)) ∙ ap (take n) (sym (goes-at i ps (omega arith) a l))
+
+    -- nowhere, for it is there
+    pub put-same : (i : ℕ) → i < n → Above p i ps → placeOf (getD ps i vacant) ≡ placeOf p → keys ps ≡ take n (insert (keyOf p) (keys ps))
+    put-same i h a e = ap keys (sym (take-all n ps (omega arith))) ∙ sym (take-keys n ps) ∙ ap (take n) (sym (stands-at i ps (omega arith) a e))
+
+    -- nowhere, for all places are higher
+    pub put-none : Above p n ps → keys ps ≡ take n (insert (keyOf p) (keys ps))
+    put-none a =
+        ap keys (dropped n p ps size) ∙ sym (take-keys n (putAt n p ps))
+        ∙ ap (take n) (sym (goes-at n ps (omega arith) a (rw (List·getD-eq-default ps vacant {n = n} (omega arith), is) (omega arith))))
+
+-- ---- two stores with the same pairs
+
+same-level : (x y : Stamped) (xs ys : List Stamped)
+    → eqb (placeOf x) (placeOf y) && (eqb (placeOf x) 0 || sameList (keys xs) (keys ys)) ≡ sameList (keys (x ∷ xs)) (keys (y ∷ ys))
+unfolding keys sameList
+same-level x y xs ys = go (x .kept) (y .kept) (keyOf x) (keyOf y)
+  where
+    go : (a b : Bool) (m n : ℕ)
+        → eqb (cond a (suc m) 0) (cond b (suc n) 0) && (eqb (cond a (suc m) 0) 0 || sameList (keys xs) (keys ys))
+        ≡ sameList (cond a (m ∷ keys xs) []) (cond b (n ∷ keys ys) [])
+    go false false m n = refl
+    go false true m n = rw (eqb·zero-suc n)
+    go true false m n = rw (eqb·suc-zero m)
+    go true true m n = rw (eqb·suc-suc m n, eqb·suc-zero m)
+
+module _ (a b : List Stamped) where
+  -- are they the same from place i on
+  abbrev pub sameFrom : ℕ → Bool
+  sameFrom i = sameList (keys (drop i a)) (keys (drop i b))
+
+  pub same-past : (i : ℕ) → length a ≤ i → length b ≤ i → sameFrom i ≡ true
+  unfolding keys sameList
+  same-past i h k = rw (drop-of-length-le a {i = i} h, drop-of-length-le b {i = i} k)
+
+  module _ (i : ℕ) (h : i < length a) (k : i < length b) where
+    abbrev x : ℕ
+    x = placeOf (getD a i vacant)
+
+    abbrev y : ℕ
+    y = placeOf (getD b i vacant)
+
+    here : eqb x y && (eqb x 0 || sameFrom (suc i)) ≡ sameFrom i
+    here = rw (drop-cons a i vacant h, drop-cons b i vacant k) (same-level (getD a i vacant) (getD b i vacant) (drop (suc i) a) (drop (suc i) b))
+
+    pub same-no : x ≢ y → sameFrom i ≡ false
+    same-no d = sym here ∙ rw (ne-eqb x y d)
+
+    pub same-end : x ≡ y → x ≡ 0 → sameFrom i ≡ true
+    same-end e z = sym here ∙ rw (eq-eqb x y e, eq-eqb x 0 z)
+
+    pub same-on : x ≡ y → x ≢ 0 → sameFrom (i + 1) ≡ sameFrom i
+    same-on e d = rw (add-one i) (sym (sym here ∙ rw (eq-eqb x y e, ne-eqb x 0 d)))
+
+-- ---- pairs that are new to a store
+
+pub same-as-itself : (l : List ℕ) → sameList l l ≡ true
+unfolding sameList
+same-as-itself [] = refl
+same-as-itself (x ∷ l) = rw (eq-eqb x x refl) (same-as-itself l)
+
+module _ (p : Stamped) (is : p .kept ≡ true) where
+  -- at a lower place p goes before another pair
+  changed-at : (n i : ℕ) (ps : List Stamped) → i < n → i < length ps → Above p i ps → placeOf (getD ps i vacant) < placeOf p → sameList (take n (insert (keyOf p) (keys ps))) (keys ps) ≡ false
+  unfolding insert keys sameList
+  changed-at zero i ps h k a l = absurd (omega arith)
+  changed-at (suc n) i [] h k a l = absurd (omega arith)
+  changed-at (suc n) zero (x ∷ ps) h k a l = go (x .kept) refl
+    where
+      go : (b : Bool) → x .kept ≡ b → sameList (take (suc n) (insert (keyOf p) (keys (x ∷ ps)))) (keys (x ∷ ps)) ≡ false
+      go false e = rw e
+      go true e =
+          let z : keyOf x < keyOf p = le-of-suc-le-suc (rw (e, is) at l) in
+          rw (e, lt-ltb (keyOf x) (keyOf p) z, ne-eqb (keyOf p) (keyOf x) (λ q. omega arith))
+  changed-at (suc n) (suc i) (x ∷ ps) h k a l = go (x .kept) refl (changed-at n i ps (omega arith) (omega arith) (λ j q. a (suc j) (omega arith)) l)
+    where
+      go : (b : Bool) → x .kept ≡ b → sameList (take n (insert (keyOf p) (keys ps))) (keys ps) ≡ false → sameList (take (suc n) (insert (keyOf p) (keys (x ∷ ps)))) (keys (x ∷ ps)) ≡ false
+      go false e ih = let z : suc (keyOf p) < 0 = rw (e, is) at (a 0 (omega arith)) in absurd (omega arith)
+      go true e ih =
+          let z : keyOf p < keyOf x = le-of-suc-le-suc (rw (e, is) at (a 0 (omega arith))) in
+          rw (e, le-ltb (keyOf x) (keyOf p) (omega arith), ne-eqb (keyOf x) (keyOf p) (λ q. omega arith), eq-eqb (keyOf x) (keyOf x) refl) ih
+
+  module _ (ps : List Stamped) (size : length ps ≡ depth) where
+    new-lower : (i : ℕ) → i < depth → Above p i ps → placeOf (getD ps i vacant) < placeOf p → isNew (keyOf p) (keys ps) ≡ true
+    unfolding isNew
+    new-lower i h a l = rw (changed-at depth i ps h (omega arith) a l)
+
+    unchanged : keys ps ≡ take depth (insert (keyOf p) (keys ps)) → isNew (keyOf p) (keys ps) ≡ false
+    unfolding isNew
+    unchanged e = rw (← e, same-as-itself (keys ps))
+
+    -- at the first place that is not higher
+    pub new-first : (i : ℕ) → i < depth → Above p i ps → placeOf (getD ps i vacant) ≤ placeOf p → ltb (placeOf (getD ps i vacant)) (placeOf p) ≡ isNew (keyOf p) (keys ps)
+    new-first i h a l = go (eq-or-lt-of-le l)
+      where
+        go : (placeOf (getD ps i vacant) ≡ placeOf p) ⊎ (placeOf (getD ps i vacant) < placeOf p) → ltb (placeOf (getD ps i vacant)) (placeOf p) ≡ isNew (keyOf p) (keys ps)
+        go (inl e) = rw (le-ltb (placeOf (getD ps i vacant)) (placeOf p) (omega arith), unchanged (put-same p is depth ps size i h a e))
+        go (inr k) = rw (lt-ltb (placeOf (getD ps i vacant)) (placeOf p) k, new-lower i h a k)
+
+    pub new-none : Above p depth ps → isNew (keyOf p) (keys ps) ≡ false
+    new-none a = unchanged (put-none p is depth ps size a)
+
+-- one of some pairs is
+module _ (g : ℕ → ℕ) (l : List ℕ) (low : ℕ) where
+  pub some-new : (high j : ℕ) → low ≤ j → j < high → isNew (g j) l ≡ true → anyNew g l low high ≡ true
+  some-new high j h k e = T-eq (anyNew g l low high) (anyUpTo-i high (λ i. leb low i && isNew (g i) l) j k (rw (le-leb low j h, e) tt))
+
+  abbrev pub NoneNew : ℕ → Type 0
+  NoneNew high = (j : ℕ) → low ≤ j → j < high → isNew (g j) l ≡ false
+
+  pub none-more : (j : ℕ) → NoneNew j → isNew (g j) l ≡ false → NoneNew (j + 1)
+  none-more j f e i h k = go (eq-or-lt-of-le k)
+    where
+      go : (suc i ≡ j + 1) ⊎ (suc i < j + 1) → isNew (g i) l ≡ false
+      go (inl q) = let z : i ≡ j = omega arith in rw z e
+      go (inr q) = f i h (omega arith)
+
+  pub none-new : (high : ℕ) → NoneNew high → anyNew g l low high ≡ false
+  unfolding anyUpTo
+  none-new zero f = refl
+  none-new (suc j) f = rw (none-new j (λ i h k. f i h (omega arith))) (go (decLe low j))
+    where
+      go : Dec (low ≤ j) → (leb low j && isNew (g j) l) || false ≡ false
+      go (yes h) = rw (le-leb low j h, f j h (omega arith))
+      go (no h) = rw (lt-leb low j (omega arith))

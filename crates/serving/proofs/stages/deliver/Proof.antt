@@ -1,0 +1,39 @@
+-- `stages::deliver` meets its contract.
+use borrow.Author.Needs.{needs}
+use Rattle.serving.proofs.StageLaws.{delivered-law, replied-law, pending-law}
+use Rattle.calendar.specs.Bits.{bit}
+use Rattle.serving.specs.Stored.{server, pairOf}
+use Rattle.serving.proofs.stages.deliver.Statement.{statement}
+use Rattle.serving.proofs.stages.deliver.Tie as tie
+
+with-write-requires : tie.Need-with-write-requires
+with-write-requires c κs = search needs
+
+take-in-requires : tie.Need-take-in-requires
+take-in-requires c κs = search needs
+
+is-correct-requires : tie.Need-is-correct-requires
+is-correct-requires c κs = search needs
+
+is-same-requires : tie.Need-is-same-requires
+is-same-requires c κs = search needs
+
+replied-requires : tie.Need-replied-requires
+replied-requires c κs = search needs
+
+returns : tie.Need-returns
+returns c = let a = c .before .before .before .before .before .before .before .before .before .args in
+    delivered-law (pairOf (a .values .now)) (a .m) _ (a .wrote) (server (a .s) .fresh) (λ x. bit x (a .asks)) (λ x. bit x (a .live)) (server (a .s)) _ _ _ _
+    (c .before .before .before .before .before .with-write .ensures) (c .before .before .before .before .take-in .ensures) (pending-law (a .s .pending) (a .live) (a .asks))
+    (replied-law (c .replied .result) (a .asks) _ _ _ _ _ (c .replied .ensures) (c .before .before .is-correct .ensures) (c .before .is-same .ensures))
+
+pub deliver-spec : {M : Type 1} → statement M
+deliver-spec =
+    tie.close
+    (tie.spec
+    with-write-requires
+    take-in-requires
+    is-correct-requires
+    is-same-requires
+    replied-requires
+    returns)

@@ -1,0 +1,14 @@
+-- `stages::quiet` meets its contract.
+use borrow.Author.Needs.{needs}
+use Rattle.serving.proofs.stages.quiet.Tie as tie
+use Rattle.serving.proofs.stages.quiet.Statement.{statement}
+use Rattle.serving.proofs.StageLaws.{zero-set}
+
+none-requires : tie.Need-none-requires
+none-requires c κs = search needs
+
+returns : tie.Need-returns
+returns c = rw (c .none .ensures, zero-set)
+
+pub quiet-spec : {M : Type 1} → statement M
+quiet-spec = tie.close (tie.spec none-requires returns)

@@ -1,0 +1,72 @@
+-- `store::insert` meets its contract. The loop's invariant: every place before i is higher than the pair's.
+use mathlib.Core.Path.{_≡_, sym, _∙_}
+use Prim.Native.Nat.{_≤_, _<_, _-_}
+use native.Mathlib.Omega.{arith}
+use lib.ListN.{length}
+use borrow.Author.Needs.{needs}
+use Rattle.calendar.specs.Layout.{depth}
+use Rattle.serving.specs.Stored.{placeOf}
+use Rattle.serving.proofs.StoreLaws.{Above, above-more, put-lower, put-same, put-none}
+use Rattle.serving.proofs.store.insert.Statement.{statement}
+use Rattle.serving.proofs.store.insert.Tie as tie
+
+abbrev Inv-loop : tie.InvT-loop
+Inv-loop p kept mine i₀ i = (i ≤ depth) × (length kept ≡ depth) × (mine ≡ placeOf p) × Above p i kept
+
+abbrev μ-loop : tie.MeasureT-loop
+μ-loop p kept mine i₀ i = depth - i
+
+place-requires : tie.Need-place-requires Inv-loop μ-loop
+place-requires c κs = search needs
+
+loop-holds : tie.Need-loop-holds Inv-loop μ-loop
+loop-holds c = (omega arith, c .before .good .0 .1 .0 .1, c .place .ensures, λ j h. absurd (omega arith))
+
+mul-place : tie.Need-mul-place Inv-loop μ-loop
+mul-place c = search needs
+
+array-copy-out-place : tie.Need-array-copy-out-place Inv-loop μ-loop
+array-copy-out-place c = search needs
+
+place-requires-2 : tie.Need-place-requires-2 Inv-loop μ-loop
+place-requires-2 c κs = search needs
+
+returns : tie.Need-returns Inv-loop μ-loop
+returns c =
+    let s = c .before .before .before .before .before .before in
+    let l = c .before .before .before .before .loop in
+    put-same (s .args .p) (s .pre) depth (s .args .t1) (l .inv .1) (l .i) (c .before .before .before .loop-test .taken) (l .inv .3) (rw (c .before .place2 .ensures, l .inv .2) at (c .if1 .taken))
+
+put-at-requires : tie.Need-put-at-requires Inv-loop μ-loop
+put-at-requires c κs = c .before .before .before .before .loop-test .taken
+
+returns-2 : tie.Need-returns-2 Inv-loop μ-loop
+returns-2 c =
+    let s = c .before .before .before .before .before .before .before .before in
+    let l = c .before .before .before .before .before .before .loop in
+    put-lower (s .args .p) (s .pre) depth (s .args .t1) (l .inv .1) (l .i) (c .before .before .before .before .before .loop-test .taken) (l .inv .3) (rw (c .before .before .before .place2 .ensures, l .inv .2) at (c .before .if2 .taken)) _ (c .put-at .ensures)
+
+add-i : tie.Need-add-i Inv-loop μ-loop
+add-i c = search needs
+
+loop-less : tie.Need-loop-less Inv-loop μ-loop
+loop-less c = search needs
+
+loop-again : tie.Need-loop-again Inv-loop μ-loop
+loop-again c =
+    let s = c .before .before .before .before .before .before .before in
+    let l = c .before .before .before .before .before .loop in
+    let h : c .before .before .before .before .before .before .place .result < c .before .before .place2 .result = omega (arith, c .before .if1 .left, c .if2 .left) in
+    (omega arith, l .inv .1, l .inv .2, above-more (s .args .p) (l .i) (s .args .t1) (l .inv .3) (rw (c .before .before .place2 .ensures, l .inv .2) at h))
+
+returns-3 : tie.Need-returns-3 Inv-loop μ-loop
+returns-3 c =
+    let s = c .before .before .before in
+    let l = c .before .loop in
+    let e : l .i ≡ depth = omega arith in
+    put-none (s .args .p) (s .pre) depth (s .args .t1) (l .inv .1) (rw e at (l .inv .3))
+
+pub insert-spec : {M : Type 1} → statement M
+insert-spec =
+    tie.close
+    (tie.spec Inv-loop μ-loop place-requires loop-holds mul-place array-copy-out-place place-requires-2 returns put-at-requires returns-2 add-i loop-less loop-again returns-3)

@@ -1,0 +1,50 @@
+-- `store::put_at` meets its contract. The loop's invariant: with what is carried put before place i the places are what they have to be.
+use mathlib.Core.Path.{_≡_, refl, sym, _∙_}
+use Prim.Native.Nat.{_≤_, _-_}
+use native.Mathlib.Omega.{arith}
+use lib.ListN.{length, length-set}
+use borrow.Author.Needs.{needs}
+use Rattle.calendar.specs.Layout.{depth}
+use Rattle.serving.specs.Stored.{putAt}
+use Rattle.serving.proofs.StoreLaws.{carried-on, dropped}
+use Rattle.serving.proofs.store.put_at.Statement.{statement}
+use Rattle.serving.proofs.store.put_at.Tie as tie
+
+abbrev Inv-loop : tie.InvT-loop
+Inv-loop at more₀ carried₀ i₀ more carried i = (i ≤ depth) × (length more ≡ depth) × (putAt i carried more ≡ putAt at carried₀ more₀)
+
+abbrev μ-loop : tie.MeasureT-loop
+μ-loop at more₀ carried₀ i₀ more carried i = depth - i
+
+loop-holds : tie.Need-loop-holds Inv-loop μ-loop
+loop-holds c = (omega (arith, c .pre), c .good .0 .1 .0 .1, refl)
+
+mul-here : tie.Need-mul-here Inv-loop μ-loop
+mul-here c = search needs
+
+array-copy-out-here : tie.Need-array-copy-out-here Inv-loop μ-loop
+array-copy-out-here c = search needs
+
+mul-more : tie.Need-mul-more Inv-loop μ-loop
+mul-more c = search needs
+
+array-set-from-more : tie.Need-array-set-from-more Inv-loop μ-loop
+array-set-from-more c = search needs
+
+add-i : tie.Need-add-i Inv-loop μ-loop
+add-i c = search needs
+
+loop-less : tie.Need-loop-less Inv-loop μ-loop
+loop-less c = search needs
+
+loop-again : tie.Need-loop-again Inv-loop μ-loop
+loop-again c =
+    let l = c .before .before .loop in
+    let h = c .before .loop-test .taken in
+    (omega (arith, h), length-set (l .more) (l .i) (l .carried) ∙ l .inv .1, carried-on (l .i) (l .carried) (l .more) (omega (arith, h, l .inv .1)) ∙ l .inv .2)
+
+returns : tie.Need-returns Inv-loop μ-loop
+returns c = let l = c .before .loop in let e : l .i ≡ depth = omega arith in dropped depth (l .carried) (l .more) (l .inv .1) ∙ rw (rw e at (l .inv .2))
+
+pub put-at-spec : {M : Type 1} → statement M
+put-at-spec = tie.close (tie.spec Inv-loop μ-loop loop-holds mul-here array-copy-out-here mul-more array-set-from-more add-i loop-less loop-again returns)

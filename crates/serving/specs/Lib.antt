@@ -1,0 +1,5 @@
+pub mod Bits
+pub mod Links
+pub mod Stored
+pub mod Stages
+pub mod Sends

@@ -1,0 +1,129 @@
+-- The engine's stages on a server apart from how it is stored. Pairs are known by number: pair j is g j, j < m; e and r are the quorums.
+use mathlib.Core.Path.{_≡_}
+use mathlib.Core.Bool.{Bool, true, false, not, _&&_, _||_, cond}
+use mathlib.Core.List.{List, []}
+use Prim.Native.Nat.{ℕ, zero, suc, _<_}
+use lib.Dec.{eqb, leb, ltb}
+use lib.ListN.{take}
+use Rattle.register.specs.Lists.{count, anyUpTo, sameList}
+use Rattle.register.specs.Server.{Status, faulty, cured, correct, isFaulty, isCorrect, curedAt, insert}
+use Rattle.calendar.specs.Layout.{places, depth}
+use Rattle.serving.specs.declared.Rules.{Rules}
+use Rattle.serving.specs.Stored.{Plain, Said, Both}
+
+abbrev pub nobody : ℕ → Bool
+nobody x = false
+
+abbrev pub noVotes : ℕ → ℕ → Bool
+noVotes j i = false
+
+abbrev pub blankAs : Status → Plain
+blankAs s = record { status = s; kept = []; pending = nobody; fresh = noVotes; old = noVotes }
+
+abbrev pub silent : Said
+silent = record { wrote = 255; echoed = false; readers = nobody; pairs = [] }
+
+-- ---- what the methods do
+
+abbrev pub restated : Status → Plain → Plain
+restated st s = record { status = st; kept = s .kept; pending = s .pending; fresh = s .fresh; old = s .old }
+
+abbrev pub written : ℕ → Plain → Plain
+written p s = record { status = s .status; kept = take depth (insert p (s .kept)); pending = s .pending; fresh = s .fresh; old = s .old }
+
+-- a server that is not faulty has the votes of f among its fresh ones; a faulty one loses them
+pub record Voted (f : ℕ → ℕ → Bool) (s r : Plain) : Type 0 where
+  pub status : r .status ≡ s .status
+  pub kept : r .kept ≡ s .kept
+  pub pending : r .pending ≡ s .pending
+  pub old : r .old ≡ s .old
+  pub fresh : isFaulty (s .status) ≡ false → (j i : ℕ) → j < places → r .fresh j i ≡ (s .fresh j i || f j i)
+  pub lost : isFaulty (s .status) ≡ true → r ≡ s
+
+abbrev pub resetAt : ℕ → Plain
+resetAt t = blankAs (cured t)
+
+abbrev pub cureEnded : ℕ → ℕ → Plain → Plain
+cureEnded delta t s = cond (curedAt delta t (s .status)) (restated correct s) s
+
+abbrev pub turned : Bool → Plain → Plain
+turned two s = record { status = s .status; kept = s .kept; pending = s .pending; fresh = noVotes; old = cond two (s .fresh) noVotes }
+
+-- ---- stage 1
+
+abbrev pub quorate : ℕ → ℕ → (ℕ → Bool) → (ℕ → Bool) → Bool
+quorate e r f o = leb e (count f 16) || leb r (count (λ i. f i || o i) 16)
+
+-- pair j has a quorum
+abbrev pub voting : ℕ → ℕ → (ℕ → ℕ → Bool) → (ℕ → ℕ → Bool) → ℕ → Bool
+voting e r fresh old j = quorate e r (fresh j) (old j)
+
+-- the pairs 0 .. m - 1 that pass, taken in by number
+unfoldable pub taken : (ℕ → Bool) → (ℕ → ℕ) → ℕ → List ℕ → List ℕ
+taken c g zero l = l
+taken c g (suc j) l = cond (c j) (take depth (insert (g j) (taken c g j l))) (taken c g j l)
+
+-- putting pair p in changes the store: the store does not have it, and is not full of higher ones
+unfoldable pub isNew : ℕ → List ℕ → Bool
+isNew p l = not (sameList (take depth (insert p l)) l)
+
+-- one of the pairs low .. high - 1 does
+abbrev pub anyNew : (ℕ → ℕ) → List ℕ → ℕ → ℕ → Bool
+anyNew g l low high = anyUpTo high (λ j. leb low j && isNew (g j) l)
+
+-- the WRITE's pair, if its number is a known one
+abbrev pub withWrite : (ℕ → ℕ) → ℕ → ℕ → Plain → Plain
+withWrite g m w s = cond (ltb w m) (written (g w) s) s
+
+abbrev pub repliesTo : Bool → Bool → (ℕ → Bool) → (ℕ → Bool) → ℕ → Bool
+repliesTo false same asks list = nobody
+repliesTo true true asks list = asks
+repliesTo true false asks list = list
+
+-- the pairs from one number to before another
+abbrev pub within : ℕ → ℕ → ℕ → Bool
+within low high j = leb low j && ltb j high
+
+-- with the pairs that pass
+unfoldable pub deliveredOf : (ℕ → ℕ) → ℕ → (ℕ → Bool) → ℕ → (ℕ → ℕ → Bool) → (ℕ → Bool) → (ℕ → Bool) → Plain → Both
+deliveredOf g m c w votes asks live s =
+    let kept : List ℕ = taken c g m (withWrite g m w s .kept) in
+    let list : ℕ → Bool = λ x. (s .pending x && live x) || asks x in
+    record {
+      server = record { status = s .status; kept = kept; pending = list; fresh = votes; old = s .old };
+      said = record { wrote = w; echoed = false; readers = repliesTo (isCorrect (s .status)) (sameList (s .kept) kept) asks list; pairs = kept };
+    }
+
+unfoldable pub delivered : (ℕ → ℕ) → ℕ → ℕ → ℕ → ℕ → (ℕ → ℕ → Bool) → (ℕ → Bool) → (ℕ → Bool) → Plain → Both
+delivered g m e r w votes asks live s = deliveredOf g m (voting e r votes (s .old)) w votes asks live s
+
+unfoldable pub stageOne : (ℕ → ℕ) → ℕ → ℕ → ℕ → ℕ → (ℕ → ℕ → Bool) → (ℕ → Bool) → (ℕ → Bool) → Plain → Both
+stageOne g m e r w votes asks live s =
+    cond (isFaulty (s .status)) (record { server = s; said = silent }) (delivered g m e r w votes asks live s)
+
+-- ---- stages 2 to 4
+
+unfoldable pub stageTwo : ℕ → ℕ → Both → Both
+stageTwo delta t o =
+    cond (curedAt delta t (o .server .status))
+    (record {
+      server = restated correct (o .server);
+      said = record { wrote = o .said .wrote; echoed = o .said .echoed; readers = o .server .pending; pairs = o .server .kept };
+    })
+    o
+
+unfoldable pub movedOn : Bool → Bool → ℕ → Plain → Plain
+movedOn two now-faulty t s =
+    cond now-faulty (blankAs faulty) (cond (isFaulty (s .status)) (resetAt t) (turned two s))
+
+-- stages 3 and 4 at a movement
+unfoldable pub stageFour : Bool → Bool → ℕ → Both → Both
+stageFour two now-faulty t o =
+    let s : Plain = movedOn two now-faulty t (o .server) in
+    record { server = s; said = record { wrote = o .said .wrote; echoed = isCorrect (s .status); readers = o .said .readers; pairs = o .said .pairs } }
+
+-- all stages
+unfoldable pub stagesOf : (ℕ → ℕ) → ℕ → Rules → ℕ → (ℕ → ℕ → Bool) → (ℕ → Bool) → (ℕ → Bool) → Bool → Bool → ℕ → Plain → Both
+stagesOf g m rules w votes asks live moving now-faulty t s =
+    let second : Both = stageTwo (rules .delta) t (stageOne g m (rules .echo) (rules .reply) w votes asks live s) in
+    cond moving (stageFour (rules .two) now-faulty t second) second

@@ -1,0 +1,85 @@
+// A set of servers for each known pair, by value.
+ghost use mathlib.Core.Path.{_≡_};
+ghost use Prim.Native.Nat.{_≤_, _<_};
+ghost use mathlib.Core.List.{[], _∷_, _++_};
+ghost use lib.ListN.{length, getD};
+ghost use Rattle.calendar.specs.Layout.{rows, places, calendarSize};
+ghost use Rattle.calendar.specs.View.{Spanned};
+ghost use Rattle.serving.specs.Bits.{sets, Joined, listed};
+ghost use Rattle.serving.specs.Stages.{noVotes};
+use super::MOST;
+use super::Voters;
+use calendar::PLACES;
+
+// The senders of what arrives in a row of the calendar join.
+pub fn joined(table: [u16; PLACES], work: &[u8], row: usize) -> [u16; PLACES]
+    requires { ⌜ (row < rows) × (calendarSize ≤ length (now work)) × Spanned (now work) places ⌝ }
+    ensures { λ r. ⌜ Joined (now (work .entry)) row table r ⌝ }
+{
+    let mut more = table;
+    let high = calendar::high(work, row);
+    let mut j = calendar::low(work, row);
+    while j < high {
+        let m = more[j];
+        more[j] = m | calendar::senders(work, row, j);
+        j += 1;
+    }
+    more
+}
+
+// The lower of two numbers.
+pub fn lower(a: usize, b: usize) -> usize
+    ensures { λ r. ⌜ (r ≤ a) × (r ≤ b) × (a ≤ b → a ≤ r) × (b ≤ a → b ≤ r) ⌝ }
+{
+    if a < b {
+        return a;
+    }
+    b
+}
+
+// The set of pair j.
+pub fn at(most: &[u16; MOST], last: u16, j: usize) -> u16
+    requires { ⌜ (length (now most) ≡ 64) × (j < places) ⌝ }
+    ensures { λ r. ⌜ r ≡ getD (now (most .entry) ++ (last ∷ [])) j 0 ⌝ }
+{
+    if j < MOST {
+        return most[j];
+    }
+    last
+}
+
+impl Voters {
+    // Nobody, for any pair.
+    pub fn none() -> Voters
+        ensures { λ r. ⌜ sets (listed r) ≡ noVotes ⌝ }
+    {
+        let most = [0u16; MOST];
+        Voters { most, last: 0 }
+    }
+
+    // The senders of what arrives in a row of the calendar join.
+    pub fn joined(self, work: &[u8], row: usize) -> Voters
+        requires { ⌜ (row < rows) × (calendarSize ≤ length (now work)) × Spanned (now work) places ⌝ }
+        ensures { λ r. ⌜ Joined (now (work .entry)) row (listed self) (listed r) ⌝ }
+    {
+        let mut most = self.most;
+        let high = calendar::high(work, row);
+        let end = lower(high, MOST);
+        let mut j = calendar::low(work, row);
+        while j < end {
+            let m = most[j];
+            most[j] = m | calendar::senders(work, row, j);
+            j += 1;
+        }
+        if MOST < high {
+            return Voters {
+                most,
+                last: self.last | calendar::senders(work, row, MOST),
+            };
+        }
+        Voters {
+            most,
+            last: self.last,
+        }
+    }
+}
