@@ -5,23 +5,13 @@ use mathlib.Core.List.{List, [], _∷_, _++_, append-assoc, append-nil}
 use Prim.Native.Nat.{ℕ, _+_, _*_, _-_, _≤_, _<_}
 use native.Mathlib.Numerals.{add-one}
 use native.Mathlib.Omega.{arith}
-use lib.ListN.{length, getD, take, drop, length-append, length-drop, drop-of-length-le, replicate}
+use lib.ListN.{length, getD, take, drop, length-append, length-drop, replicate}
 use lib.Seq.{take-all, take-suc, take-at, drop-drop, drop-append-add, length-take-le, ext-getD, getD-drop}
-use borrow.Rule.Slice.PartMut.{putMid, midOf}
 use Rattle.register.specs.Plan.{Plan, Read}
 use Rattle.register.specs.Reading.{Answer, answerOf}
 use Rattle.plan.specs.Packed.{planOf}
 use Rattle.answers.specs.Answers.{bytesOf, answerBytes, answersFor, answersOf}
 use Rattle.answers.specs.Workspace.{workspaceSize, zeroed}
-
--- a part from place a on, as the callee has it, and the whole when it comes back
-pub part-from : (a : ℕ) (s : List ℕ) → midOf a (length s - a) s ≡ drop a s
-part-from a s = take-all (length s - a) (drop a s) (rw length-drop (omega arith))
-
-pub part-back : (a : ℕ) (s t : List ℕ) → putMid a (length s - a) s t ≡ take a s ++ t
-part-back a s t =
-    let e : drop (length s - a) (drop a s) ≡ [] = drop-of-length-le (drop a s) {i = length s - a} (rw length-drop (omega arith)) in
-    rw e (ap (λ (r : List ℕ). take a s ++ r) (append-nil t))
 
 drop-past : (p q : List ℕ) (n k : ℕ) → length p ≡ n → drop (n + k) (p ++ q) ≡ drop k q
 drop-past p q n k e = rw (← e) (drop-append-add p q k)

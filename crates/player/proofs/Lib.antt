@@ -1,6 +1,4 @@
 pub mod Buffers
-pub mod Forgeries
-pub mod Cursors
 pub mod Feeding
 pub mod Tables
 pub mod Ticking

@@ -29,10 +29,10 @@ use Rattle.script.specs.Script.{Scripted}
 use Rattle.script.proofs.Fitting.{script-knows}
 use Rattle.answers.specs.Answers.{answersFor}
 use Rattle.answers.specs.Workspace.{workspaceSize, zeroed}
-use Rattle.player.specs.Reading.{placed}
+use Rattle.reading.specs.Reading.{placed}
 use Rattle.player.specs.Run.{Decoded, Ready, FedBy, answerIn, Playing, Went, Ran, Ended}
 use Rattle.player.specs.Player.{Answered, Seen}
-use Rattle.player.proofs.Cursors.{until-none, placed-on}
+use Rattle.reading.proofs.Cursors.{until-none, placed-on}
 use Rattle.player.proofs.Feeding.{range, ticks-same}
 use Rattle.player.proofs.Turns.{feed-sized, looked}
 use Rattle.player.proofs.Buffers.{answers-none, answers-more, answers-done, zeroed-same}

@@ -15,7 +15,7 @@ use Rattle.cluster.specs.Inputs.{pairAt, Knows}
 use Rattle.script.specs.declared.Script.{Script}
 use Rattle.script.specs.Operations.{noRead}
 use Rattle.script.proofs.Fitting.{script-knows}
-use Rattle.player.specs.Reading.{Until, There, readAt}
+use Rattle.reading.specs.Reading.{Until, There, readAt}
 use Rattle.player.specs.Run.{Decoded}
 
 module _ (s : List ℕ) (r : Script) (R : Decoded s r) where

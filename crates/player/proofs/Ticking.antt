@@ -41,11 +41,11 @@ use Rattle.script.proofs.Naming.{entryAs, messages-named}
 use Rattle.script.proofs.Windows.{arrives-after, start-few, sent-earlier, sent-later, starts-rise}
 use Rattle.script.proofs.Fitting.{entries-kept, starts-kept, script-fits, script-sized}
 use Rattle.answers.proofs.Answered.{answered}
-use Rattle.player.specs.Forging.{goesTo, forgedEntry, SentIn, forges}
-use Rattle.player.specs.Reading.{Until, readAt, chosenBytes, placed, begunBy, freshReader}
+use Rattle.forging.specs.Forging.{goesTo, forgedEntry, SentIn, forges}
+use Rattle.reading.specs.Reading.{Until, readAt, chosenBytes, placed, begunBy, freshReader}
 use Rattle.player.specs.Run.{Decoded, FedBy, answerIn}
-use Rattle.player.proofs.Forgeries.{server-row, reader-row, row-server, row-reader}
-use Rattle.player.proofs.Cursors.{placed-same, begun-size, begun-other, begun-there}
+use Rattle.forging.proofs.Forgeries.{server-row, reader-row, row-server, row-reader}
+use Rattle.reading.proofs.Cursors.{placed-same, begun-size, begun-other, begun-there}
 use Rattle.player.proofs.Tables.{knows, servers-same, delta-same, few-servers, listed, in-table, reader-range, not-before}
 use Rattle.player.proofs.Feeding.{range, ticks-same, period-same, few-ticks}
 

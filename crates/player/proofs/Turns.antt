@@ -25,11 +25,11 @@ use Rattle.states.proofs.ReaderLaws.{end-of}
 use Rattle.cluster.proofs.ServeLaws.{sized-after, calmly-ticked}
 use Rattle.script.specs.declared.Script.{Script}
 use Rattle.script.specs.Forged.{entriesEnd}
-use Rattle.player.specs.Forging.{SentIn, forges}
-use Rattle.player.specs.Reading.{Until, isBefore, Begun, WentOn}
-use Rattle.player.specs.declared.reading.Reading.{Reading}
+use Rattle.forging.specs.Forging.{SentIn, forges}
+use Rattle.reading.specs.Reading.{Until, isBefore, Begun, WentOn}
+use Rattle.reading.specs.declared.Reading.{Reading}
 use Rattle.player.specs.Run.{Ready, FedBy, Playing, Played, Went}
-use Rattle.player.proofs.Cursors.{until-more, until-still, placed-none, begun-none}
+use Rattle.reading.proofs.Cursors.{until-more, until-still, placed-none, begun-none}
 use Rattle.player.proofs.Tables.{there}
 use Rattle.player.proofs.Ticking.{sized, kept, servers-there, server-next, answers-are, can-forge, state-next}
 

@@ -1,4 +1,2 @@
-pub mod Forging
-pub mod Reading
 pub mod Run
 pub mod Player

@@ -17,7 +17,7 @@ use Rattle.script.specs.Forged.{entriesEnd}
 use Rattle.script.specs.Inputs.{Arrive, Moves}
 use Rattle.script.specs.Script.{Scripted}
 use Rattle.answers.specs.Answers.{answerBytes}
-use Rattle.player.specs.Reading.{Until, placed}
+use Rattle.reading.specs.Reading.{Until, placed}
 
 -- the script of a plan that can be played
 pub record Decoded (s : List ℕ) (r : Script) : Type 0 where

@@ -1,5 +1,4 @@
 // Playing a plan that passes every test of Check but 3, in a workspace that is large enough.
-ghost use mathlib.Core.Path.{_≡_};
 ghost use Prim.Native.Nat.{_*_, _≤_, _<_};
 ghost use lib.ListN.{length};
 ghost use Rattle.plan.specs.Header.{headerOf};
@@ -13,20 +12,11 @@ use plan::header::Shape;
 use script::operations;
 use serving::Server;
 
-pub mod forging;
-pub mod reading;
 pub mod run;
 pub mod tick;
 
 // The answers of all reads that a table can hold, if no one asks for them.
 const UNASKED: usize = Shape::ANSWER_BYTES * operations::TABLE_READS;
-
-// A byte as a count.
-pub fn size_of(x: u8) -> usize
-    ensures { λ r. ⌜ r ≡ x ⌝ }
-{
-    x as usize
-}
 
 // Plays all ticks, writes the answers and zeroes the workspace.
 pub fn play(plan: &[u8], answers: &mut [u8], work: &mut [u8])

@@ -6,8 +6,6 @@ ghost use Rattle.calendar.specs.View.{Empty};
 ghost use Rattle.cluster.specs.Tick.{Started};
 ghost use Rattle.answers.specs.Answers.{answerSize};
 ghost use Rattle.player.specs.Run.{Ready, Ended};
-use super::forging;
-use super::reading;
 use super::tick::feed_of;
 use cluster::Cluster;
 use cluster::tick;

@@ -7,7 +7,7 @@ use Prim.Native.Nat.{_-_, _≤_, _<_}
 use lib.ListN.{length}
 use Rattle.cluster.specs.Tick.{endsOf}
 use Rattle.cluster.proofs.HearLaws.{heard-none}
-use Rattle.player.specs.Reading.{WentOn}
+use Rattle.reading.specs.Reading.{WentOn}
 use Rattle.player.specs.Run.{Ready, Ran}
 use Rattle.player.proofs.Feeding.{range, few-ticks}
 use Rattle.player.proofs.Turns.{at, HeardBy, can-go-on, none-due, noted-sized, forge-ready, went}

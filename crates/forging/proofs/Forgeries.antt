@@ -1,0 +1,146 @@
+-- Where a forged message goes, and what the forged messages of a tick post: what the plan's list says of this tick.
+-- It stands on the calendar's laws of posting.
+use mathlib.Core.Path.{_≡_, refl, sym}
+use mathlib.Core.Bool.{Bool, true, false, _&&_, _||_}
+use mathlib.Core.Logic.{inl, inr}
+use mathlib.Core.List.{List}
+use Prim.Native.Nat.{ℕ, zero, suc, _+_, _*_, _-_, _%_, _≤_, _<_}
+use native.Mathlib.Omega.{arith}
+use native.Mathlib.Numerals.{add-one}
+use lib.Dec.{T, eqb, leb, ltb, eqb→eq, eqb-refl, leb→le, ltb→lt}
+use lib.ListN.{getD}
+use borrow.Author.Tests.{lt-ltb, le-ltb, le-leb, lt-leb}
+use Rattle.register.specs.Lists.{anyUpTo}
+use Rattle.register.proofs.Logic.{and-l, and-r, or-e}
+use Rattle.calendar.specs.Layout.{rowOf}
+use Rattle.calendar.specs.View.{SamePast, Posted}
+use Rattle.calendar.specs.Posts.{inRow}
+use Rattle.calendar.proofs.Laws.{or-none}
+use Rattle.calendar.proofs.Posting.{posted-eq, posted-trans, posted-none}
+use Rattle.script.specs.Forged.{entriesAt, entryAt}
+use Rattle.forging.specs.Forging.{goesTo, forgedEntry, forges}
+
+module _ (ends : List ℕ) (n q a x : ℕ) where
+  pub goes-server : q < n → goesTo ends n q a x ≡ eqb x (rowOf a q)
+  unfolding goesTo
+  goes-server h = rw (lt-ltb q n h, le-ltb n q (omega arith)) (sym (or-none (eqb x (rowOf a q))))
+
+  pub goes-writer : n ≤ q → q ≤ n → goesTo ends n q a x ≡ false
+  unfolding goesTo
+  goes-writer h l = rw (le-ltb q n h, le-ltb n q l)
+
+  pub goes-nowhere : n < q → 4 < q - n → goesTo ends n q a x ≡ false
+  unfolding goesTo
+  goes-nowhere h l = rw (le-ltb q n (omega arith), lt-ltb n q h, lt-leb (q - n) 4 l)
+
+  pub goes-late : n < q → q - n ≤ 4 → getD ends (q - n - 1) 0 < a → goesTo ends n q a x ≡ false
+  unfolding goesTo
+  goes-late h l m = rw (le-ltb q n (omega arith), lt-ltb n q h, le-leb (q - n) 4 l, lt-leb a (getD ends (q - n - 1) 0) m)
+
+  pub goes-reader : n < q → q - n ≤ 4 → a ≤ getD ends (q - n - 1) 0 → goesTo ends n q a x ≡ eqb x (rowOf a (15 + (q - n)))
+  unfolding goesTo
+  goes-reader h l m = rw (le-ltb q n (omega arith), lt-ltb n q h, le-leb (q - n) 4 l, le-leb a (getD ends (q - n - 1) 0) m)
+
+-- ---- one entry, and the entries of a tick
+
+module _ (ends : List ℕ) (n : ℕ) (work : List ℕ) (e : ℕ) where
+  pub entry-posted : (r : List ℕ) (row i number q a : ℕ) → q ≡ entryAt work e 2 → a ≡ entryAt work e 1 → i ≡ entryAt work e 3 → number ≡ entryAt work e 4
+      → ((x : ℕ) → goesTo ends n q a x ≡ eqb x row) → Posted work r (inRow row i (λ y. eqb y number)) → Posted work r (forgedEntry ends n work e)
+  entry-posted r row i number q a eq ea ei en goes P =
+      posted-eq work r _ (forgedEntry ends n work e) P (λ x j k l m. rw (← eq, ← ea, ← ei, ← en, goes x))
+
+  pub entry-none : (q a : ℕ) → q ≡ entryAt work e 2 → a ≡ entryAt work e 1 → ((x : ℕ) → goesTo ends n q a x ≡ false) → Posted work work (forgedEntry ends n work e)
+  entry-none q a eq ea goes = posted-none work (forgedEntry ends n work e) (λ x j k l m. rw (← eq, ← ea, goes x))
+
+none-from : (f : ℕ → Bool) (to m : ℕ) → m ≤ to → anyUpTo m (λ e. leb to e && f e) ≡ false
+unfolding anyUpTo
+none-from f to zero h = refl
+none-from f to (suc m) h = rw (lt-leb to m (omega arith), none-from f to m (omega arith))
+
+or-turn : (a b : Bool) → a || b ≡ b || a
+or-turn true true = refl
+or-turn true false = refl
+or-turn false true = refl
+or-turn false false = refl
+
+pub entry-still : (a r : List ℕ) (e k : ℕ) → SamePast a r → entryAt r e k ≡ entryAt a e k
+entry-still a r e k P = P .past (entriesAt + 8 * e + k) (omega arith)
+
+module _ (ends : List ℕ) (n : ℕ) (a : List ℕ) (from : ℕ) where
+  pub forges-none : Posted a a (forges ends n a from from)
+  forges-none = posted-none a (forges ends n a from from) (λ x j k l m. none-from (λ e. forgedEntry ends n a e x j k) from from (omega arith))
+
+  pub forges-more : (r w : List ℕ) (e : ℕ) → from ≤ e → Posted a r (forges ends n a from e) → Posted r w (forgedEntry ends n r e)
+      → Posted a w (forges ends n a from (e + 1))
+  unfolding anyUpTo
+  forges-more r w e h P Q =
+      posted-eq a w _ (forges ends n a from (e + 1)) (posted-trans a r w _ _ P Q)
+      (λ x j k l m.
+      rw (
+        entry-still a r e 1 (P .rest),
+        entry-still a r e 2 (P .rest),
+        entry-still a r e 3 (P .rest),
+        entry-still a r e 4 (P .rest),
+        add-one e,
+        le-leb from e h,
+      )
+      (or-turn (forges ends n a from e x j k) (forgedEntry ends n a e x j k)))
+
+-- ---- the rows of the sixteen ticks after t
+
+rows-apart : (s a y z : ℕ) → y ≤ 4 → z ≤ 4 → rowOf s (15 + y) ≡ rowOf a (15 + z) → (z ≡ y) × (a % 16 ≡ s % 16)
+rows-apart s a y z h l e = (omega arith, omega arith)
+
+module _ (ends : List ℕ) (n t q a s : ℕ) (few : n ≤ 16) (after : t < a) (within : a ≤ t + 15) (later : t < s) (seen : s ≤ t + 16) where
+  module _ (b : ℕ) (server : b < n) where
+    pub server-row : T (goesTo ends n q a (rowOf s b)) → (q ≡ b) × (a ≡ s)
+    unfolding goesTo
+    server-row h = elim (or-e (ltb q n && eqb (rowOf s b) (rowOf a q)) _ h) [
+      | inl y ↦ (
+          let l = ltb→lt q n (and-l (ltb q n) _ y) in
+          let e = eqb→eq (rowOf s b) (rowOf a q) (and-r (ltb q n) _ y) in
+          (omega arith, omega arith)
+          )
+      | inr y ↦ (
+          let l = ltb→lt n q (and-l (ltb n q) _ y) in
+          let z = and-r (ltb n q) _ y in
+          let m = leb→le (q - n) 4 (and-l (leb (q - n) 4) _ z) in
+          let w = and-r (leb (q - n) 4) _ z in
+          let e = eqb→eq (rowOf s b) (rowOf a (15 + (q - n))) (and-r (leb a (getD ends (q - n - 1) 0)) _ w) in
+          absurd (omega arith)
+          )
+    ]
+
+  slots-apart : a % 16 ≡ s % 16 → a ≡ s
+  slots-apart e = omega arith
+
+  module _ (y : ℕ) (first : 1 ≤ y) (last : y ≤ 4) where
+    pub reader-row : T (goesTo ends n q a (rowOf s (15 + y))) → (q ≡ n + y) × (a ≡ s) × (s ≤ getD ends (y - 1) 0)
+    unfolding goesTo
+    reader-row h = elim (or-e (ltb q n && eqb (rowOf s (15 + y)) (rowOf a q)) _ h) [
+      | inl u ↦ (
+          let l = ltb→lt q n (and-l (ltb q n) _ u) in
+          let e = eqb→eq (rowOf s (15 + y)) (rowOf a q) (and-r (ltb q n) _ u) in
+          absurd (omega arith)
+          )
+      | inr u ↦ (
+          let l = ltb→lt n q (and-l (ltb n q) _ u) in
+          let z = and-r (ltb n q) _ u in
+          let m = leb→le (q - n) 4 (and-l (leb (q - n) 4) _ z) in
+          let w = and-r (leb (q - n) 4) _ z in
+          let d = leb→le a (getD ends (q - n - 1) 0) (and-l (leb a (getD ends (q - n - 1) 0)) _ w) in
+          let e = eqb→eq (rowOf s (15 + y)) (rowOf a (15 + (q - n))) (and-r (leb a (getD ends (q - n - 1) 0)) _ w) in
+          let (qy, slot) = rows-apart s a y (q - n) last m e in
+          let same : a ≡ s = slots-apart slot in
+          (omega arith, same, rw (qy, same) at d)
+          )
+    ]
+
+module _ (ends : List ℕ) (n s : ℕ) where
+  pub row-server : (b : ℕ) → b < n → T (goesTo ends n b s (rowOf s b))
+  row-server b h = rw (goes-server ends n b s (rowOf s b) h) (eqb-refl (rowOf s b))
+
+  pub row-reader : (y : ℕ) → 1 ≤ y → y ≤ 4 → s ≤ getD ends (y - 1) 0 → T (goesTo ends n (n + y) s (rowOf s (15 + y)))
+  row-reader y l h m =
+      let e : n + y - n ≡ y = omega arith in
+      rw (goes-reader ends n (n + y) s (rowOf s (15 + y)) (omega arith) (omega arith) (rw e m), e) (eqb-refl (rowOf s (15 + y)))

@@ -1,0 +1,133 @@
+-- Reads by their cursors: the reads of a range, the answers placed one by one, the readers set up one by one.
+-- It stands on the definitions alone.
+use mathlib.Core.Path.{_≡_, refl, ap, _∙_}
+use mathlib.Core.List.{List, [], _++_, append-nil}
+use Prim.Native.Nat.{ℕ, zero, suc, _+_, _-_, _≤_, _<_}
+use native.Mathlib.Omega.{arith}
+use native.Mathlib.Decide.{decLe, ℕ-discrete}
+use lib.ListN.{length, getD, set, take, drop, length-set, length-drop, drop-of-length-le}
+use lib.Seq.{take-all, getD-set-same, getD-set-other}
+use mathlib.Core.Bool.{true, false}
+use borrow.Rule.Slice.PartMut.{putMid, midOf}
+use borrow.Author.Tests.{lt-ltb, ltb-false}
+use Rattle.register.specs.Plan.{stamped}
+use Rattle.cluster.specs.declared.Known.{Known}
+use Rattle.cluster.specs.declared.Reader.{Reader}
+use Rattle.cluster.specs.Inputs.{pairAt}
+use Rattle.answers.specs.declared.Choice.{Choice}
+use Rattle.answers.specs.Choosing.{answerBy}
+use Rattle.cluster.specs.Tick.{noReader}
+use Rattle.reading.specs.Reading.{Until, There, isBefore, placedAt, placed, freshReader, begunBy}
+
+-- ---- cursors
+
+module _ (begun : List ℕ) (m : ℕ) where
+  pub until-none : (u : ℕ) → u ≡ 0 → Until begun m 0 u 0
+  until-none u e = record { from = omega arith; few = omega arith; below = λ i a b. absurd (omega arith); next = λ h. omega arith }
+
+  pub until-more : (u v k r : ℕ) → u ≤ v → Until begun m 0 u k → Until begun m k v r → Until begun m 0 v r
+  until-more u v k r h A B = record { from = omega arith; few = B .few; below = λ i a b. go i b (decLe k i); next = B .next }
+    where
+      go : (i : ℕ) → i < r → Dec (k ≤ i) → getD begun i 0 < v
+      go i b (yes c) = B .below i c b
+      go i b (no c) = omega (arith, A .below i (omega arith) (omega arith))
+
+  module _ (k u i : ℕ) (lo : k ≤ i) (below : (j : ℕ) → k ≤ j → j < i → getD begun j 0 < u) where
+    pub until-found : i < m → u ≤ getD begun i 0 → Until begun m k u i
+    until-found l h = record { from = lo; few = omega arith; below = below; next = λ n. h }
+
+    pub until-passed : getD begun i 0 < u → (j : ℕ) → k ≤ j → j < i + 1 → getD begun j 0 < u
+    until-passed h j a b = elim (ℕ-discrete j i) [ yes e ↦ rw e h | no d ↦ below j a (omega arith) ]
+
+    pub until-last : m ≤ i → i ≤ m → Until begun m k u m
+    until-last l h = record { from = omega arith; few = omega arith; below = λ j a b. below j a (omega arith); next = λ n. absurd (omega arith) }
+
+  -- read k is not due yet
+  pub until-still : (k u : ℕ) → k ≤ m → isBefore begun m k u ≡ false → Until begun m k u k
+  until-still k u h e = record { from = omega arith; few = h; below = λ i a b. absurd (omega arith); next = λ l. ltb-false (getD begun k 0) u (rw (lt-ltb k m l) at e) }
+
+pub there-part : (by : List ℕ) (m : ℕ) → There by 0 m → (k r : ℕ) → k ≤ r → r ≤ m → There by k r
+there-part by m A k r h l = record { ordered = h; few = omega (arith, A .few); readers = λ i a b. A .readers i (omega arith) (omega arith) }
+
+-- ---- answers
+
+pub answer-none : (g : ℕ → ℕ) (c : Choice) → c .found ≡ false → answerBy g c ≡ record { pair = stamped 16 0 0; count = 0 }
+unfolding answerBy stamped
+answer-none g c e = rw e
+
+pub answer-found : (known : Known) (c : Choice) → c .found ≡ true
+    → answerBy (pairAt known) c ≡ record { pair = stamped 16 (getD (known .values) (c .number) 0) (c .number); count = c .count }
+unfolding answerBy
+answer-found known c e = rw e
+
+-- a part from place a on, as the callee has it, and the whole when it comes back
+pub part-from : (a : ℕ) (s : List ℕ) → midOf a (length s - a) s ≡ drop a s
+part-from a s = take-all (length s - a) (drop a s) (rw length-drop (omega arith))
+
+pub part-back : (a : ℕ) (s t : List ℕ) → putMid a (length s - a) s t ≡ take a s ++ t
+part-back a s t =
+    let e : drop (length s - a) (drop a s) ≡ [] = drop-of-length-le (drop a s) {i = length s - a} (rw length-drop (omega arith)) in
+    rw e (ap (λ (r : List ℕ). take a s ++ r) (append-nil t))
+
+pub placed-none : (f : ℕ → List ℕ) (k : ℕ) (b : List ℕ) → b ≡ placed f k (k - k) b
+unfolding placed
+placed-none f k b = let z : k - k ≡ 0 = omega arith in rw z
+
+pub placed-more : (f : ℕ → List ℕ) (k i : ℕ) (b a r : List ℕ) → k ≤ i → a ≡ placed f k (i - k) b → r ≡ placedAt i (f i) a → r ≡ placed f k (i + 1 - k) b
+unfolding placed
+placed-more f k i b a r h e q =
+    let z : i + 1 - k ≡ suc (i - k) = omega arith in
+    let y : k + (i - k) ≡ i = omega arith in
+    rw (z, y, ← e) q
+
+pub placed-same : (f g : ℕ → List ℕ) (k n : ℕ) (b : List ℕ) → ((i : ℕ) → k ≤ i → i < k + n → f i ≡ g i) → placed f k n b ≡ placed g k n b
+unfolding placed
+placed-same f g k zero b h = refl
+placed-same f g k (suc n) b h = rw (h (k + n) (omega arith) (omega arith), placed-same f g k n b (λ i a l. h i a (omega arith)))
+
+pub placed-on : (f : ℕ → List ℕ) (k n : ℕ) (b : List ℕ) → placed f k n (placed f 0 k b) ≡ placed f 0 (k + n) b
+unfolding placed
+placed-on f k zero b = let z : k + 0 ≡ k = omega arith in rw z
+placed-on f k (suc n) b =
+    let z : k + suc n ≡ suc (k + n) = omega arith in
+    let y : 0 + (k + n) ≡ k + n = omega arith in
+    rw (z, y, placed-on f k n b)
+
+-- ---- begins
+
+module _ (by : List ℕ) (end k : ℕ) (rs : List Reader) where
+  pub begun-size : (n : ℕ) → length (begunBy by end k n rs) ≡ length rs
+  unfolding begunBy
+  begun-size zero = refl
+  begun-size (suc n) = length-set (begunBy by end k n rs) _ _ ∙ begun-size n
+
+  pub begun-none : rs ≡ begunBy by end k (k - k) rs
+  unfolding begunBy
+  begun-none = let z : k - k ≡ 0 = omega arith in rw z
+
+  pub begun-other : (x n : ℕ) → ((i : ℕ) → k ≤ i → i < k + n → x ≡ getD by i 0 - 1 → ⊥) → getD (begunBy by end k n rs) x noReader ≡ getD rs x noReader
+  unfolding begunBy
+  begun-other x zero h = refl
+  begun-other x (suc n) h =
+      getD-set-other (begunBy by end k n rs) (getD by (k + n) 0 - 1) x (freshReader end) noReader (h (k + n) (omega arith) (omega arith))
+      ∙ begun-other x n (λ i a l. h i a (omega arith))
+
+  pub begun-there : (x n i : ℕ) → k ≤ i → i < k + n → x ≡ getD by i 0 - 1 → x < length rs → getD (begunBy by end k n rs) x noReader ≡ freshReader end
+  unfolding begunBy
+  begun-there x zero i a l e h = absurd (omega arith)
+  begun-there x (suc n) i a l e h = go (ℕ-discrete x (getD by (k + n) 0 - 1)) (ℕ-discrete i (k + n)) (λ z. begun-there x n i a z e h)
+    where
+      go : Dec (x ≡ getD by (k + n) 0 - 1) → Dec (i ≡ k + n) → (i < k + n → getD (begunBy by end k n rs) x noReader ≡ freshReader end)
+          → getD (set (begunBy by end k n rs) (getD by (k + n) 0 - 1) (freshReader end)) x noReader ≡ freshReader end
+      go (yes d) z ih = rw (← d) (getD-set-same (begunBy by end k n rs) x (freshReader end) noReader (omega (arith, begun-size n)))
+      go (no d) (yes z) ih = absurd (d (rw z at e))
+      go (no d) (no z) ih =
+          getD-set-other (begunBy by end k n rs) (getD by (k + n) 0 - 1) x (freshReader end) noReader d ∙ ih (omega arith)
+
+  pub begun-more : (i : ℕ) (a r : List Reader) → k ≤ i → a ≡ begunBy by end k (i - k) rs → r ≡ set a (getD by i 0 - 1) (freshReader end)
+      → r ≡ begunBy by end k (i + 1 - k) rs
+  unfolding begunBy
+  begun-more i a r h e q =
+      let z : i + 1 - k ≡ suc (i - k) = omega arith in
+      let y : k + (i - k) ≡ i = omega arith in
+      rw (z, y, ← e) q

@@ -1,0 +1,84 @@
+-- Reads end and begin: which of the table's reads, the bytes of an answer, and the readers afterwards.
+use mathlib.Core.Path.{_≡_}
+use mathlib.Core.Bool.{Bool, _&&_}
+use mathlib.Core.List.{List, _++_}
+use Prim.Native.Nat.{ℕ, zero, suc, _+_, _*_, _-_, _≤_, _<_}
+use lib.Dec.{ltb}
+use lib.ListN.{getD, set, take, drop, replicate}
+use Rattle.calendar.specs.Layout.{places}
+use Rattle.cluster.specs.declared.Known.{Known}
+use Rattle.cluster.specs.declared.Reader.{Reader}
+use Rattle.serving.specs.Bits.{sets}
+use Rattle.cluster.specs.Inputs.{pairAt}
+use Rattle.cluster.specs.Tick.{noReader, endsOf}
+use Rattle.script.specs.declared.operations.Reads.{Reads}
+use Rattle.script.specs.declared.Script.{Script}
+use Rattle.register.specs.Plan.{Read}
+use Rattle.answers.specs.Answers.{answerSize, answerBytes}
+use Rattle.answers.specs.Choosing.{highestOf, answerBy}
+use Rattle.reading.specs.declared.Reading.{Reading}
+
+-- of m reads, from read k on, those before r begin before tick u, and read r does not
+pub record Until (begun : List ℕ) (m k u r : ℕ) : Type 0 where
+  pub from : k ≤ r
+  pub few : r ≤ m
+  pub below : (i : ℕ) → k ≤ i → i < r → getD begun i 0 < u
+  pub next : r < m → u ≤ getD begun r 0
+
+-- read i of the table
+abbrev pub readAt : Reads → ℕ → Read
+readAt reads i = record { begun = getD (reads .begun) i 0; reader = getD (reads .reader) i 0 }
+
+-- the reads from .. to - 1 are there, and each has its reader
+pub record There (by : List ℕ) (from to : ℕ) : Type 0 where
+  pub ordered : from ≤ to
+  pub few : to ≤ 255
+  pub readers : (i : ℕ) → from ≤ i → i < to → (1 ≤ getD by i 0) × (getD by i 0 ≤ 4)
+
+-- ---- answers
+
+-- the bytes of read i's answer: its reader chooses of what it has noted
+abbrev pub chosenBytes : List Reader → Reads → Known → ℕ → ℕ → List ℕ
+chosenBytes readers reads known reply i =
+    answerBytes 16 (readAt reads i) (answerBy (pairAt known) (highestOf (sets (getD readers (getD (reads .reader) i 0 - 1) noReader .named)) reply (known .m)))
+
+-- the buffer with the answer i at its own five bytes
+abbrev pub placedAt : ℕ → List ℕ → List ℕ → List ℕ
+placedAt i bytes b = take (answerSize 16 * i) b ++ (bytes ++ drop (answerSize 16) (drop (answerSize 16 * i) b))
+
+-- with the answers from k on, n of them
+unfoldable pub placed : (ℕ → List ℕ) → ℕ → ℕ → List ℕ → List ℕ
+placed f k zero b = b
+placed f k (suc n) b = placedAt (k + n) (f (k + n)) (placed f k n b)
+
+-- ---- begins
+
+-- a reader whose read ends in this tick and has noted nothing
+abbrev pub freshReader : ℕ → Reader
+freshReader end = record { end = end; named = replicate places 0 }
+
+-- the readers with those of the reads from k on, n of them, set up
+unfoldable pub begunBy : List ℕ → ℕ → ℕ → ℕ → List Reader → List Reader
+begunBy by end k zero rs = rs
+begunBy by end k (suc n) rs = set (begunBy by end k n rs) (getD by (k + n) 0 - 1) (freshReader end)
+
+-- ---- both in a tick
+
+-- read k, of m, begins before tick u
+abbrev pub isBefore : List ℕ → ℕ → ℕ → ℕ → Bool
+isBefore begun m k u = ltb k m && ltb (getD begun k 0) u
+
+-- what is needed of the script and of the reads so far
+pub record Begun (r : Script) (p : Reading) : Type 0 where
+  pub table : There (r .reads .reader) 0 (r .reads .m)
+  pub pairs : r .writes .known .m ≤ places
+  pub begun : p .begun ≤ r .reads .m
+  pub answered : p .answered ≤ r .reads .m
+
+-- the reads that end in tick t are answered, those that begin in it are set up
+pub record WentOn (r : Script) (t : ℕ) (p q : Reading) (answers₀ answers₁ : List ℕ) : Type 0 where
+  pub ended : Until (r .reads .begun) (r .reads .m) (p .answered) (t + 1 - 2 * r .rules .delta) (q .answered)
+  pub began : Until (r .reads .begun) (r .reads .m) (p .begun) (t + 1) (q .begun)
+  pub answers : answers₁ ≡ placed (chosenBytes (p .readers) (r .reads) (r .writes .known) (r .rules .reply)) (p .answered) (q .answered - p .answered) answers₀
+  pub readers : q .readers ≡ begunBy (r .reads .reader) (t + 2 * r .rules .delta) (p .begun) (q .begun - p .begun) (p .readers)
+  pub ends : q .ends ≡ endsOf (q .readers)

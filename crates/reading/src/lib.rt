@@ -1,0 +1,203 @@
+// 'Reads end, then reads begin': the table has the reads in the order of their begins, and so of their ends.
+ghost use mathlib.Core.Path.{_≡_};
+ghost use mathlib.Core.Bool.{_||_};
+ghost use mathlib.Core.List.{_++_};
+ghost use Prim.Native.Nat.{_+_, _*_, _-_, _≤_, _<_};
+ghost use lib.ListN.{length, drop};
+ghost use Rattle.calendar.specs.Layout.{places};
+ghost use Rattle.serving.specs.Bits.{sets};
+ghost use Rattle.cluster.specs.Inputs.{pairAt};
+ghost use Rattle.cluster.specs.Tick.{endsOf};
+ghost use Rattle.answers.specs.Answers.{answerSize, answerBytes};
+ghost use Rattle.answers.specs.Choosing.{highestOf, answerBy};
+ghost use Rattle.reading.specs.Reading.{Until, There, chosenBytes, placed, begunBy, isBefore, Begun, WentOn};
+use calendar::PLACES;
+use cluster::Known;
+use cluster::Reader;
+use cluster::tick;
+use plan::header::Shape;
+use script::Script;
+use script::operations::TABLE_READS;
+use serving::READERS;
+
+// The readers, the ticks in which their last reads end, and how many reads have begun and been answered.
+pub struct Reading {
+    pub readers: [Reader; READERS],
+    pub ends: [u8; READERS],
+    pub begun: usize,
+    pub answered: usize,
+}
+
+// A byte as a count.
+pub fn size_of(x: u8) -> usize
+    ensures { λ r. ⌜ r ≡ x ⌝ }
+{
+    x as usize
+}
+
+// No read yet.
+pub fn none(readers: [Reader; READERS]) -> Reading
+    ensures { λ r. ⌜ r ≡ record { readers = readers; ends = endsOf readers; begun = 0; answered = 0 } ⌝ }
+{
+    let ends = tick::ends_of(readers);
+    Reading {
+        readers,
+        ends,
+        begun: 0,
+        answered: 0,
+    }
+}
+
+// The first read from read k on that begins in tick u or later.
+pub fn first_from(begun: &[u8; TABLE_READS], m: usize, k: usize, u: usize) -> usize
+    requires { ⌜ (k ≤ m) × (m ≤ 255) ⌝ }
+    ensures { λ r. ⌜ Until (now (begun .entry)) m k u r ⌝ }
+{
+    let mut i = k;
+    while i < m {
+        if u <= size_of(begun[i]) {
+            return i;
+        }
+        i += 1;
+    }
+    m
+}
+
+// Writes the answer of a read at the start of its part of the answer buffer: its reader chooses of what it has noted.
+fn answer(out: &mut [u8], names: [u16; PLACES], known: Known, reply: u32, begun: u8, reader: u8)
+    requires { ⌜ (answerSize 16 ≤ length (now out)) × (known .m ≤ places) ⌝ }
+    ensures { λ _. ⌜ now (out .exit) ≡ answerBytes 16 (record { begun = begun; reader = reader }) (answerBy (pairAt known) (highestOf (sets names) reply (known .m))) ++ drop (answerSize 16) (now (out .entry)) ⌝ }
+{
+    let choice = answers::choose::chosen(names, known.m, reply);
+    if !choice.found {
+        answers::write(out, begun, reader, 0, 0, 0);
+        return;
+    }
+    let number = choice.number as usize;
+    answers::write(
+        out,
+        begun,
+        reader,
+        known.values[number],
+        choice.number,
+        choice.count,
+    );
+}
+
+// Writes the answers of the reads from .. to - 1, each at its own five bytes.
+pub fn end_all(
+    answers: &mut [u8],
+    readers: [Reader; READERS],
+    script: Script,
+    from: usize,
+    to: usize,
+)
+    requires { ⌜ There (script .reads .reader) from to × (script .writes .known .m ≤ places) × (answerSize 16 * to ≤ length (now answers)) ⌝ }
+    ensures { λ _. ⌜ now (answers .exit) ≡ placed (chosenBytes readers (script .reads) (script .writes .known) (script .rules .reply)) from (to - from) (now (answers .entry)) ⌝ }
+{
+    let reads = script.reads;
+    let writes = script.writes;
+    let known = writes.known;
+    let reply = script.rules.reply;
+    let mut i = from;
+    while i < to {
+        let reader = reads.reader[i];
+        let begun = reads.begun[i];
+        let r = readers[size_of(reader) - 1];
+        let names = r.named;
+        answer(
+            &mut answers[Shape::ANSWER_BYTES * i..],
+            names,
+            known,
+            reply,
+            begun,
+            reader,
+        );
+        i += 1;
+    }
+}
+
+// The readers of the reads from .. to - 1 have noted nothing yet, and their reads end in tick `end`.
+pub fn begin_all(
+    readers: [Reader; READERS],
+    by: &[u8; TABLE_READS],
+    from: usize,
+    to: usize,
+    end: u8,
+) -> [Reader; READERS]
+    requires { ⌜ There (now by) from to ⌝ }
+    ensures { λ r. ⌜ r ≡ begunBy (now (by .entry)) end from (to - from) readers ⌝ }
+{
+    let named = [0u16; PLACES];
+    let fresh = Reader { end, named };
+    let mut rs = readers;
+    let mut i = from;
+    while i < to {
+        let x = size_of(by[i]) - 1;
+        rs[x] = fresh;
+        i += 1;
+    }
+    rs
+}
+
+// The reads that begin before it end by tick t.
+fn ended_by(t: u8, delta: u8) -> usize
+    ensures { λ r. ⌜ r ≡ t + 1 - 2 * delta ⌝ }
+{
+    let next = size_of(t) + 1;
+    let lasts = 2 * size_of(delta);
+    if next < lasts {
+        return 0;
+    }
+    next - lasts
+}
+
+// Does read k, of m, begin before tick u.
+fn is_before(begun: &[u8; TABLE_READS], m: usize, k: usize, u: usize) -> bool
+    requires { ⌜ m ≤ 255 ⌝ }
+    ensures { λ r. ⌜ r ≡ isBefore (now (begun .entry)) m k u ⌝ }
+{
+    if m <= k {
+        return false;
+    }
+    size_of(begun[k]) < u
+}
+
+// Does the next read begin in tick t, or the next one that is open end in it. In most ticks: no.
+pub fn is_due(
+    begun: &[u8; TABLE_READS],
+    m: usize,
+    next: usize,
+    first: usize,
+    t: u8,
+    delta: u8,
+) -> bool
+    requires { ⌜ m ≤ 255 ⌝ }
+    ensures { λ r. ⌜ r ≡ isBefore (now (begun .entry)) m next (t + 1) || isBefore (now (begun .entry)) m first (t + 1 - 2 * delta) ⌝ }
+{
+    if is_before(begun, m, next, size_of(t) + 1) {
+        return true;
+    }
+    is_before(begun, m, first, ended_by(t, delta))
+}
+
+// 'Reads end, then reads begin' in tick t.
+pub fn go_on(r: Reading, answers: &mut [u8], script: Script, t: u8) -> Reading
+    requires { ⌜ Begun script r × (t < 128) × (script .rules .delta ≤ 15) × (answerSize 16 * script .reads .m ≤ length (now answers)) ⌝ }
+    ensures { λ q. ⌜ WentOn script t r q (now (answers .entry)) (now (answers .exit)) ⌝ }
+{
+    let reads = script.reads;
+    let delta = script.rules.delta;
+    let readers = r.readers;
+    let ended = first_from(&reads.begun, reads.m, r.answered, ended_by(t, delta));
+    end_all(answers, readers, script, r.answered, ended);
+    let began = first_from(&reads.begun, reads.m, r.begun, size_of(t) + 1);
+    let after = begin_all(readers, &reads.reader, r.begun, began, t + 2 * delta);
+    let ends = tick::ends_of(after);
+    Reading {
+        readers: after,
+        ends: ends,
+        begun: began,
+        answered: ended,
+    }
+}
