@@ -11,7 +11,7 @@ use lib.Dec.{T, eqb, leb, ltb, eqb→eq, eqb-refl, leb→le, ltb→lt}
 use lib.ListN.{getD}
 use borrow.Author.Tests.{lt-ltb, le-ltb, le-leb, lt-leb}
 use Rattle.register.specs.Lists.{anyUpTo}
-use Rattle.register.proofs.Logic.{and-l, and-r, or-e}
+use Rattle.register.proofs.Logic.{and-l, and-r, or-e, or-comm}
 use Rattle.calendar.specs.Layout.{rowOf}
 use Rattle.calendar.specs.View.{SamePast, Posted}
 use Rattle.calendar.specs.Posts.{inRow}
@@ -57,12 +57,6 @@ unfolding anyUpTo
 none-from f to zero h = refl
 none-from f to (suc m) h = rw (lt-leb to m (omega arith), none-from f to m (omega arith))
 
-or-turn : (a b : Bool) → a || b ≡ b || a
-or-turn true true = refl
-or-turn true false = refl
-or-turn false true = refl
-or-turn false false = refl
-
 pub entry-still : (a r : List ℕ) (e k : ℕ) → SamePast a r → entryAt r e k ≡ entryAt a e k
 entry-still a r e k P = P .past (entriesAt + 8 * e + k) (omega arith)
 
@@ -84,7 +78,7 @@ module _ (ends : List ℕ) (n : ℕ) (a : List ℕ) (from : ℕ) where
         add-one e,
         le-leb from e h,
       )
-      (or-turn (forges ends n a from e x j k) (forgedEntry ends n a e x j k)))
+      (or-comm (forges ends n a from e x j k) (forgedEntry ends n a e x j k)))
 
 -- ---- the rows of the sixteen ticks after t
 

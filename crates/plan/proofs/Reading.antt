@@ -9,6 +9,7 @@ use native.Mathlib.Numerals.{add-one}
 use native.Mathlib.Omega.{arith}
 use lib.Dec.{eqb}
 use lib.ListN.{length, length-append}
+use Rattle.register.proofs.Logic.{or-comm}
 use Rattle.register.specs.Lists.{count, one-if, anyUpTo, any, filter, tab, tabFrom}
 use Rattle.register.specs.Plan.{Read}
 use Rattle.register.proofs.Lists.{any-append}
@@ -52,12 +53,6 @@ length-reads (suc n) g = ap length (reads-last n g) ∙ length-append (readsFrom
     go : (b : Bool) → count (λ j. isRead (g j)) n + length (cond b (readOf (g n) ∷ []) []) ≡ one-if b + count (λ j. isRead (g j)) n
     go true = omega arith
     go false = omega arith
-
-or-comm : (a b : Bool) → a || b ≡ b || a
-or-comm true true = refl
-or-comm true false = refl
-or-comm false true = refl
-or-comm false false = refl
 
 pub any-reads : (p : Read → Bool) (n : ℕ) (g : ℕ → Operation) → any p (readsFrom (tab n g)) ≡ anyUpTo n (λ j. isRead (g j) && p (readOf (g j)))
 unfolding anyUpTo any readsFrom filter tabFrom

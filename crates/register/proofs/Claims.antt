@@ -10,7 +10,7 @@ use lib.Dec.{T, leb, eqb, eqb→eq, eqb-refl, leb→le}
 use Rattle.register.specs.Lists.{count, anyUpTo, flat, any, In, member}
 use Rattle.register.specs.Plan.{Plan, echoQuorum, replyQuorum}
 use Rattle.register.specs.Server.{Claim, claimOf, has, pairsOf, quorum}
-use Rattle.register.proofs.Logic.{and-l, and-r, and-i, or-e, or-l}
+use Rattle.register.proofs.Logic.{and-l, and-r, and-i, or-e, or-l, or-comm}
 use Rattle.register.proofs.Lists.{any-in, in-any, any-append, in-map, map-in, in-distinct, distinct-in}
 use Rattle.register.proofs.Counting.{count-mono, count-cong, count-some}
 
@@ -50,17 +50,11 @@ has-claims j p i (x ∷ ps) = go (eqb x p) (eqb j i) (member p ps) (has-claims j
     go true false false e = e
     go false b c e = e
 
-or-swap : (a b : Bool) → a || b ≡ b || a
-or-swap true true = refl
-or-swap true false = refl
-or-swap false true = refl
-or-swap false false = refl
-
 -- a flat list has what one of its parts has
 pub has-flat : (n : ℕ) (g : ℕ → List Claim) (p i : ℕ) → has (flat n g) p i ≡ anyUpTo n (λ u. has (g u) p i)
 unfolding flat anyUpTo
 has-flat zero g p i = has-nil p i
-has-flat (suc n) g p i = rw (has-append (flat n g) (g n) p i, has-flat n g p i) (or-swap (anyUpTo n (λ u. has (g u) p i)) (has (g n) p i))
+has-flat (suc n) g p i = rw (has-append (flat n g) (g n) p i, has-flat n g p i) (or-comm (anyUpTo n (λ u. has (g u) p i)) (has (g n) p i))
 
 -- the pairs named
 pub in-pairsOf : (c : Claim) (cs : List Claim) → In c cs → In (c .pair) (pairsOf cs)

@@ -32,6 +32,12 @@ pub or-r : (a b : Bool) → T b → T (a || b)
 or-r true b t = tt
 or-r false b t = t
 
+pub or-comm : (a b : Bool) → a || b ≡ b || a
+or-comm true true = refl
+or-comm true false = refl
+or-comm false true = refl
+or-comm false false = refl
+
 -- a test decides
 pub test : (b : Bool) → T b ⊎ T (not b)
 test true = inl tt

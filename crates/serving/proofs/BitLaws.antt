@@ -12,14 +12,9 @@ use lib.Seq.{getD-set-same, getD-set-other}
 use lib.Bits.{bitOr, bitAnd, or-shr, or-mod, or-lt, and-shr, and-mod}
 use lib.Count.{ones, ones-step}
 use borrow.Author.Tests.{eqb-true, eqb-false}
+use Rattle.register.proofs.Logic.{or-comm}
 use Rattle.register.specs.Lists.{count, one-if}
 use Rattle.calendar.specs.Bits.{bit}
-
-or-turn : (a b : Bool) → a || b ≡ b || a
-or-turn true true = refl
-or-turn true false = refl
-or-turn false true = refl
-or-turn false false = refl
 
 digit-or : (x y : ℕ) → x < 2 → y < 2 → eqb (bitOr x y) 1 ≡ eqb x 1 || eqb y 1
 digit-or zero zero h g = refl
@@ -105,7 +100,7 @@ marked xs id i h j k = go (eqb j id) refl
     go : (b : Bool) → eqb j id ≡ b → bit k (getD (set xs id (bitOr (getD xs id 0) (2 ^ i))) j 0) ≡ (b && eqb k i) || bit k (getD xs j 0)
     go true e =
         rw (eqb-true j id e, getD-set-same xs id (bitOr (getD xs id 0) (2 ^ i)) 0 h, bit-or k (getD xs id 0) (2 ^ i), bit-pow k i)
-        (or-turn (bit k (getD xs id 0)) (eqb k i))
+        (or-comm (bit k (getD xs id 0)) (eqb k i))
     go false e = rw (getD-set-other xs id j (bitOr (getD xs id 0) (2 ^ i)) 0 (eqb-false j id e))
 
 -- an empty table
