@@ -2,14 +2,11 @@
 ghost use mathlib.Core.Path.{_≡_};
 ghost use mathlib.Core.Bool.{_&&_, cond};
 ghost use Prim.Native.Nat.{_≤_};
-ghost use lib.Dec.{ltb};
-ghost use lib.ListN.{take};
-ghost use Rattle.register.specs.Server.{insert};
 ghost use Rattle.calendar.specs.Bits.{bit};
-ghost use Rattle.calendar.specs.Layout.{places, depth};
+ghost use Rattle.calendar.specs.Layout.{places};
 ghost use Rattle.serving.specs.Bits.{sets, listed};
 ghost use Rattle.serving.specs.Stored.{keys, pairOf, server, saidBy, deliveredTo};
-ghost use Rattle.serving.specs.Stages.{silent, within, quorate, taken, voting, deliveredOf, movedOn};
+ghost use Rattle.serving.specs.Stages.{silent, within, quorate, taken, voting, withWrite, deliveredOf, movedOn};
 use super::Delivery;
 use super::Row;
 use super::Rules;
@@ -109,28 +106,6 @@ pub fn quiet() -> Row
     }
 }
 
-// The store with the WRITE's pair, if it is a known one.
-fn with_write(
-    kept: [Stamped; DEPTH],
-    wrote: u8,
-    values: &[u16; PLACES],
-    m: usize,
-) -> [Stamped; DEPTH]
-    requires { ⌜ m ≤ places ⌝ }
-    ensures { λ r. ⌜ keys r ≡ cond (ltb wrote m) (take depth (insert (pairOf (now (values .entry)) wrote) (keys kept))) (keys kept) ⌝ }
-{
-    let at = wrote as usize;
-    if at < m {
-        let p = Stamped {
-            kept: true,
-            number: wrote,
-            value: values[at],
-        };
-        return store::insert(kept, p);
-    }
-    kept
-}
-
 // Stage 1 at a server that is not faulty and has noted its votes. `wrote` is the number of the WRITE that arrived, `asks` the readers whose READ
 // arrived; `live` lacks the readers whose read began in the last tick. Only the pairs low .. high - 1 got votes: a settled server has taken in
 // the others.
@@ -153,7 +128,8 @@ pub fn deliver(
     let before = s.kept;
     let fresh = s.fresh;
     let old = s.old;
-    let first = with_write(before, wrote, values, m);
+    let wrote_to = s.take_write(wrote, values, m);
+    let first = wrote_to.kept;
     let kept = take_in(first, fresh, old, values, low, high, m, rules);
     let pending = (s.pending & live) | asks;
     let readers = replied(
@@ -172,6 +148,23 @@ pub fn deliver(
 }
 
 impl Server {
+    // The WRITE's pair, if it is a known one.
+    fn take_write(self, wrote: u8, values: &[u16; PLACES], m: usize) -> Self
+        requires { ⌜ m ≤ places ⌝ }
+        ensures { λ r. ⌜ server r ≡ withWrite (pairOf (now (values .entry))) m wrote (server self) ⌝ }
+    {
+        let at = wrote as usize;
+        if at < m {
+            let p = Stamped {
+                kept: true,
+                number: wrote,
+                value: values[at],
+            };
+            return self.write(p);
+        }
+        self
+    }
+
     // Stage 3 at a movement, where the placement makes it faulty or not.
     pub fn moved(self, two: bool, faulty: bool, t: u8) -> Self
         ensures { λ r. ⌜ server r ≡ movedOn two faulty t (server self) ⌝ }
