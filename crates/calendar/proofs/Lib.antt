@@ -1,5 +1,6 @@
 pub mod Laws
 pub mod Posting
+pub mod Stores
 pub mod Clearing
 pub mod Sendings
 pub mod Spans

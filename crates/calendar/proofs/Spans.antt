@@ -15,7 +15,7 @@ use Rattle.calendar.specs.Layout.{places, rows, receivers, calendarSize,
 use Rattle.calendar.specs.View.{SamePast, Inside, covers, Spanned, Posted, Cleared, Empty}
 use Rattle.calendar.specs.Posts.{Messages, inRow, dueIn, toOthers, arrivalOf}
 use Rattle.calendar.proofs.Laws.{and-both, or-either}
-use Rattle.calendar.proofs.Posting.{same-row}
+use Rattle.calendar.proofs.Stores.{same-row}
 
 -- ---- the spans
 

@@ -22,14 +22,14 @@ abbrev pub vacant : Stamped
 vacant = record { kept = false; number = 0; value = 0 }
 
 -- of the first n places of the store, those before the first empty one hold pair j
-unfoldable pub heldIn : ℕ → List Stamped → ℕ → Bool
-heldIn zero ps j = false
-heldIn (suc n) [] j = false
-heldIn (suc n) (p ∷ ps) j = p .kept && (eqb j (p .number) || heldIn n ps j)
+unfoldable pub amongFirst : ℕ → List Stamped → ℕ → Bool
+amongFirst zero ps j = false
+amongFirst (suc n) [] j = false
+amongFirst (suc n) (p ∷ ps) j = p .kept && (eqb j (p .number) || amongFirst n ps j)
 
 -- the store keeps pair j
-abbrev pub held : List Stamped → ℕ → Bool
-held kept j = heldIn depth kept j
+abbrev pub among : List Stamped → ℕ → Bool
+among kept j = amongFirst depth kept j
 
 -- the tick in which what is sent reaches server b: the delays are nibbles, the last server's lowest
 unfoldable pub arrivalOf : Sending → ℕ → ℕ

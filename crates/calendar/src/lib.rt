@@ -6,7 +6,7 @@ ghost use lib.ListN.{length};
 ghost use Rattle.bits.specs.Field.{fieldOf};
 ghost use Rattle.calendar.specs.Layout.{receivers, rows, places, calendarSize, rowOf, cellWord, lowOf, highOf, sendersOf};
 ghost use Rattle.calendar.specs.View.{Posted, Cleared, Empty, SamePast};
-ghost use Rattle.calendar.specs.Posts.{inRow, held, toOthers, Sendable, Sent, arrivalOf, widened};
+ghost use Rattle.calendar.specs.Posts.{inRow, among, toOthers, Sendable, Sent, arrivalOf, widened};
 
 pub mod words;
 
@@ -171,7 +171,7 @@ pub fn post(work: &mut [u8], row: usize, j: u8, i: usize)
 // Server i's messages with the pairs that it keeps are under way.
 pub fn post_kept(work: &mut [u8], row: usize, kept: [Stamped; DEPTH], i: usize)
     requires { ⌜ (row < rows) × (i < 16) × (calendarSize ≤ length (now work)) ⌝ }
-    ensures { λ _. ⌜ Posted (now (work .entry)) (now (work .exit)) (inRow row i (held kept)) ⌝ }
+    ensures { λ _. ⌜ Posted (now (work .entry)) (now (work .exit)) (inRow row i (among kept)) ⌝ }
 {
     let mut q: usize = 0;
     while q < DEPTH {
@@ -203,7 +203,7 @@ pub fn post_vote(work: &mut [u8], sending: Sending, j: u8)
 // A server's votes for the pairs that it keeps are under way to all others.
 pub fn post_votes(work: &mut [u8], sending: Sending, kept: [Stamped; DEPTH])
     requires { ⌜ Sendable sending × (sending .sender < 16) × (calendarSize ≤ length (now work)) ⌝ }
-    ensures { λ _. ⌜ Posted (now (work .entry)) (now (work .exit)) (toOthers sending (held kept)) ⌝ }
+    ensures { λ _. ⌜ Posted (now (work .entry)) (now (work .exit)) (toOthers sending (among kept)) ⌝ }
 {
     let n = sending.n;
     let i = sending.sender;

@@ -14,7 +14,7 @@ use Rattle.register.proofs.Counting.{anyUpTo-i}
 use Rattle.calendar.specs.Layout.{receivers, rows, places, rowOf, highOf, sender}
 use Rattle.calendar.specs.View.{SamePast, Spanned, Cleared}
 use Rattle.calendar.proofs.Laws.{and-none, or-none}
-use Rattle.calendar.proofs.Posting.{same-row}
+use Rattle.calendar.proofs.Stores.{same-row}
 use Rattle.calendar.proofs.Spans.{cleared-cells, cleared-spanned}
 use Rattle.cluster.specs.declared.Reader.{Reader}
 use Rattle.cluster.specs.Tick.{noReader, anyHeard, Noted, Hearing, Heard}

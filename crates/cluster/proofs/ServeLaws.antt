@@ -14,9 +14,9 @@ use Rattle.bits.proofs.Laws.{field-lt}
 use Rattle.calendar.specs.Bits.{bit}
 use Rattle.calendar.specs.Layout.{receivers, rows, places, rowOf, sender}
 use Rattle.calendar.specs.View.{SamePast, Spanned, Posted, Cleared}
-use Rattle.calendar.specs.Posts.{held}
+use Rattle.calendar.specs.Posts.{among}
 use Rattle.calendar.proofs.Laws.{and-none, or-none, or-assoc, ltb-more}
-use Rattle.calendar.proofs.Posting.{same-row}
+use Rattle.calendar.proofs.Stores.{same-row}
 use Rattle.calendar.proofs.Spans.{posted-spanned, cleared-cells, cleared-spanned}
 use Rattle.serving.specs.declared.Server.{Server}
 use Rattle.cluster.specs.declared.Reader.{Reader}
@@ -67,7 +67,7 @@ module _ (plan : List ℕ) (links : Links) (n t : ℕ) (ends : List ℕ) (i : �
       late = leb (reaches plan links n t ends i row q) (getD ends (x % receivers - 16) 0)
 
       go : (a b c : Bool) → leb 16 (x % receivers) ≡ a → ltb q (links .parties) ≡ c
-          → a && (b && (c && (late && (eqb (reaches plan links n t ends i row q % 16) (x / receivers) && held (row .kept) j)))) ≡ false
+          → a && (b && (c && (late && (eqb (reaches plan links n t ends i row q % 16) (x / receivers) && among (row .kept) j)))) ≡ false
       go false b c p r = refl
       go true false c p r = refl
       go true true false p r = refl

@@ -31,7 +31,8 @@ use Rattle.cluster.specs.Tick.{Ticked, noReader, endsOf, feedOf}
 use Rattle.cluster.specs.Settled.{CalmlyTicked}
 use Rattle.states.specs.Way.{forgedAs}
 use Rattle.serving.proofs.BitLaws.{unmarked}
-use Rattle.states.proofs.ReaderLaws.{Begins, Forges, end-of}
+use Rattle.states.proofs.ReaderLaws.{Begins, Forges}
+use Rattle.states.proofs.RowLaws.{end-of}
 use Rattle.states.proofs.StateLaws.{calm, noted-end, end-open, end-idle, next-server, next-state}
 use Rattle.script.specs.declared.Script.{Script}
 use Rattle.script.specs.Forged.{entriesEnd, entryAt, Entry, Starts}

@@ -21,7 +21,7 @@ use Rattle.serving.specs.Stored.{server, absent}
 use Rattle.states.specs.State.{Rep}
 use Rattle.cluster.specs.Tick.{Hearing, Heard, noReader, endsOf, feedOf}
 use Rattle.cluster.specs.Settled.{CalmlyServed, CalmlyTicked}
-use Rattle.states.proofs.ReaderLaws.{end-of}
+use Rattle.states.proofs.RowLaws.{end-of}
 use Rattle.cluster.proofs.ServeLaws.{sized-after, calmly-ticked}
 use Rattle.script.specs.declared.Script.{Script}
 use Rattle.script.specs.Forged.{entriesEnd}

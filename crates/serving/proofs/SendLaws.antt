@@ -14,9 +14,10 @@ use Rattle.calendar.specs.declared.Stamped.{Stamped}
 use Rattle.calendar.specs.Bits.{bit}
 use Rattle.calendar.specs.Layout.{receivers, rows, places, rowOf}
 use Rattle.calendar.specs.View.{Posted}
-use Rattle.calendar.specs.Posts.{Messages, inRow, held, dueIn, toOthers, arrivalOf, Sent}
+use Rattle.calendar.specs.Posts.{Messages, inRow, among, dueIn, toOthers, arrivalOf, Sent}
 use Rattle.calendar.proofs.Laws.{and-none, or-none, ltb-more}
-use Rattle.calendar.proofs.Posting.{posted-eq, posted-trans, posted-none, same-row}
+use Rattle.calendar.proofs.Posting.{posted-eq, posted-trans, posted-none}
+use Rattle.calendar.proofs.Stores.{same-row}
 use Rattle.serving.specs.declared.Links.{Links}
 use Rattle.serving.specs.declared.Row.{Row}
 use Rattle.serving.specs.Links.{linkBit, delayAt, Linked}
@@ -90,13 +91,13 @@ module _ (plan : List ℕ) (links : Links) (n t : ℕ) (ends : List ℕ) (i : �
         posted-eq a b _ _ A
         (λ x j k l m. others-sent s (λ y. eqb y (row .wrote)) S x j k ∙ rw (e, ← or-none (eqb j (row .wrote))))
 
-    pub votes-echo : (c : List ℕ) → row .echoed ≡ true → Posted b c (toOthers s (held (row .kept)))
+    pub votes-echo : (c : List ℕ) → row .echoed ≡ true → Posted b c (toOthers s (among (row .kept)))
         → Posted a c (λ x j k. eqb k i && sendsVote plan links n t ends i row x j)
     unfolding sendsVote to-servers
     votes-echo c e K =
         posted-eq a c _ _ (posted-trans a b c _ _ A K)
-        (λ x j k l m. rw (others-sent s (λ y. eqb y (row .wrote)) S x j k, others-sent s (held (row .kept)) S x j k, e)
-        (join (eqb k i) (ltb (x % receivers) n) (not (eqb (x % receivers) i)) (eqb (reaches plan links n t ends i row (x % receivers) % 16) (x / receivers)) (eqb j (row .wrote)) (held (row .kept) j)))
+        (λ x j k l m. rw (others-sent s (λ y. eqb y (row .wrote)) S x j k, others-sent s (among (row .kept)) S x j k, e)
+        (join (eqb k i) (ltb (x % receivers) n) (not (eqb (x % receivers) i)) (eqb (reaches plan links n t ends i row (x % receivers) % 16) (x / receivers)) (eqb j (row .wrote)) (among (row .kept) j)))
       where
         join : (a b c d e f : Bool) → (a && (b && (c && (d && e)))) || (a && (b && (c && (d && f)))) ≡ a && (b && (c && (d && (e || f))))
         join true true true true e f = refl
@@ -121,7 +122,7 @@ module _ (plan : List ℕ) (links : Links) (n t : ℕ) (ends : List ℕ) (i : �
       ≡ bit y (row .readers)
       && (ltb (n + y) (links .parties)
       && (leb (reaches plan links n t ends i row (n + y)) (getD ends (y - 1) 0)
-      && (eqb (reaches plan links n t ends i row (n + y) % 16) (x / receivers) && held (row .kept) j)))
+      && (eqb (reaches plan links n t ends i row (n + y) % 16) (x / receivers) && among (row .kept) j)))
   unfolding sendsReply
   reply-at x j y e h =
       let p : 15 + y - 15 ≡ y = omega arith in
@@ -170,7 +171,7 @@ module _ (plan : List ℕ) (links : Links) (n t : ℕ) (ends : List ℕ) (i : �
 
     pub replies-sent : (w : List ℕ) → y < 5 → row .readers / 2 ^ y % 2 ≡ 1 → n + y < links .parties
         → reaches plan links n t ends i row (n + y) ≤ getD ends (y - 1) 0
-        → Posted r w (inRow (rowOf (reaches plan links n t ends i row (n + y)) (15 + y)) i (held (row .kept))) → Posted a w (repliesBelow (y + 1))
+        → Posted r w (inRow (rowOf (reaches plan links n t ends i row (n + y)) (15 + y)) i (among (row .kept))) → Posted a w (repliesBelow (y + 1))
     replies-sent w g u p l B = replies-more a r w y _ A B (λ x j k m. rw (same-row x at (15 + y) m (omega arith)) (go x j (eqb k i) (eqb (x % receivers) (15 + y)) refl))
       where
         e : bit y (row .readers) ≡ true
@@ -186,10 +187,10 @@ module _ (plan : List ℕ) (links : Links) (n t : ℕ) (ends : List ℕ) (i : �
         turn false false f = refl
 
         go : (x j : ℕ) (d c : Bool) → eqb (x % receivers) (15 + y) ≡ c
-            → (c && eqb (at % 16) (x / receivers)) && (d && held (row .kept) j) ≡ c && (d && sendsReply plan links n t ends i row x j)
+            → (c && eqb (at % 16) (x / receivers)) && (d && among (row .kept) j) ≡ c && (d && sendsReply plan links n t ends i row x j)
         go x j d false q = refl
         go x j d true q = rw (reply-at x j y (eqb-true (x % receivers) (15 + y) q) h, e, lt-ltb (n + y) (links .parties) p, le-leb at (getD ends (y - 1) 0) l)
-            (turn d (eqb (at % 16) (x / receivers)) (held (row .kept) j))
+            (turn d (eqb (at % 16) (x / receivers)) (among (row .kept) j))
 
   -- ---- both
 

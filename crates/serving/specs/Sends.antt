@@ -6,14 +6,14 @@ use lib.Dec.{eqb, leb, ltb}
 use lib.ListN.{getD}
 use Rattle.calendar.specs.Bits.{bit}
 use Rattle.calendar.specs.Layout.{receivers}
-use Rattle.calendar.specs.Posts.{held}
+use Rattle.calendar.specs.Posts.{among}
 use Rattle.serving.specs.declared.Links.{Links}
 use Rattle.serving.specs.declared.Row.{Row}
 use Rattle.serving.specs.Links.{delayAt}
 
 -- its votes: for the pair of a WRITE, and at an echo for the pairs that it keeps
 abbrev pub votesFor : Row → ℕ → Bool
-votesFor row j = eqb j (row .wrote) || (row .echoed && held (row .kept) j)
+votesFor row j = eqb j (row .wrote) || (row .echoed && among (row .kept) j)
 
 -- server i in tick t, among n servers; `ends` has the tick in which each reader's last read ends
 module _ (plan : List ℕ) (links : Links) (n t : ℕ) (ends : List ℕ) (i : ℕ) (row : Row) where
@@ -37,7 +37,7 @@ module _ (plan : List ℕ) (links : Links) (n t : ℕ) (ends : List ℕ) (i : �
       && (ltb (n + (x % receivers - 15)) (links .parties)
       && (leb (reaches (n + (x % receivers - 15))) (getD ends (x % receivers - 16) 0)
       && (eqb (reaches (n + (x % receivers - 15)) % 16) (x / receivers)
-      && held (row .kept) j))))
+      && among (row .kept) j))))
 
   abbrev pub sends : ℕ → ℕ → Bool
   sends x j = sendsVote x j || sendsReply x j

@@ -5,5 +5,7 @@ pub mod MoveLaws
 pub mod WayLaws
 pub mod VoteLaws
 pub mod ReplyLaws
+pub mod NotedLaws
+pub mod RowLaws
 pub mod ReaderLaws
 pub mod StateLaws

@@ -29,7 +29,7 @@ use Rattle.states.specs.State.{Open, Idle, Rep, State}
 use Rattle.cluster.specs.Settled.{Calm}
 use Rattle.cluster.proofs.Settled.{first-settled, settled-next}
 use Rattle.states.proofs.WayLaws.{none-any}
-use Rattle.states.proofs.VoteLaws.{ended, held-is, new-server, new-votes}
+use Rattle.states.proofs.VoteLaws.{ended, among-is, new-server, new-votes}
 use Rattle.states.proofs.ReaderLaws.{Begins, Forges, noted-end as reader-noted, hears-next, idle-now, way-next, none-next}
 
 -- the servers are settled, so that a tick may leave alone those that nothing reaches
@@ -55,15 +55,15 @@ module _ (P : Plan) (G : Good P) (F : Feed) (fit : Fits P (F .t) (F .plan) (F .r
   -- a read that ends in this tick: its reader has noted what the definitions say
   pub noted-end : (q : Read) → In q (P .reads) → F .t ≡ readEnd P q → (j i : ℕ) → j < F .known .m
       → sets (getD (r .readers) (q .reader - 1) noReader .named) j i ≡ (ltb i (P .n) && has (notedBy P q) (pairAt (F .known) j) i)
-  noted-end = reader-noted P G F fit K c r work D S (ended P G F fit K c r work D S) (held-is P G F fit K c r work D S)
+  noted-end = reader-noted P G F fit K c r work D S (ended P G F fit K c r work D S) (among-is P G F fit K c r work D S)
 
   module _ (after : List Reader) (B : Begins P (F .known .m) (F .t) (r .readers) after) where
     -- once the reads of this tick have begun: the ends of the readers
     pub end-open : (q : Read) → Open P (suc (F .t)) q → getD after (q .reader - 1) noReader .end ≡ readEnd P q
-    end-open = hears-next P G F fit K c r work D S (ended P G F fit K c r work D S) (held-is P G F fit K c r work D S) after B .end
+    end-open = hears-next P G F fit K c r work D S (ended P G F fit K c r work D S) (among-is P G F fit K c r work D S) after B .end
 
     pub end-idle : (q : Read) → In q (P .reads) → Idle P (suc (F .t)) (q .reader) → getD after (q .reader - 1) noReader .end ≤ F .t
-    end-idle = idle-now P G F fit K c r work D S (ended P G F fit K c r work D S) (held-is P G F fit K c r work D S) after B
+    end-idle = idle-now P G F fit K c r work D S (ended P G F fit K c r work D S) (among-is P G F fit K c r work D S) after B
 
   -- after stages 1 to 4 each server stands for its server
   pub next-server : (b : ℕ) → b < P .n → Rep P (pairAt (F .known)) (F .known .m) (suc (F .t)) (serverOf (cluster P (suc (F .t))) b) (server (getD (r .servers) b absent))
@@ -82,11 +82,11 @@ module _ (P : Plan) (G : Good P) (F : Feed) (fit : Fits P (F .t) (F .plan) (F .r
       votes = λ s b j i a z lb h.
           new-votes P G F fit K c r work D S s b (omega arith) (omega arith) lb j h i (sender then (rowOf s b) j i)
           (cells (rowOf s b) j i (omega (arith, K .servers)) (omega (arith, K .few)) ∙ rw (Y .votes s b j i (omega arith) (omega arith) lb h));
-      replies = way-next P G F fit K c r work D S (ended P G F fit K c r work D S) (held-is P G F fit K c r work D S) then f cells Y;
-      none = none-next P G F fit K c r work D S (ended P G F fit K c r work D S) (held-is P G F fit K c r work D S) then f cells Y;
+      replies = way-next P G F fit K c r work D S (ended P G F fit K c r work D S) (among-is P G F fit K c r work D S) then f cells Y;
+      none = none-next P G F fit K c r work D S (ended P G F fit K c r work D S) (among-is P G F fit K c r work D S) then f cells Y;
       spans = spans;
     };
-    readers = hears-next P G F fit K c r work D S (ended P G F fit K c r work D S) (held-is P G F fit K c r work D S) (n .readers) B;
+    readers = hears-next P G F fit K c r work D S (ended P G F fit K c r work D S) (among-is P G F fit K c r work D S) (n .readers) B;
   }
 
 -- ---- the start

@@ -26,7 +26,7 @@ use Rattle.register.proofs.Trace.{before, delivered, mid, end, before-suc, sent
 use Rattle.calendar.specs.declared.Stamped.{Stamped}
 use Rattle.calendar.specs.Bits.{bit}
 use Rattle.calendar.specs.Layout.{receivers, rows, places, depth, rowOf, sender}
-use Rattle.calendar.specs.Posts.{vacant, heldIn, held}
+use Rattle.calendar.specs.Posts.{vacant, amongFirst, among}
 use Rattle.calendar.proofs.Laws.{and-none, or-none}
 use Rattle.cluster.specs.declared.Cluster.{Cluster}
 use Rattle.serving.specs.declared.Rules.{Rules}
@@ -59,15 +59,15 @@ module _ (P : Plan) (g : ℕ → ℕ) (m : ℕ) (K : Knows P g m) where
       let w : j ≡ number = omega (arith, K .number j h) in rw w (eqb-refl number))
 
   -- the numbers before the first empty place are those of its pairs
-  pub held-names : (n : ℕ) (ps : List Stamped) → ((q : ℕ) → getD ps q vacant .value < 65536) → length ps ≤ n → AllKnown (keys ps) → (j : ℕ) → j < m → heldIn n ps j ≡ member (g j) (keys ps)
-  unfolding heldIn keys any
-  held-names zero [] s l k j h = refl
-  held-names (suc n) [] s l k j h = refl
-  held-names zero (p ∷ ps) s l k j h = absurd (omega arith)
-  held-names (suc n) (p ∷ ps) s l k j h = go (p .kept) k (λ q. held-names n ps (λ z. s (suc z)) (omega arith) q j h)
+  pub among-names : (n : ℕ) (ps : List Stamped) → ((q : ℕ) → getD ps q vacant .value < 65536) → length ps ≤ n → AllKnown (keys ps) → (j : ℕ) → j < m → amongFirst n ps j ≡ member (g j) (keys ps)
+  unfolding amongFirst keys any
+  among-names zero [] s l k j h = refl
+  among-names (suc n) [] s l k j h = refl
+  among-names zero (p ∷ ps) s l k j h = absurd (omega arith)
+  among-names (suc n) (p ∷ ps) s l k j h = go (p .kept) k (λ q. among-names n ps (λ z. s (suc z)) (omega arith) q j h)
     where
-      go : (c : Bool) → AllKnown (cond c (keyOf p ∷ keys ps) []) → (AllKnown (keys ps) → heldIn n ps j ≡ member (g j) (keys ps))
-          → c && (eqb j (p .number) || heldIn n ps j) ≡ member (g j) (cond c (keyOf p ∷ keys ps) [])
+      go : (c : Bool) → AllKnown (cond c (keyOf p ∷ keys ps) []) → (AllKnown (keys ps) → amongFirst n ps j ≡ member (g j) (keys ps))
+          → c && (eqb j (p .number) || amongFirst n ps j) ≡ member (g j) (cond c (keyOf p ∷ keys ps) [])
       go false q ih = refl
       go true q ih = rw (same-number (p .value) (p .number) j (s 0) h (q (keyOf p) (inl refl)), ih (λ z i. q z (inr i)))
 
@@ -196,11 +196,11 @@ module _ (P : Plan) (G : Good P) (F : Feed) (fit : Fits P (F .t) (F .plan) (F .r
         genuine-known P G g m K (suc t) p (reply-genuine P G (suc t) t b p q)
 
     -- the pairs of its store
-    pub held-is : (j : ℕ) → j < m → held (D .outs b .row .kept) j ≡ member (g j) (end P t b .sent .replyWith)
-    held-is j h = rw (ended .sent .pairs) (held-names P g m K depth (D .outs b .row .kept) (D .small b lb .1) (D .small b lb .0) sent-known j h)
+    pub among-is : (j : ℕ) → j < m → among (D .outs b .row .kept) j ≡ member (g j) (end P t b .sent .replyWith)
+    among-is j h = rw (ended .sent .pairs) (among-names P g m K depth (D .outs b .row .kept) (D .small b lb .1) (D .small b lb .0) sent-known j h)
 
     voted-is : (j : ℕ) → j < m → votesFor (D .outs b .row) j ≡ member (g j) (end P t b .sent .votes)
-    voted-is j h = rw (held-is j h, ended .sent .pairs) (sym (ended .sent .votes j h))
+    voted-is j h = rw (among-is j h, ended .sent .pairs) (sym (ended .sent .votes j h))
 
     pub new-server : Rep P g m (suc t) (serverOf (cluster P (suc t)) b) (server (getD (r .servers) b absent))
     unfolding before

@@ -7,13 +7,13 @@ use borrow.Author.Needs.{needs}
 use borrow.Author.Tests.{not-true, not-false}
 use Rattle.calendar.specs.Layout.{depth}
 use Rattle.calendar.specs.View.{Posted}
-use Rattle.calendar.specs.Posts.{inRow, heldIn}
-use Rattle.calendar.proofs.Posting.{Full, full-more, kept-first, kept-more, kept-stop}
+use Rattle.calendar.specs.Posts.{inRow, amongFirst}
+use Rattle.calendar.proofs.Stores.{Full, full-more, kept-first, kept-more, kept-stop}
 use Rattle.calendar.proofs.post_kept.Statement.{statement}
 use Rattle.calendar.proofs.post_kept.Tie as tie
 
 abbrev Inv-loop : tie.InvT-loop
-Inv-loop work₀ row i kept q₀ work q = (q ≤ depth) × (length kept ≡ depth) × Full q kept × Posted work₀ work (inRow row i (heldIn q kept))
+Inv-loop work₀ row i kept q₀ work q = (q ≤ depth) × (length kept ≡ depth) × Full q kept × Posted work₀ work (inRow row i (amongFirst q kept))
 
 abbrev μ-loop : tie.MeasureT-loop
 μ-loop work₀ row i kept q₀ work q = depth - q

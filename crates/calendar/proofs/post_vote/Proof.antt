@@ -7,7 +7,7 @@ use Prim.Native.Nat.{_-_, _≤_, _<_}
 use lib.Dec.{eqb}
 use Rattle.calendar.specs.View.{Posted}
 use Rattle.calendar.specs.Posts.{toFirst}
-use Rattle.calendar.proofs.Posting.{others-first, others-yes, others-self}
+use Rattle.calendar.proofs.Stores.{others-first, others-yes, others-self}
 use Rattle.calendar.proofs.post_vote.Statement.{statement}
 use Rattle.calendar.proofs.post_vote.Tie as tie
 

@@ -5,13 +5,13 @@ use mathlib.Core.Path.{_≡_}
 use mathlib.Core.Logic.{inl, inr}
 use Prim.Native.Nat.{_-_, _≤_, _<_}
 use Rattle.calendar.specs.View.{Posted}
-use Rattle.calendar.specs.Posts.{toFirst, held}
-use Rattle.calendar.proofs.Posting.{others-first, others-yes, others-self}
+use Rattle.calendar.specs.Posts.{toFirst, among}
+use Rattle.calendar.proofs.Stores.{others-first, others-yes, others-self}
 use Rattle.calendar.proofs.post_votes.Statement.{statement}
 use Rattle.calendar.proofs.post_votes.Tie as tie
 
 abbrev Inv-loop : tie.InvT-loop
-Inv-loop work₀ sending kept n i b₀ work b = (b ≤ n) × Posted work₀ work (toFirst sending b (held kept))
+Inv-loop work₀ sending kept n i b₀ work b = (b ≤ n) × Posted work₀ work (toFirst sending b (among kept))
 
 abbrev μ-loop : tie.MeasureT-loop
 μ-loop work₀ sending kept n i b₀ work b = n - b
