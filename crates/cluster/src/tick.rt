@@ -161,17 +161,10 @@ fn turn(
     let status = x.status;
     let mut row = stages::quiet();
     if !servers::is_faulty(status) {
-        let delivery = stages::deliver(
-            x,
-            arrivals.wrote[b],
-            arrivals.asks[b],
-            arrivals.live,
-            &values,
-            low,
-            high,
-            known.m,
-            rules,
-        );
+        let wrote = arrivals.wrote[b];
+        let asks = arrivals.asks[b];
+        let live = arrivals.live;
+        let delivery = stages::deliver(x, wrote, asks, live, &values, low, high, known.m, rules);
         row = delivery.row;
         let kept = row.kept;
         x.kept = kept;

@@ -45,11 +45,11 @@ quiet-requires c κs = search needs
 is-faulty-requires : tie.Need-is-faulty-requires
 is-faulty-requires c κs = search needs
 
-element-copy-out-deliver : tie.Need-element-copy-out-deliver
-element-copy-out-deliver c = let s = c .before .before .before .before .before .before .before .before .before .before .before .before .before .before .before .before .before in omega (arith, s .pre .0, s .pre .1 .servers)
+element-copy-out-wrote : tie.Need-element-copy-out-wrote
+element-copy-out-wrote c = let s = c .before .before .before .before .before .before .before .before .before .before .before .before .before .before .before .before .before in omega (arith, s .pre .0, s .pre .1 .servers)
 
-element-copy-out-deliver-2 : tie.Need-element-copy-out-deliver-2
-element-copy-out-deliver-2 c = let s = c .before .before .before .before .before .before .before .before .before .before .before .before .before .before .before .before .before .before in omega (arith, s .pre .0, s .pre .1 .servers)
+element-copy-out-asks : tie.Need-element-copy-out-asks
+element-copy-out-asks c = let s = c .before .before .before .before .before .before .before .before .before .before .before .before .before .before .before .before .before .before in omega (arith, s .pre .0, s .pre .1 .servers)
 
 deliver-requires : tie.Need-deliver-requires
 deliver-requires c κs = let s = c .before .before .before .before .before .before .before .before .before .before .before .before .before .before .before .before .before .before .before .before in (s .pre .1 .pairs, s .pre .1 .echo, s .pre .1 .reply)
@@ -141,8 +141,8 @@ turn-spec =
     vote-requires
     quiet-requires
     is-faulty-requires
-    element-copy-out-deliver
-    element-copy-out-deliver-2
+    element-copy-out-wrote
+    element-copy-out-asks
     deliver-requires
     is-cured-at-requires
     cure-end-requires
