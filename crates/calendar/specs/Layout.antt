@@ -20,6 +20,10 @@ rows = 320
 abbrev pub places : ℕ
 places = 65
 
+-- a number that no known pair has
+abbrev pub noPair : ℕ
+noPair = 255
+
 -- how many pairs a server keeps
 abbrev pub depth : ℕ
 depth = 3

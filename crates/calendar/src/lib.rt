@@ -13,6 +13,9 @@ pub mod words;
 // How many pairs may be known.
 pub const PLACES: usize = 65;
 
+// A number that no known pair has.
+pub const NO_PAIR: u8 = 255;
+
 // How many pairs a server keeps (document 01: three).
 pub const DEPTH: usize = 3;
 
@@ -113,7 +116,8 @@ pub fn senders(work: &[u8], row: usize, j: usize) -> u16
     words::get(work, cell(row, j))
 }
 
-fn size_of(x: u8) -> usize
+// A byte as a count.
+pub fn size_of(x: u8) -> usize
     ensures { λ r. ⌜ (r ≡ x) × (r < 256) ⌝ }
 {
     x as usize

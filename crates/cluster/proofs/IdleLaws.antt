@@ -7,11 +7,10 @@ use Prim.Native.Nat.{ℕ, _-_, _/_, _%_, _≤_, _<_}
 use native.Mathlib.Omega.{arith}
 use lib.Bits.{bitAnd}
 use lib.Dec.{eqb, leb, ltb}
-use lib.ListN.{getD}
-use borrow.Author.Tests.{le-ltb, ne-eqb, eqb-true, ltb-false, not-false}
+use borrow.Author.Tests.{le-ltb, ne-eqb, eqb-true, not-false}
 use Rattle.register.specs.Server.{Status, isFaulty, isCorrect, curedAt}
 use Rattle.calendar.specs.Bits.{bit}
-use Rattle.calendar.specs.Layout.{receivers, rows, places, rowOf, lowOf, highOf, sender}
+use Rattle.calendar.specs.Layout.{receivers, rows, places, noPair, rowOf, lowOf, highOf, sender}
 use Rattle.calendar.specs.View.{Inside, Spanned, Cleared}
 use Rattle.calendar.proofs.Laws.{and-none, or-none}
 use Rattle.calendar.proofs.Spans.{cleared-cells, cleared-spanned}
@@ -24,7 +23,9 @@ use Rattle.cluster.specs.declared.Movement.{Movement}
 use Rattle.serving.specs.Sends.{reaches, sendsVote, sendsReply, sends}
 use Rattle.serving.specs.Stored.{Small, Plain, Both, server, saidBy, statusOf, keys, pairOf}
 use Rattle.serving.specs.Stages.{nobody, voting, isNew, anyNew, taken, withWrite, repliesTo, stageOne, stageTwo, stagesOf}
+use Rattle.cluster.specs.Inputs.{isAsked, wroteAt, asksAt}
 use Rattle.cluster.specs.Settled.{Settled, called, reached}
+use Rattle.cluster.proofs.Asking.{none-wrote, none-asks}
 use Rattle.cluster.specs.Tick.{Feed, Emptied, Turned}
 use Rattle.serving.proofs.BitLaws.{bit-zero, bit-and}
 use Rattle.serving.proofs.StoreLaws.{same-as-itself, some-new}
@@ -38,12 +39,12 @@ neither true b e = absurd (never e)
     never : true ≡ false → ⊥
     never e = let z : _≡_ {A = ℕ} 1 0 = ap (λ (x : Bool). cond x 1 0) e in omega arith
 
--- what it means that nothing reaches a server
+-- what it means that nothing reaches a server; `due` has the servers that some request reaches
 module _ (work : List ℕ) (b : ℕ) (arrivals : Arrivals) (movement : Movement) (t delta : ℕ) (g : ℕ → ℕ) (status : Status) (pending : ℕ) (kept : List ℕ) where
   pub record Unreached : Type 0 where
     pub moving : movement .moving ≡ false
-    pub asks : getD (arrivals .asks) b 0 ≡ 0
-    pub wrote : places ≤ getD (arrivals .wrote) b 0
+    pub asks : (x : ℕ) → asksAt (arrivals .requests) b x ≡ false
+    pub wrote : places ≤ wroteAt (arrivals .requests) (arrivals .number) b
     pub live : bitAnd pending (arrivals .live) ≡ pending
     pub cured : curedAt delta t status ≡ false
     pub known : isFaulty status ≡ false → (j : ℕ) → Inside work (rowOf t b) j → isNew (g j) kept ≡ false
@@ -55,20 +56,21 @@ module _ (work : List ℕ) (b : ℕ) (arrivals : Arrivals) (movement : Movement)
       go true n = sym (some-new g kept _ _ j (i .0) (i .1) n) ∙ rw h at e
       go false n = refl
 
-  pub unreached : (busy : Bool) → busy ≡ called b arrivals movement t delta status pending → reached busy work (rowOf t b) g status kept ≡ false → Unreached
+  pub unreached : (due : ℕ) → bit b due ≡ isAsked (arrivals .requests) b → (busy : Bool) → busy ≡ called b due (arrivals .live) (movement .moving) t delta status pending
+      → reached busy work (rowOf t b) g status kept ≡ false → Unreached
   unfolding called reached
-  unreached busy q e =
+  unreached due all busy q e =
       let v = neither _ _ e in
       let a = neither _ _ (sym q ∙ v .0) in
       let c = neither _ _ (a .1) in
       let d = neither _ _ (c .1) in
-      let f = neither _ _ (d .1) in
+      let none = sym all ∙ c .0 in
       record {
         moving = a .0;
-        asks = eqb-true _ _ (not-false _ (c .0));
-        wrote = ltb-false _ _ (d .0);
-        live = eqb-true _ _ (not-false _ (f .0));
-        cured = f .1;
+        asks = none-asks (arrivals .requests) b none;
+        wrote = none-wrote (arrivals .requests) b none (arrivals .number);
+        live = eqb-true _ _ (not-false _ (d .0));
+        cured = d .1;
         known = none-arrives (isFaulty status) (v .1);
       }
 
@@ -144,19 +146,19 @@ module _ (F : Feed) (ends : List ℕ) (b : ℕ) (s : Server) (l : b < 16) (S : S
       go false e = refl
 
   abbrev w : ℕ
-  w = getD (F .arrivals .wrote) b 0
+  w = wroteAt (F .arrivals .requests) (F .arrivals .number) b
 
   abbrev asked : ℕ → Bool
-  asked x = bit x (getD (F .arrivals .asks) b 0)
+  asked x = asksAt (F .arrivals .requests) b x
 
   abbrev going : ℕ → Bool
   going x = bit x (F .arrivals .live)
 
   none-asked : asked ≡ nobody
-  none-asked = fun-ext (λ x. rw (U .asks) (bit-zero x))
+  none-asked = fun-ext (U .asks)
 
   pend : server s .pending ≡ (λ x. (bit x (s .pending) && going x) || asked x)
-  pend = fun-ext (λ x. rw (U .asks, bit-zero x) (each x))
+  pend = fun-ext (λ x. rw (U .asks x) (each x))
     where
       each : (x : ℕ) → bit x (s .pending) ≡ (bit x (s .pending) && bit x (F .arrivals .live)) || false
       each x = ap (bit x) (sym (U .live)) ∙ (bit-and x (s .pending) (F .arrivals .live) ∙ or-none _)
@@ -169,7 +171,7 @@ module _ (F : Feed) (ends : List ℕ) (b : ℕ) (s : Server) (l : b < 16) (S : S
 
   -- the row of a server that says nothing
   quiet : Bool → Row
-  quiet true = record { wrote = 255; echoed = false; readers = 0; kept = [] }
+  quiet true = record { wrote = noPair; echoed = false; readers = 0; kept = [] }
   quiet false = record { wrote = w; echoed = false; readers = 0; kept = s .kept }
 
   first : (c : Bool) → isFaulty (statusOf (s .status)) ≡ c

@@ -1,6 +1,7 @@
 pub mod TickLaws
 pub mod HearLaws
 pub mod Settled
+pub mod Asking
 pub mod IdleLaws
 pub mod ServeLaws
 pub mod Sizes

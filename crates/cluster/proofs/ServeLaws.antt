@@ -28,7 +28,7 @@ use Rattle.serving.specs.declared.Links.{Links}
 use Rattle.serving.specs.Links.{delayAt, linkBit}
 use Rattle.serving.specs.Sends.{votesFor, reaches, sendsVote, sendsReply, sends}
 use Rattle.serving.specs.Stored.{Small, Step, server, both, statusOf, keys, pairOf, absent, unset}
-use Rattle.cluster.specs.Inputs.{Sized}
+use Rattle.cluster.specs.Inputs.{Sized, isAsked}
 use Rattle.cluster.specs.Settled.{Settled, Calm, called, reached, CalmlyTurned, CalmlyServed, CalmlyTicked}
 use Rattle.cluster.specs.Tick.{Feed, Heard, Emptied, Stepped, Turned, Served, Ticked, endsOf, present}
 use Rattle.cluster.proofs.IdleLaws.{unreached, idle-turned}
@@ -276,11 +276,11 @@ module _ (F : Feed) (ends : List ℕ) (c : List Server) where
     }
 
     -- a server that nothing new reaches
-    pub serving-idle : b < F .rules .n → F .known .m ≤ places → Small (getD c b absent .kept) → (busy any : Bool)
-        → busy ≡ called b (F .arrivals) (F .movement) (F .t) (F .rules .delta) (statusOf (getD r b absent .status)) (getD r b absent .pending)
+    pub serving-idle : b < F .rules .n → F .known .m ≤ places → Small (getD c b absent .kept) → (due : ℕ) → bit b due ≡ isAsked (F .arrivals .requests) b → (busy any : Bool)
+        → busy ≡ called b due (F .arrivals .live) (F .movement .moving) (F .t) (F .rules .delta) (statusOf (getD r b absent .status)) (getD r b absent .pending)
         → any ≡ reached busy work (rowOf (F .t) b) (pairOf (F .known .values)) (statusOf (getD r b absent .status)) (keys (getD r b absent .kept)) → any ≡ false
         → (after : List ℕ) → Emptied work after (rowOf (F .t) b) → Serving r after (b + 1)
-    serving-idle own few small busy any q e none after E = record {
+    serving-idle own few small due all busy any q e none after E = record {
       past = record { size = E .rest .size ∙ H .past .size; past = λ k h. E .rest .past k h ∙ H .past .past k h };
       spans = E .spans;
       rest = λ i h. H .rest i (omega arith);
@@ -289,7 +289,7 @@ module _ (F : Feed) (ends : List ℕ) (c : List Server) where
     }
       where
         idle : Calm (F .rules) (F .known) c → Turned (feedAt F work) ends b (getD r b absent) (getD r b absent) after
-        idle calm = idle-turned (feedAt F work) ends b (getD r b absent) l (H .spans) few (unreached work b (F .arrivals) (F .movement) (F .t) (F .rules .delta) (pairOf (F .known .values)) (statusOf (getD r b absent .status)) (getD r b absent .pending) (keys (getD r b absent .kept)) busy q (sym e ∙ none))
+        idle calm = idle-turned (feedAt F work) ends b (getD r b absent) l (H .spans) few (unreached work b (F .arrivals) (F .movement) (F .t) (F .rules .delta) (pairOf (F .known .values)) (statusOf (getD r b absent .status)) (getD r b absent .pending) (keys (getD r b absent .kept)) due all busy q (sym e ∙ none))
             (rw (H .rest b (omega arith)) (calm b own)) (rw (H .rest b (omega arith)) small) after E
 
 -- ---- the whole tick

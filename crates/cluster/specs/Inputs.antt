@@ -1,16 +1,16 @@
 -- What a tick of the engine is fed says what the abstract plan says.
 use mathlib.Core.Path.{_≡_}
-use mathlib.Core.Bool.{true, false}
+use mathlib.Core.Bool.{Bool, true, false, _&&_, cond}
 use mathlib.Core.List.{List}
 use Prim.Native.Nat.{ℕ, suc, _+_, _-_, _/_, _≤_, _<_}
-use lib.Dec.{eqb}
+use lib.Dec.{eqb, ltb}
 use lib.ListN.{getD, length}
-use Rattle.register.specs.Lists.{any, In, member}
+use Rattle.register.specs.Lists.{any, anyUpTo, In, member}
 use Rattle.register.specs.Plan.{Plan, Write, Read, kk, echoQuorum, replyQuorum, isMove, readEnd}
 use Rattle.register.specs.Cluster.{writesIn, readsIn}
 use Rattle.register.specs.Reading.{sameRead}
 use Rattle.calendar.specs.Bits.{bit}
-use Rattle.calendar.specs.Layout.{places, depth, calendarSize}
+use Rattle.calendar.specs.Layout.{places, noPair, depth, calendarSize}
 use Rattle.calendar.specs.View.{Spanned}
 use Rattle.cluster.specs.declared.Known.{Known}
 use Rattle.serving.specs.declared.Rules.{Rules}
@@ -34,6 +34,26 @@ pub record Knows (P : Plan) (g : ℕ → ℕ) (m : ℕ) : Type 0 where
   pub first : (0 < m) × (P .initial ≡ g 0)
   pub write : (w : Write) → In w (P .writes) → (j : ℕ) × (j < m) × (w .pair ≡ g j)
   pub readers : (r : Read) → In r (P .reads) → (1 ≤ r .reader) × (r .reader ≤ 4)
+
+-- ---- what arrives at one server
+
+-- how many parties send requests: the writer, party 0 here, and the readers
+abbrev pub requesters : ℕ
+requesters = 5
+
+-- some request reaches server b
+unfoldable pub isAsked : List ℕ → ℕ → Bool
+isAsked requests b = anyUpTo requesters (λ p. bit b (getD requests p 0))
+
+-- the number of the WRITE that reaches server b, or none
+unfoldable pub wroteAt : List ℕ → ℕ → ℕ → ℕ
+wroteAt requests number b = cond (bit b (getD requests 0 0)) number noPair
+
+-- the readers whose READ reaches server b
+unfoldable pub asksAt : List ℕ → ℕ → ℕ → Bool
+asksAt requests b x = ltb x requesters && (ltb 0 x && bit b (getD requests x 0))
+
+-- ---- what a tick is fed
 
 -- what a tick's code needs of the sizes
 pub record Sized (plan work : List ℕ) (t : ℕ) (rules : Rules) (known : Known) (links : Links) : Type 0 where
@@ -61,8 +81,8 @@ pub record Fits (P : Plan) (t : ℕ) (plan : List ℕ) (rules : Rules) (known : 
   pub replies : (i : ℕ) (r : Read) → i < P .n → In r (P .reads) → (P .n + r .reader < links .parties) × (delayAt plan links t i (P .n + r .reader) ≡ P .delay t i (P .n + r .reader))
   pub moving : movement .moving ≡ isMove P t
   pub faulty : isMove P t ≡ true → (b : ℕ) → b < P .n → bit (15 - b) (movement .faulty) ≡ P .placed (t / P .period) b
-  pub wrote : (b j : ℕ) → b < P .n → j < known .m → member (pairAt known j) (writesIn P t b) ≡ eqb j (getD (arrivals .wrote) b 0)
+  pub wrote : (b j : ℕ) → b < P .n → j < known .m → member (pairAt known j) (writesIn P t b) ≡ eqb j (wroteAt (arrivals .requests) (arrivals .number) b)
   pub asks : (b : ℕ) (r : Read) → b < P .n → In r (P .reads) → r .begun < t → t ≤ readEnd P r
-      → any (sameRead r) (readsIn P t b) ≡ bit (r .reader) (getD (arrivals .asks) b 0)
+      → any (sameRead r) (readsIn P t b) ≡ asksAt (arrivals .requests) b (r .reader)
   pub lasting : (r : Read) → In r (P .reads) → suc (r .begun) < t → t ≤ readEnd P r → bit (r .reader) (arrivals .live) ≡ true
   pub began : (r : Read) → In r (P .reads) → suc (r .begun) ≡ t → bit (r .reader) (arrivals .live) ≡ false

@@ -5,17 +5,16 @@ use mathlib.Core.Bool.{Bool, true, not, _&&_, _||_}
 use mathlib.Core.List.{List}
 use Prim.Native.Nat.{ℕ, _≤_, _<_}
 use lib.Bits.{bitAnd}
-use lib.Dec.{eqb, ltb}
+use lib.Dec.{eqb}
 use lib.ListN.{length, take, getD}
 use Rattle.register.specs.Server.{Status, isFaulty, insert, curedAt}
+use Rattle.calendar.specs.Bits.{bit}
 use Rattle.calendar.specs.Layout.{places, depth, lowOf, highOf}
 use Rattle.calendar.specs.View.{SamePast, Spanned}
 use Rattle.serving.specs.declared.Server.{Server}
 use Rattle.cluster.specs.declared.Cluster.{Cluster}
 use Rattle.serving.specs.declared.Rules.{Rules}
 use Rattle.cluster.specs.declared.Known.{Known}
-use Rattle.cluster.specs.declared.Arrivals.{Arrivals}
-use Rattle.cluster.specs.declared.Movement.{Movement}
 use Rattle.serving.specs.Stored.{Plain, server, pairOf, absent}
 use Rattle.serving.specs.Stages.{voting, anyNew}
 use Rattle.cluster.specs.Tick.{Feed, Turned, Served, Ticked}
@@ -30,13 +29,8 @@ Calm rules known c = (b : ℕ) → b < rules .n → Settled (pairOf (known .valu
 
 -- one of the stages of server b has something to do in tick t: at a movement, for a READ or a WRITE, for a read that drops out of its list, at
 -- the end of its cure
-unfoldable pub called : ℕ → Arrivals → Movement → ℕ → ℕ → Status → ℕ → Bool
-called b arrivals movement t delta status pending =
-    movement .moving
-    || (not (eqb (getD (arrivals .asks) b 0) 0)
-    || (ltb (getD (arrivals .wrote) b 0) places
-    || (not (eqb (bitAnd pending (arrivals .live)) pending)
-    || curedAt delta t status)))
+unfoldable pub called : ℕ → ℕ → ℕ → Bool → ℕ → ℕ → Status → ℕ → Bool
+called b due live moving t delta status pending = moving || (bit b due || (not (eqb (bitAnd pending live) pending) || curedAt delta t status))
 
 -- or a vote reaches it for a pair that is new to its store; a faulty server loses its votes
 unfoldable pub reached : Bool → List ℕ → ℕ → (ℕ → ℕ) → Status → List ℕ → Bool

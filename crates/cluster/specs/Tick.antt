@@ -25,6 +25,7 @@ use Rattle.serving.specs.Bits.{sets}
 use Rattle.serving.specs.Stored.{Plain, Both, Step, Small, server, both, pairOf, absent}
 use Rattle.serving.specs.Stages.{nobody, noVotes, isNew, stagesOf}
 use Rattle.serving.specs.Sends.{sends}
+use Rattle.cluster.specs.Inputs.{wroteAt, asksAt}
 
 -- ---- the readers
 
@@ -69,7 +70,7 @@ pub record Emptied (work after : List ℕ) (row : ℕ) : Type 0 where
 pub record Stepped (work : List ℕ) (b : ℕ) (arrivals : Arrivals) (movement : Movement) (t : ℕ) (rules : Rules) (values : List ℕ) (m : ℕ) (s : Plain) (r : Both) : Type 0 where
   pub votes : ℕ → ℕ → Bool
   pub came : isFaulty (s .status) ≡ false → (j i : ℕ) → j < places → isNew (pairOf values j) (s .kept) ≡ true → votes j i ≡ (s .fresh j i || sender work (rowOf t b) j i)
-  pub stages : r ≡ stagesOf (pairOf values) m rules (getD (arrivals .wrote) b 0) votes (λ x. bit x (getD (arrivals .asks) b 0)) (λ x. bit x (arrivals .live))
+  pub stages : r ≡ stagesOf (pairOf values) m rules (wroteAt (arrivals .requests) (arrivals .number) b) votes (asksAt (arrivals .requests) b) (λ x. bit x (arrivals .live))
       (movement .moving) (bit (15 - b) (movement .faulty)) t s
 
 -- ---- all servers

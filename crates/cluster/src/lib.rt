@@ -29,11 +29,14 @@ pub struct Known {
     pub m: usize,
 }
 
-// What arrives in a tick: the number of the WRITE at each server (255: none), the readers whose READ arrives at each server, and the readers
-// whose read did not begin in the tick before.
+// How many parties send requests: the writer, party 0 here, and the readers.
+pub const REQUESTERS: usize = 1 + READERS;
+
+// The requests that arrive in a tick: the servers that each party's reaches; the number of the pair of the WRITE; and the readers whose read did not
+// begin in the tick before.
 pub struct Arrivals {
-    pub wrote: [u8; SERVERS],
-    pub asks: [u8; SERVERS],
+    pub requests: [u16; REQUESTERS],
+    pub number: u8,
     pub live: u8,
 }
 

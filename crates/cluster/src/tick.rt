@@ -1,21 +1,22 @@
 // Stages 1 to 4 of a tick of the whole cluster: the readers note what arrives, each server goes through its stages, and what it sends is posted.
 ghost use mathlib.Core.Path.{_≡_};
-ghost use Prim.Native.Nat.{_<_, _≤_, _+_, _-_};
+ghost use Prim.Native.Nat.{_<_, _≤_};
 ghost use lib.ListN.{length};
 ghost use Rattle.calendar.specs.Bits.{bit};
 ghost use Rattle.calendar.specs.Layout.{rows, places, calendarSize, rowOf};
 ghost use Rattle.calendar.specs.View.{Spanned};
 ghost use Rattle.serving.specs.Stored.{statusOf, keys, pairOf};
-ghost use Rattle.cluster.specs.Inputs.{Sized};
-ghost use Rattle.cluster.specs.Settled.{called, reached, CalmlyTurned, CalmlyServed, CalmlyTicked};
+ghost use Rattle.cluster.specs.Inputs.{Sized, isAsked, wroteAt, asksAt};
+ghost use Rattle.cluster.specs.Settled.{called, reached, CalmlyTurned, CalmlyServed};
 ghost use Rattle.cluster.specs.Tick.{anyHeard, Heard, Emptied, Started, endsOf, feedOf};
 use super::Arrivals;
 use super::Cluster;
 use super::Feed;
-use super::Movement;
+use super::REQUESTERS;
 use super::Reader;
 use super::SERVERS;
 use calendar::DEPTH;
+use calendar::NO_PAIR;
 use calendar::PLACES;
 use calendar::Stamped;
 use serving::READERS;
@@ -28,12 +29,12 @@ use serving::servers;
 use serving::stages;
 use serving::store;
 
-// Does the placement make server b faulty.
-fn is_placed(faulty: u16, b: usize) -> bool
+// Is b in the set.
+fn has(set: u16, b: usize) -> bool
     requires { ⌜ b < 16 ⌝ }
-    ensures { λ r. ⌜ r ≡ bit (15 - b) faulty ⌝ }
+    ensures { λ r. ⌜ r ≡ bit b set ⌝ }
 {
-    (faulty >> (15 - b)) % 2 == 1
+    (set >> b) % 2 == 1
 }
 
 // Does anything reach a reader in tick t. In most ticks: no.
@@ -68,54 +69,106 @@ pub fn hear(readers: [Reader; READERS], work: &mut [u8], t: usize) -> [Reader; R
     heard
 }
 
-// Has one of the stages of server b anything to do in tick t, beside noting votes. Most servers in most ticks: no.
+// The servers that some request reaches.
+pub fn together(arrivals: Arrivals) -> u16
+    ensures { λ r. ⌜ (λ b. bit b r) ≡ isAsked (arrivals .requests) ⌝ }
+{
+    let requests = arrivals.requests;
+    let mut r: u16 = 0;
+    let mut p: usize = 0;
+    while p < REQUESTERS {
+        r = r | requests[p];
+        p += 1;
+    }
+    r
+}
+
+// The number of the WRITE that reaches server b, or NO_PAIR.
+fn wrote_at(requests: [u16; REQUESTERS], number: u8, b: usize) -> u8
+    requires { ⌜ b < 16 ⌝ }
+    ensures { λ r. ⌜ r ≡ wroteAt requests number b ⌝ }
+{
+    if has(requests[0], b) {
+        return number;
+    }
+    NO_PAIR
+}
+
+// The readers whose READ reaches server b.
+fn asks_at(requests: [u16; REQUESTERS], b: usize) -> u8
+    requires { ⌜ b < 16 ⌝ }
+    ensures { λ r. ⌜ (λ x. bit x r) ≡ asksAt requests b ⌝ }
+{
+    let mut r: u8 = 0;
+    let mut x: usize = 1;
+    while x < REQUESTERS {
+        if has(requests[x], b) {
+            r = r | (1 << x);
+        }
+        x += 1;
+    }
+    r
+}
+
+// Has one of the stages of server b anything to do in tick t, beside noting votes. Most servers in most ticks: no. `due` has the servers that some
+// request reaches.
 fn is_called(
     b: usize,
-    arrivals: Arrivals,
-    movement: Movement,
+    due: u16,
+    live: u8,
+    moving: bool,
     t: u8,
     delta: u8,
     status: Status,
     pending: u8,
 ) -> bool
     requires { ⌜ b < 16 ⌝ }
-    ensures { λ r. ⌜ r ≡ called b arrivals movement t delta (statusOf status) pending ⌝ }
+    ensures { λ r. ⌜ r ≡ called b due live moving t delta (statusOf status) pending ⌝ }
 {
-    if movement.moving {
+    if moving {
         return true;
     }
-    if arrivals.asks[b] != 0 {
+    if has(due, b) {
         return true;
     }
-    if (arrivals.wrote[b] as usize) < PLACES {
-        return true;
-    }
-    if pending & arrivals.live != pending {
+    if pending & live != pending {
         return true;
     }
     servers::is_cured_at(status, t, delta)
 }
 
-// Is it called, or does a vote reach it for a pair that is new to its store: other votes never come to anything, and a faulty server loses all.
-fn is_reached(
-    called: bool,
+// Is server b called, or does a vote reach it for a pair that is new to its store: other votes never come to anything, and a faulty server loses all.
+pub fn is_reached(
+    s: Server,
     work: &[u8],
-    t: u8,
     b: usize,
-    status: Status,
-    kept: [Stamped; DEPTH],
+    feed: Feed,
+    due: u16,
     values: &[u16; PLACES],
 ) -> bool
     requires { ⌜ (b < 16) × (calendarSize ≤ length (now work)) × Spanned (now work) places ⌝ }
-    ensures { λ r. ⌜ r ≡ reached called (now (work .entry)) (rowOf t b) (pairOf (now (values .entry))) (statusOf status) (keys kept) ⌝ }
+    ensures { λ r. ⌜ r ≡ reached (called b due (feed .arrivals .live) (feed .movement .moving) (feed .t) (feed .rules .delta) (statusOf (s .status)) (s .pending)) (now (work .entry)) (rowOf (feed .t) b) (pairOf (now (values .entry))) (statusOf (s .status)) (keys (s .kept)) ⌝ }
 {
-    if called {
+    let t = feed.t;
+    let status = s.status;
+    let arrivals = feed.arrivals;
+    if is_called(
+        b,
+        due,
+        arrivals.live,
+        feed.movement.moving,
+        t,
+        feed.rules.delta,
+        status,
+        s.pending,
+    ) {
         return true;
     }
     if servers::is_faulty(status) {
         return false;
     }
     let row = calendar::row(t as usize, b);
+    let kept = s.kept;
     store::is_any_new(
         kept,
         values,
@@ -125,7 +178,7 @@ fn is_reached(
 }
 
 // What arrives at server b is taken, to no effect.
-fn pass_over(work: &mut [u8], t: usize, b: usize)
+pub fn pass_over(work: &mut [u8], t: usize, b: usize)
     requires { ⌜ (b < 16) × (calendarSize ≤ length (now work)) × Spanned (now work) places ⌝ }
     ensures { λ _. ⌜ Emptied (now (work .entry)) (now (work .exit)) (rowOf t b) ⌝ }
 {
@@ -136,21 +189,20 @@ fn pass_over(work: &mut [u8], t: usize, b: usize)
 }
 
 // The stages of server b, in their order; `ends` has the ticks in which the readers' last reads end.
-fn turn(
+pub fn turn(
     s: Server,
     work: &mut [u8],
     plan: &[u8],
     b: usize,
     feed: Feed,
+    values: &[u16; PLACES],
     ends: [u8; READERS],
 ) -> Server
-    requires { ⌜ (b < feed .rules .n) × Sized (now plan) (now work) (feed .t) (feed .rules) (feed .known) (feed .links) ⌝ }
+    requires { ⌜ (b < feed .rules .n) × (now values ≡ feed .known .values) × Sized (now plan) (now work) (feed .t) (feed .rules) (feed .known) (feed .links) ⌝ }
     ensures { λ r. ⌜ CalmlyTurned (feedOf (now (plan .entry)) (now (work .entry)) feed) ends b s r (now (work .exit)) ⌝ }
 {
     let t = feed.t;
     let rules = feed.rules;
-    let known = feed.known;
-    let values = known.values;
     let arrivals = feed.arrivals;
     let movement = feed.movement;
     let at = calendar::row(t as usize, b);
@@ -161,10 +213,12 @@ fn turn(
     let status = x.status;
     let mut row = stages::quiet();
     if !servers::is_faulty(status) {
-        let wrote = arrivals.wrote[b];
-        let asks = arrivals.asks[b];
+        let requests = arrivals.requests;
+        let wrote = wrote_at(requests, arrivals.number, b);
+        let asks = asks_at(requests, b);
         let live = arrivals.live;
-        let delivery = stages::deliver(x, wrote, asks, live, &values, low, high, known.m, rules);
+        let m = feed.known.m;
+        let delivery = stages::deliver(x, wrote, asks, live, values, low, high, m, rules);
         row = delivery.row;
         let kept = row.kept;
         x.kept = kept;
@@ -177,51 +231,13 @@ fn turn(
     }
     // 3. Movement. 4. Echo.
     if movement.moving {
-        x = x.moved(rules.two, is_placed(movement.faulty, b), t);
+        x = x.moved(rules.two, has(movement.faulty, SERVERS - 1 - b), t);
         let now = x.status;
         row.echoed = servers::is_correct(now);
     }
     calendar::clear(work, at);
     sending::send(work, plan, feed.links, rules.n, t as usize, b, row, ends);
     x
-}
-
-// The stages of all servers. A settled server that nothing new reaches is left alone: its stages would change nothing that counts.
-pub fn serve(
-    servers: [Server; SERVERS],
-    work: &mut [u8],
-    plan: &[u8],
-    feed: Feed,
-    ends: [u8; READERS],
-) -> [Server; SERVERS]
-    requires { ⌜ Sized (now plan) (now work) (feed .t) (feed .rules) (feed .known) (feed .links) ⌝ }
-    ensures { λ r. ⌜ CalmlyServed (feedOf (now (plan .entry)) (now (work .entry)) feed) ends servers r (now (work .exit)) ⌝ }
-{
-    let rules = feed.rules;
-    let n = rules.n;
-    let delta = rules.delta;
-    let t = feed.t;
-    let arrivals = feed.arrivals;
-    let movement = feed.movement;
-    let known = feed.known;
-    let values = known.values;
-    let mut served = servers;
-    let mut b: usize = 0;
-    while b < n {
-        let here = served[b];
-        let status = here.status;
-        let pending = here.pending;
-        let kept = here.kept;
-        let called = is_called(b, arrivals, movement, t, delta, status, pending);
-        if is_reached(called, work, t, b, status, kept, &values) {
-            let s = served[b];
-            served[b] = turn(s, work, plan, b, feed, ends);
-        } else {
-            pass_over(work, t as usize, b);
-        }
-        b += 1;
-    }
-    served
 }
 
 // The ticks in which the readers' last reads end.
@@ -234,40 +250,6 @@ pub fn ends_of(readers: [Reader; READERS]) -> [u8; READERS]
         readers[2].end,
         readers[3].end,
     ]
-}
-
-// 'One tick carries the whole hall from one state to the next': its stages 1 to 4.
-pub fn fed(c: Cluster, work: &mut [u8], plan: &[u8], feed: Feed) -> Cluster
-    requires { ⌜ Sized (now plan) (now work) (feed .t) (feed .rules) (feed .known) (feed .links) ⌝ }
-    ensures { λ r. ⌜ CalmlyTicked (feedOf (now (plan .entry)) (now (work .entry)) feed) c r (now (work .exit)) ⌝ }
-{
-    let servers = c.servers;
-    let readers = c.readers;
-    let ends = ends_of(readers);
-    let heard = hear(readers, work, feed.t as usize);
-    let served = serve(servers, work, plan, feed, ends);
-    Cluster {
-        servers: served,
-        readers: heard,
-    }
-}
-
-// One tick of a cluster that is lent.
-pub fn tick(c: &mut Cluster, work: &mut [u8], plan: &[u8], feed: Feed)
-    requires { ⌜ Sized (now plan) (now work) (feed .t) (feed .rules) (feed .known) (feed .links) ⌝ }
-    ensures { λ _. ⌜ CalmlyTicked (feedOf (now (plan .entry)) (now (work .entry)) feed) (now (c .entry)) (now (c .exit)) (now (work .exit)) ⌝ }
-{
-    *c = fed(*c, work, plan, feed);
-}
-
-// A tick of a cluster by value, by lending it: who calls this needs no proof by hand.
-pub fn next(c: Cluster, work: &mut [u8], plan: &[u8], feed: Feed) -> Cluster
-    requires { ⌜ Sized (now plan) (now work) (feed .t) (feed .rules) (feed .known) (feed .links) ⌝ }
-    ensures { λ r. ⌜ CalmlyTicked (feedOf (now (plan .entry)) (now (work .entry)) feed) c r (now (work .exit)) ⌝ }
-{
-    let mut local = c;
-    tick(&mut local, work, plan, feed);
-    local
 }
 
 // 'At the start it is sound, with only pair 0.'

@@ -23,14 +23,9 @@ module _ (s : List ℕ) (r : Script) (R : Decoded s r) where
   pub period-same : r .shape .period ≡ headerOf 16 s .period
   period-same = ap (λ (h : Header). h .period) (R .scripted .header)
 
-  pub arrivals-there : (t : ℕ) → t < r .shape .ticks
-      → Linked s (r .links) (r .rules .n) t × (1 ≤ r .writes .known .m) × (r .writes .known .m ≤ 65) × (r .reads .m ≤ 255)
-  arrivals-there t l = (
-    rw (R .scripted .rules .n) (table s (R .playable) (r .links) (R .scripted .links) t (omega (arith, ticks-same))),
-    omega (arith, R .scripted .writes .count),
-    R .scripted .writes .few,
-    R .scripted .reads .few,
-  )
+  -- the delays of the tick
+  pub linked-there : (t : ℕ) → t < r .shape .ticks → Linked s (r .links) (r .rules .n) (t + 1)
+  linked-there t l = rw (R .scripted .rules .n) (table s (R .playable) (r .links) (R .scripted .links) (t + 1) (omega (arith, ticks-same)))
 
   pub movement-there : (t : ℕ) → t < r .shape .ticks → (0 < r .shape .period) × (64 + 16 * (t / r .shape .period) + 16 ≤ 8 * length s)
   movement-there t l = (

@@ -1,6 +1,8 @@
 pub mod Buffers
 pub mod Feeding
 pub mod Tables
+pub mod Requests
 pub mod Ticking
+pub mod Sizes
 pub mod Turns
-pub mod Playing
+pub mod Whole

@@ -2,7 +2,7 @@
 -- It stands on what Check accepts and on the laws of scripts.
 use mathlib.Core.Path.{_≡_, _∙_}
 use mathlib.Core.List.{List}
-use Prim.Native.Nat.{ℕ, _≤_, _<_}
+use Prim.Native.Nat.{ℕ, _+_, _≤_, _<_}
 use native.Mathlib.Omega.{arith}
 use native.Mathlib.Decide.{ℕ-discrete}
 use lib.ListN.{getD}
@@ -10,7 +10,7 @@ use Rattle.register.specs.Lists.{In}
 use Rattle.register.specs.Plan.{Read}
 use Rattle.plan.specs.Packed.{planOf}
 use Rattle.plan.proofs.Tests.{getD-in, in-getD}
-use Rattle.plan.proofs.AcceptReads.{reads-rise}
+use Rattle.plan.proofs.AcceptReads.{read-stands, reads-rise}
 use Rattle.cluster.specs.Inputs.{pairAt, Knows}
 use Rattle.script.specs.declared.Script.{Script}
 use Rattle.script.specs.Operations.{noRead}
@@ -69,3 +69,8 @@ module _ (s : List ℕ) (r : Script) (R : Decoded s r) where
   -- the reads between two cursors
   pub there : (k k′ : ℕ) → k ≤ k′ → k′ ≤ r .reads .m → There (r .reads .reader) k k′
   there k k′ h l = record { ordered = h; few = omega (arith, R .scripted .reads .few); readers = λ i a b. reader-range i (omega arith) }
+
+  -- every reader is a party
+  pub readers-there : (i : ℕ) → i < r .reads .m → r .rules .n + readerAt i < r .links .parties
+  readers-there i l =
+      omega (arith, R .scripted .rules .n, R .scripted .links .parties, read-stands 16 s (R .playable) (readAt (r .reads) i) (listed i l) .reader-hi)

@@ -11,7 +11,6 @@ use lib.ListN.{length, getD}
 use borrow.Author.Tests.{lt-ltb}
 use Rattle.register.specs.Lists.{any, anyUpTo, In}
 use Rattle.register.specs.Plan.{Read, Forgery, readEnd, replyQuorum}
-use Rattle.register.specs.Cluster.{serverOf, cluster}
 use Rattle.register.proofs.Logic.{T-iff, and-l, and-r, and-i}
 use Rattle.register.proofs.Counting.{anyUpTo-e, anyUpTo-i}
 use Rattle.plan.specs.Header.{headerOf}
@@ -19,21 +18,24 @@ use Rattle.plan.specs.Packed.{planOf}
 use Rattle.plan.proofs.AcceptGood.{good}
 use Rattle.calendar.specs.Layout.{places, rowOf}
 use Rattle.calendar.specs.View.{SamePast, Posted}
+use Rattle.requests.specs.Requests.{SameBehind, SameOutside}
+use Rattle.requests.proofs.Requesting.{behind-trans, past-behind, outside-sender, outside-spanned}
+use Rattle.states.specs.Requests.{Requested}
+use Rattle.script.specs.Inputs.{LatestWrite}
 use Rattle.calendar.proofs.Spans.{posted-spanned}
 use Rattle.cluster.specs.declared.Cluster.{Cluster}
 use Rattle.cluster.specs.declared.Feed.{Feed}
 use Rattle.cluster.specs.declared.Reader.{Reader}
 use Rattle.serving.specs.Bits.{sets}
 use Rattle.cluster.specs.Inputs.{pairAt, Sized, Fits}
-use Rattle.serving.specs.Stored.{server, absent}
-use Rattle.states.specs.State.{Rep, State}
+use Rattle.states.specs.State.{State}
 use Rattle.cluster.specs.Tick.{Ticked, noReader, endsOf, feedOf}
 use Rattle.cluster.specs.Settled.{CalmlyTicked}
 use Rattle.states.specs.Way.{forgedAs}
 use Rattle.serving.proofs.BitLaws.{unmarked}
 use Rattle.states.proofs.ReaderLaws.{Begins, Forges}
 use Rattle.states.proofs.RowLaws.{end-of}
-use Rattle.states.proofs.StateLaws.{calm, noted-end, end-open, end-idle, next-server, next-state}
+use Rattle.states.proofs.StateLaws.{calm, noted-end, end-open, end-idle, next-state}
 use Rattle.script.specs.declared.Script.{Script}
 use Rattle.script.specs.Forged.{entriesEnd, entryAt, Entry, Starts}
 use Rattle.script.specs.Script.{messageOf, messageDelay, messageNumber}
@@ -51,8 +53,9 @@ use Rattle.player.proofs.Tables.{knows, servers-same, delta-same, few-s
 use Rattle.player.proofs.Feeding.{range, ticks-same, period-same, few-ticks}
 
 module _ (s : List ℕ) (r : Script) (R : Decoded s r) where
-  module _ (work : List ℕ) (K : SamePast (R .after) work) (room : entriesEnd ≤ length work) (t : ℕ) (below : t < r .shape .ticks) (f : Feed) (F : FedBy s r t f)
-      (c : Cluster) (S : State (planOf 16 s) (pairAt (r .writes .known)) (r .writes .known .m) t c work) where
+  module _ (work : List ℕ) (K : SameBehind (R .after) work) (room : entriesEnd ≤ length work) (t : ℕ) (below : t < r .shape .ticks) (number : ℕ) (ends : List ℕ)
+      (f : Feed) (F : FedBy s work r number ends t f) (c : Cluster) (S : State (planOf 16 s) (pairAt (r .writes .known)) (r .writes .known .m) t c work)
+      (Q : Requested (planOf 16 s) t work) (latest : LatestWrite (r .writes .begun) (r .writes .known .m) t number) (same-ends : ends ≡ endsOf (c .readers)) where
     under : t < headerOf 16 s .ticks
     under = omega (arith, ticks-same s r R)
 
@@ -62,8 +65,9 @@ module _ (s : List ℕ) (r : Script) (R : Decoded s r) where
 
     fits : Fits (planOf 16 s) t s (r .rules) (r .writes .known) (r .links) (f .arrivals) (f .movement)
     fits =
-        script-fits s (R .before) (R .after) (R .playable) r (R .scripted) t under (f .arrivals) (f .movement)
-        (rw (R .scripted .rules .n) at (F .comes)) (rw (period-same s r R) at (F .moves))
+        script-fits s (R .before) (R .after) (R .playable) r (R .scripted) t under work ends number (f .arrivals) (f .movement)
+        (rw (R .scripted .rules .delta) at (F .comes)) (rw (period-same s r R) at (F .moves)) Q latest
+        (λ q o. rw same-ends (end-of (c .readers) (q .reader - 1) ∙ S .readers .end q o))
 
     pub sized : Sized s work (f .t) (f .rules) (f .known) (f .links)
     sized =
@@ -79,10 +83,6 @@ module _ (s : List ℕ) (r : Script) (R : Decoded s r) where
 
       pub servers-there : length (d .servers) ≡ 16
       servers-there = ticked .servers
-
-      pub server-next : (b : ℕ) → b < planOf 16 s .n
-          → Rep (planOf 16 s) (pairAt (r .writes .known)) (r .writes .known .m) (suc t) (serverOf (cluster (planOf 16 s) (suc t)) b) (server (getD (d .servers) b absent))
-      server-next = next-server (planOf 16 s) (good 16 s (R .playable)) (feedOf s work feed) fits (knows s r R) c d work₁ ticked S
 
       size : length (d .readers) ≡ 4
       size = ticked .heard .size ∙ S .readers .size
@@ -111,7 +111,7 @@ module _ (s : List ℕ) (r : Script) (R : Decoded s r) where
 
       -- ---- the reads that begin
 
-      module _ (k k′ : ℕ) (U : Until (r .reads .begun) (r .reads .m) 0 t k) (W : Until (r .reads .begun) (r .reads .m) 0 (t + 1) k′) (h : k ≤ k′) where
+      module _ (between : List ℕ) (O : SameOutside work₁ between) (k k′ : ℕ) (U : Until (r .reads .begun) (r .reads .m) 0 t k) (W : Until (r .reads .begun) (r .reads .m) 0 (t + 1) k′) (h : k ≤ k′) where
         abbrev after : List Reader
         after = begunBy (r .reads .reader) (t + 2 * r .rules .delta) k (k′ - k) (d .readers)
 
@@ -148,17 +148,14 @@ module _ (s : List ℕ) (r : Script) (R : Decoded s r) where
         abbrev nf : ℕ
         nf = headerOf 16 s .forgeries
 
-        E : (e : ℕ) → e < headerOf 16 s .forgeries → Entry work₁ e (messageOf s e) (messageDelay s e) (messageNumber s (r .writes .known .values) (r .writes .known .m) e)
-        E = entries-kept s (R .after) work₁ (r .writes .known .values) (r .writes .known .m) again (R .scripted .forged .filled .entry)
-          where
-            again : SamePast (R .after) work₁
-            again = record { size = kept .size ∙ K .size; past = λ p l. kept .past p l ∙ K .past p l }
+        again : SameBehind (R .after) between
+        again = behind-trans (R .after) work between K (behind-trans work work₁ between (past-behind work work₁ kept) (O .rest))
 
-        Z : Starts work₁ (headerOf 16 s .forgeries) (r .starts)
-        Z = starts-kept s (R .after) work₁ (r .writes .known .values) (r .writes .known .m) again (r .starts) (R .scripted .forged .started)
-          where
-            again : SamePast (R .after) work₁
-            again = record { size = kept .size ∙ K .size; past = λ p l. kept .past p l ∙ K .past p l }
+        E : (e : ℕ) → e < headerOf 16 s .forgeries → Entry between e (messageOf s e) (messageDelay s e) (messageNumber s (r .writes .known .values) (r .writes .known .m) e)
+        E = entries-kept s (R .after) between (r .writes .known .values) (r .writes .known .m) again (R .scripted .forged .filled .entry)
+
+        Z : Starts between (headerOf 16 s .forgeries) (r .starts)
+        Z = starts-kept s (R .after) between (r .writes .known .values) (r .writes .known .m) again (r .starts) (R .scripted .forged .started)
 
         few : t < 128
         few = few-ticks s r R t below
@@ -170,58 +167,58 @@ module _ (s : List ℕ) (r : Script) (R : Decoded s r) where
         to = getD (r .starts) (t + 1) 0
 
         to-few : getD (r .starts) (t + 1) 0 ≤ headerOf 16 s .forgeries
-        to-few = start-few s (R .playable) work₁ (r .writes .known .values) (r .writes .known .m) E (r .starts) Z (t + 1) (omega (arith, few))
+        to-few = start-few s (R .playable) between (r .writes .known .values) (r .writes .known .m) E (r .starts) Z (t + 1) (omega (arith, few))
 
         narrow : r .rules .n ≤ 16
         narrow = omega (arith, servers-same s r R, few-servers s r R)
 
-        pub can-forge : (r .rules .n ≤ 16) × (t < 128) × (entriesEnd ≤ length work₁) × SentIn work₁ (r .starts) t
+        pub can-forge : (r .rules .n ≤ 16) × (t < 128) × (entriesEnd ≤ length between) × SentIn between (r .starts) t
         can-forge = (
           narrow,
           few,
-          omega (arith, kept .size, room),
+          omega (arith, kept .size, O .rest .size, room),
           record {
-            ordered = starts-rise s (R .playable) work₁ (r .writes .known .values) (r .writes .known .m) E (r .starts) Z t (t + 1) (omega arith) (omega (arith, few));
+            ordered = starts-rise s (R .playable) between (r .writes .known .values) (r .writes .known .m) E (r .starts) Z t (t + 1) (omega arith) (omega (arith, few));
             few = omega (arith, to-few, range s r R .forgeries-hi);
             senders = λ e l. rw (E e (omega (arith, to-few)) .sender) (omega (arith, sender-below s (R .playable) e (omega (arith, to-few)), range s r R .n-hi));
           },
         )
 
         -- the entries of the range are those sent in this tick
-        sent-now : (e : ℕ) → from ≤ e → e < to → (e < nf) × (entryAt work₁ e 0 ≡ t)
+        sent-now : (e : ℕ) → from ≤ e → e < to → (e < nf) × (entryAt between e 0 ≡ t)
         sent-now e a b =
             let l : e < headerOf 16 s .forgeries = omega (arith, to-few) in (
               l,
               omega (
                 arith,
-                sent-later s (R .playable) work₁ (r .writes .known .values) (r .writes .known .m) E (r .starts) Z t (omega (arith, few)) e a l,
-                sent-earlier s (R .playable) work₁ (r .writes .known .values) (r .writes .known .m) E (r .starts) Z (t + 1) (omega (arith, few)) e b,
+                sent-later s (R .playable) between (r .writes .known .values) (r .writes .known .m) E (r .starts) Z t (omega (arith, few)) e a l,
+                sent-earlier s (R .playable) between (r .writes .known .values) (r .writes .known .m) E (r .starts) Z (t + 1) (omega (arith, few)) e b,
               ),
             )
 
-        in-range-now : (e : ℕ) → e < nf → entryAt work₁ e 0 ≡ t → (from ≤ e) × (e < to)
+        in-range-now : (e : ℕ) → e < nf → entryAt between e 0 ≡ t → (from ≤ e) × (e < to)
         in-range-now e l z = (
           elim (decLe from e) [
             | yes a ↦ a
-            | no a ↦ absurd (omega (arith, sent-earlier s (R .playable) work₁ (r .writes .known .values) (r .writes .known .m) E (r .starts) Z t (omega (arith, few)) e (omega arith)))
+            | no a ↦ absurd (omega (arith, sent-earlier s (R .playable) between (r .writes .known .values) (r .writes .known .m) E (r .starts) Z t (omega (arith, few)) e (omega arith)))
           ],
           elim (decLe to e) [
-            | yes a ↦ absurd (omega (arith, sent-later s (R .playable) work₁ (r .writes .known .values) (r .writes .known .m) E (r .starts) Z (t + 1) (omega (arith, few)) e a l))
+            | yes a ↦ absurd (omega (arith, sent-later s (R .playable) between (r .writes .known .values) (r .writes .known .m) E (r .starts) Z (t + 1) (omega (arith, few)) e a l))
             | no a ↦ omega arith
           ],
         )
 
-        arrives : (e : ℕ) → e < nf → entryAt work₁ e 0 ≡ t → (t < entryAt work₁ e 1) × (entryAt work₁ e 1 ≤ t + 15)
+        arrives : (e : ℕ) → e < nf → entryAt between e 0 ≡ t → (t < entryAt between e 1) × (entryAt between e 1 ≤ t + 15)
         arrives e l z =
-            let a = arrives-after s (R .playable) work₁ (r .writes .known .values) (r .writes .known .m) E (r .starts) Z e l in
+            let a = arrives-after s (R .playable) between (r .writes .known .values) (r .writes .known .m) E (r .starts) Z e l in
             (omega (arith, a .0), omega (arith, a .1, range s r R .delta-hi))
 
-        from-below : (e : ℕ) → e < nf → entryAt work₁ e 3 < planOf 16 s .n
+        from-below : (e : ℕ) → e < nf → entryAt between e 3 < planOf 16 s .n
         unfolding planOf
         from-below e l = rw (E e l .sender) (sender-below s (R .playable) e l)
 
         abbrev posts : ℕ → ℕ → ℕ → Bool
-        posts = forges (endsOf after) (r .rules .n) work₁ from to
+        posts = forges (endsOf after) (r .rules .n) between from to
 
         -- what is posted in a row, and what the plan's list says of a receiver, one by the other
         module _ (x u j i q : ℕ) (known-pair : j < r .writes .known .m) where
@@ -229,60 +226,60 @@ module _ (s : List ℕ) (r : Script) (R : Decoded s r) where
           lists = any (λ (y : Forgery). eqb (y .at) t && forgedAs (planOf 16 s) u q (pairAt (r .writes .known) j) i y) (planOf 16 s .forged)
 
           abbrev entries : ℕ → Bool
-          entries = entryAs s (r .writes .known) (R .scripted .writes .few) (R .scripted .writes .small) work₁ E t u q j i
+          entries = entryAs s (r .writes .known) (R .scripted .writes .few) (R .scripted .writes .small) between E t u q j i
 
           listed-is : lists ≡ anyUpTo nf entries
-          listed-is = messages-named s (r .writes .known) (R .scripted .writes .few) (R .scripted .writes .small) work₁ E t u q j i known-pair
+          listed-is = messages-named s (r .writes .known) (R .scripted .writes .few) (R .scripted .writes .small) between E t u q j i known-pair
 
-          posts-listed : ((e : ℕ) → e < nf → entryAt work₁ e 0 ≡ t → T (goesTo (endsOf after) (r .rules .n) (entryAt work₁ e 2) (entryAt work₁ e 1) x) → (entryAt work₁ e 2 ≡ q) × (entryAt work₁ e 1 ≡ u))
+          posts-listed : ((e : ℕ) → e < nf → entryAt between e 0 ≡ t → T (goesTo (endsOf after) (r .rules .n) (entryAt between e 2) (entryAt between e 1) x) → (entryAt between e 2 ≡ q) × (entryAt between e 1 ≡ u))
               → T (posts x j i) → (i < planOf 16 s .n) × T lists
           posts-listed goes y =
-              let (e, l, z) = anyUpTo-e to (λ e. leb from e && forgedEntry (endsOf after) (r .rules .n) work₁ e x j i) y in
+              let (e, l, z) = anyUpTo-e to (λ e. leb from e && forgedEntry (endsOf after) (r .rules .n) between e x j i) y in
               let lo = leb→le from e (and-l (leb from e) _ z) in
               let p = and-r (leb from e) _ z in
-              let at = and-l (goesTo (endsOf after) (r .rules .n) (entryAt work₁ e 2) (entryAt work₁ e 1) x) _ p in
-              let names = and-r (goesTo (endsOf after) (r .rules .n) (entryAt work₁ e 2) (entryAt work₁ e 1) x) _ p in
-              let ei = and-l (eqb i (entryAt work₁ e 3)) _ names in
-              let ej = and-r (eqb i (entryAt work₁ e 3)) _ names in
+              let at = and-l (goesTo (endsOf after) (r .rules .n) (entryAt between e 2) (entryAt between e 1) x) _ p in
+              let names = and-r (goesTo (endsOf after) (r .rules .n) (entryAt between e 2) (entryAt between e 1) x) _ p in
+              let ei = and-l (eqb i (entryAt between e 3)) _ names in
+              let ej = and-r (eqb i (entryAt between e 3)) _ names in
               let (le, sent) = sent-now e lo l in
               let (eq, eu) = goes e le sent at in (
-                rw (eqb→eq i (entryAt work₁ e 3) ei) (from-below e le),
+                rw (eqb→eq i (entryAt between e 3) ei) (from-below e le),
                 rw listed-is (anyUpTo-i nf entries e le
-                    (and-i (eqb (entryAt work₁ e 0) t) _ (rw sent (eqb-refl t))
-                    (and-i (eqb (entryAt work₁ e 2) q) _ (rw eq (eqb-refl q))
-                    (and-i (eqb (entryAt work₁ e 1) u) _ (rw eu (eqb-refl u)) (and-i (eqb j (entryAt work₁ e 4)) (eqb i (entryAt work₁ e 3)) ej ei))))),
+                    (and-i (eqb (entryAt between e 0) t) _ (rw sent (eqb-refl t))
+                    (and-i (eqb (entryAt between e 2) q) _ (rw eq (eqb-refl q))
+                    (and-i (eqb (entryAt between e 1) u) _ (rw eu (eqb-refl u)) (and-i (eqb j (entryAt between e 4)) (eqb i (entryAt between e 3)) ej ei))))),
               )
 
           listed-posts : T (goesTo (endsOf after) (r .rules .n) q u x) → T lists → T (posts x j i)
           listed-posts goes y =
               let (e, l, z) = anyUpTo-e nf entries (rw listed-is at y) in
-              let sent = eqb→eq (entryAt work₁ e 0) t (and-l (eqb (entryAt work₁ e 0) t) _ z) in
-              let z1 = and-r (eqb (entryAt work₁ e 0) t) _ z in
-              let eq = eqb→eq (entryAt work₁ e 2) q (and-l (eqb (entryAt work₁ e 2) q) _ z1) in
-              let z2 = and-r (eqb (entryAt work₁ e 2) q) _ z1 in
-              let eu = eqb→eq (entryAt work₁ e 1) u (and-l (eqb (entryAt work₁ e 1) u) _ z2) in
-              let z3 = and-r (eqb (entryAt work₁ e 1) u) _ z2 in
-              let ej = and-l (eqb j (entryAt work₁ e 4)) _ z3 in
-              let ei = and-r (eqb j (entryAt work₁ e 4)) _ z3 in
+              let sent = eqb→eq (entryAt between e 0) t (and-l (eqb (entryAt between e 0) t) _ z) in
+              let z1 = and-r (eqb (entryAt between e 0) t) _ z in
+              let eq = eqb→eq (entryAt between e 2) q (and-l (eqb (entryAt between e 2) q) _ z1) in
+              let z2 = and-r (eqb (entryAt between e 2) q) _ z1 in
+              let eu = eqb→eq (entryAt between e 1) u (and-l (eqb (entryAt between e 1) u) _ z2) in
+              let z3 = and-r (eqb (entryAt between e 1) u) _ z2 in
+              let ej = and-l (eqb j (entryAt between e 4)) _ z3 in
+              let ei = and-r (eqb j (entryAt between e 4)) _ z3 in
               let (lo, hi) = in-range-now e l sent in
-              anyUpTo-i to (λ e. leb from e && forgedEntry (endsOf after) (r .rules .n) work₁ e x j i) e hi
+              anyUpTo-i to (λ e. leb from e && forgedEntry (endsOf after) (r .rules .n) between e x j i) e hi
               (and-i (leb from e) _ (le→leb from e lo)
-              (and-i (goesTo (endsOf after) (r .rules .n) (entryAt work₁ e 2) (entryAt work₁ e 1) x) _ (rw (eq, eu) goes)
-              (and-i (eqb i (entryAt work₁ e 3)) (eqb j (entryAt work₁ e 4)) ei ej)))
+              (and-i (goesTo (endsOf after) (r .rules .n) (entryAt between e 2) (entryAt between e 1) x) _ (rw (eq, eu) goes)
+              (and-i (eqb i (entryAt between e 3)) (eqb j (entryAt between e 4)) ei ej)))
 
           listed-below : T lists → i < planOf 16 s .n
           listed-below y =
               let (e, l, z) = anyUpTo-e nf entries (rw listed-is at y) in
-              let z1 = and-r (eqb (entryAt work₁ e 0) t) _ z in
-              let z2 = and-r (eqb (entryAt work₁ e 2) q) _ z1 in
-              let z3 = and-r (eqb (entryAt work₁ e 1) u) _ z2 in
-              rw (eqb→eq i (entryAt work₁ e 3) (and-r (eqb j (entryAt work₁ e 4)) _ z3)) (from-below e l)
+              let z1 = and-r (eqb (entryAt between e 0) t) _ z in
+              let z2 = and-r (eqb (entryAt between e 2) q) _ z1 in
+              let z3 = and-r (eqb (entryAt between e 1) u) _ z2 in
+              rw (eqb→eq i (entryAt between e 3) (and-r (eqb j (entryAt between e 4)) _ z3)) (from-below e l)
 
         pub forges-now : Forges (planOf 16 s) (r .writes .known .m) t (pairAt (r .writes .known)) posts
         forges-now = record {
           votes = λ u b j i a z lb lj. T-iff _ _
               (λ y. let (li, ls) = posts-listed (rowOf u b) u j i b lj
-              (λ e le sent. server-row (endsOf after) (r .rules .n) t (entryAt work₁ e 2) (entryAt work₁ e 1) u narrow (arrives e le sent .0) (arrives e le sent .1) a z b (omega (arith, (servers-same s r R)))) y in
+              (λ e le sent. server-row (endsOf after) (r .rules .n) t (entryAt between e 2) (entryAt between e 1) u narrow (arrives e le sent .0) (arrives e le sent .1) a z b (omega (arith, (servers-same s r R)))) y in
               and-i (ltb i (planOf 16 s .n)) _ (rw (lt-ltb i (planOf 16 s .n) li) tt) ls)
               (λ y. listed-posts (rowOf u b) u j i b lj (row-server (endsOf after) (r .rules .n) u b (omega (arith, (servers-same s r R)))) (and-r (ltb i (planOf 16 s .n)) _ y));
           replies = λ q o u j i a z lj.
@@ -292,7 +289,7 @@ module _ (s : List ℕ) (r : Script) (R : Decoded s r) where
               (λ y.
               let (li, ls) = posts-listed (rowOf u (15 + q .reader)) u j i (planOf 16 s .n + q .reader) lj
               (λ e le sent goes.
-              let w = reader-row (endsOf after) (r .rules .n) t (entryAt work₁ e 2) (entryAt work₁ e 1) u narrow (arrives e le sent .0) (arrives e le sent .1) a z (q .reader) (y1 .0) (y1 .1) goes in
+              let w = reader-row (endsOf after) (r .rules .n) t (entryAt between e 2) (entryAt between e 1) u narrow (arrives e le sent .0) (arrives e le sent .1) a z (q .reader) (y1 .0) (y1 .1) goes in
               (w .0 ∙ ap (λ (n : ℕ). n + q .reader) (servers-same s r R), w .1)) y in
               let late = reader-late u j i (q .reader) a z (y1 .0) (y1 .1) y in
               and-i (ltb i (planOf 16 s .n)) _ (rw (lt-ltb i (planOf 16 s .n) li) tt) (and-i (leb u (readEnd (planOf 16 s) q)) _ (le→leb u (readEnd (planOf 16 s) q) (omega (arith, late, end))) ls))
@@ -310,17 +307,18 @@ module _ (s : List ℕ) (r : Script) (R : Decoded s r) where
             -- what is posted to a reader arrives by the end of its read
             reader-late : (u j i y : ℕ) → t < u → u ≤ t + 16 → 1 ≤ y → y ≤ 4 → T (posts (rowOf u (15 + y)) j i) → u ≤ getD after (y - 1) noReader .end
             reader-late u j i y a z lo hi w =
-                let (e, l, p) = anyUpTo-e to (λ e. leb from e && forgedEntry (endsOf after) (r .rules .n) work₁ e (rowOf u (15 + y)) j i) w in
+                let (e, l, p) = anyUpTo-e to (λ e. leb from e && forgedEntry (endsOf after) (r .rules .n) between e (rowOf u (15 + y)) j i) w in
                 let lf = leb→le from e (and-l (leb from e) _ p) in
-                let at = and-l (goesTo (endsOf after) (r .rules .n) (entryAt work₁ e 2) (entryAt work₁ e 1) (rowOf u (15 + y))) _ (and-r (leb from e) _ p) in
+                let at = and-l (goesTo (endsOf after) (r .rules .n) (entryAt between e 2) (entryAt between e 1) (rowOf u (15 + y))) _ (and-r (leb from e) _ p) in
                 let (le, sent) = sent-now e lf l in
-                let seen = reader-row (endsOf after) (r .rules .n) t (entryAt work₁ e 2) (entryAt work₁ e 1) u narrow (arrives e le sent .0) (arrives e le sent .1) a z y lo hi at .2 in
+                let seen = reader-row (endsOf after) (r .rules .n) t (entryAt between e 2) (entryAt between e 1) u narrow (arrives e le sent .0) (arrives e le sent .1) a z y lo hi at .2 in
                 omega (arith, seen, end-of after (y - 1))
 
         -- ---- all together
 
-        pub state-next : (servers : Cluster) (work₂ : List ℕ) → servers .servers ≡ d .servers → servers .readers ≡ after → Posted work₁ work₂ posts
+        pub state-next : (servers : Cluster) (work₂ : List ℕ) → servers .servers ≡ d .servers → servers .readers ≡ after → Posted between work₂ posts
             → State (planOf 16 s) (pairAt (r .writes .known)) (r .writes .known .m) (suc t) servers work₂
-        state-next n work₂ es er Q =
+        state-next n work₂ es er N =
             next-state (planOf 16 s) (good 16 s (R .playable)) (feedOf s work feed) fits (knows s r R) c d work₁ ticked S n work₂ posts es (rw er begins)
-            (Q .cells) (posted-spanned work₁ work₂ posts places (omega arith) Q (λ x j k l h q. h) (ticked .spans)) forges-now
+            (λ x j i l m. N .cells x j i l m ∙ rw (outside-sender work₁ between O x j i l m))
+            (posted-spanned between work₂ posts places (omega arith) N (λ x j k l h q. h) (outside-spanned work₁ between O (ticked .spans))) forges-now

@@ -9,16 +9,13 @@ use native.Mathlib.Numerals.{add-one}
 use native.Mathlib.Decide.{decLe}
 use lib.ListN.{length, getD, length-map}
 use lib.Seq.{ext-getD}
-use Rattle.register.specs.Cluster.{serverOf, cluster}
 use Rattle.plan.specs.Packed.{planOf}
 use Rattle.calendar.specs.View.{Posted}
 use Rattle.cluster.specs.declared.Cluster.{Cluster}
 use Rattle.cluster.specs.declared.Feed.{Feed}
 use Rattle.cluster.specs.declared.Reader.{Reader}
 use Rattle.serving.specs.declared.Server.{Server}
-use Rattle.cluster.specs.Inputs.{pairAt, Sized}
-use Rattle.serving.specs.Stored.{server, absent}
-use Rattle.states.specs.State.{Rep}
+use Rattle.cluster.specs.Inputs.{Sized}
 use Rattle.cluster.specs.Tick.{Hearing, Heard, noReader, endsOf, feedOf}
 use Rattle.cluster.specs.Settled.{CalmlyServed, CalmlyTicked}
 use Rattle.states.proofs.RowLaws.{end-of}
@@ -26,12 +23,19 @@ use Rattle.cluster.proofs.ServeLaws.{sized-after, calmly-ticked}
 use Rattle.script.specs.declared.Script.{Script}
 use Rattle.script.specs.Forged.{entriesEnd}
 use Rattle.forging.specs.Forging.{SentIn, forges}
+use Rattle.requests.specs.Requests.{requestsEnd, SameOutside}
+use Rattle.requests.proofs.Requesting.{behind-trans, outside-trans, past-behind}
+use Rattle.states.proofs.RequestLaws.{requested-past}
+use Rattle.asking.specs.Asking.{WroteOn}
+use Rattle.asking.proofs.Laws.{between-none}
 use Rattle.reading.specs.Reading.{Until, isBefore, Begun, WentOn}
 use Rattle.reading.specs.declared.Reading.{Reading}
-use Rattle.player.specs.Run.{Ready, FedBy, Playing, Played, Went}
+use Rattle.player.specs.declared.Playing.{Playing}
+use Rattle.player.specs.Run.{Ready, FedBy, Played, Went}
 use Rattle.reading.proofs.Cursors.{until-more, until-still, placed-none, begun-none}
-use Rattle.player.proofs.Tables.{there}
-use Rattle.player.proofs.Ticking.{sized, kept, servers-there, server-next, answers-are, can-forge, state-next}
+use Rattle.player.proofs.Tables.{there, readers-there}
+use Rattle.player.proofs.Requests.{written-next, requested-after}
+use Rattle.player.proofs.Ticking.{sized, kept, servers-there, answers-are, can-forge, state-next}
 
 -- ---- the ends of the readers' reads
 
@@ -46,20 +50,9 @@ ends-heard work t s r H =
 
 -- ---- one tick
 
-module _ (s work : List ℕ) (r : Script) (t : ℕ) (p : Playing) (Q : Ready s work r) (below : t < r .shape .ticks) (L : Played s work r t p)
-    (f : Feed) (F : FedBy s r t f) where
-  pub feed-sized : Sized s work (f .t) (f .rules) (f .known) (f .links)
-  feed-sized = sized s r (Q .decoded) work (Q .kept) (Q .room) t below f F (p .cluster) (L .state)
-
-  -- the last tick of a look: its servers
-  module _ (d : Cluster) (work₁ : List ℕ) (fed : CalmlyTicked (feedOf s work f) (p .cluster) d work₁) where
-    pub looked : (b : ℕ) → b < planOf 16 s .n
-        → Rep (planOf 16 s) (pairAt (r .writes .known)) (r .writes .known .m) (suc t) (serverOf (cluster (planOf 16 s) (suc t)) b) (server (getD (d .servers) b absent))
-    looked = server-next s r (Q .decoded) work (Q .kept) (Q .room) t below f F (p .cluster) (L .state) d work₁ fed
-
 -- the cluster and the cursors as the loop has them
-abbrev pub at : List Server → Reading → Playing
-at servers p = record { cluster = record { servers = servers; readers = p .readers }; begun = p .begun; answered = p .answered }
+abbrev pub at : List Server → Reading → ℕ → ℕ → Playing
+at servers p written t = record { cluster = record { servers = servers; readers = p .readers }; written = written; begun = p .begun; answered = p .answered; tick = t }
 
 -- the readers have heard what arrives
 pub record HeardBy (work noted : List ℕ) (t : ℕ) (p q : Reading) : Type 0 where
@@ -75,21 +68,22 @@ neither true b e = absurd (never e)
     never : true ≡ false → ⊥
     never e = let z : _≡_ {A = ℕ} 1 0 = ap (λ (x : Bool). cond x 1 0) e in omega arith
 
-module _ (s work : List ℕ) (r : Script) (t : ℕ) (servers : List Server) (p : Reading) (Q : Ready s work r) (below : t < r .shape .ticks) (L : Played s work r t (at servers p))
-    (same : p .ends ≡ endsOf (p .readers)) (noted : List ℕ) (q : Reading) (H : HeardBy work noted t p q) where
+module _ (s work : List ℕ) (r : Script) (t : ℕ) (servers : List Server) (p : Reading) (written : ℕ) (Q : Ready s work r) (below : t < r .shape .ticks) (L : Played s work r (at servers p written t))
+    (same : p .ends ≡ endsOf (p .readers)) (f : Feed) (F : FedBy s work r written (p .ends) t f) (noted : List ℕ) (q : Reading) (H : HeardBy work noted t p q) where
   -- reads may end and begin
   pub can-go-on : Begun r q
   can-go-on = record {
     table = there s r (Q .decoded) 0 (r .reads .m) (omega arith) (omega arith);
+    parties = λ i l. readers-there s r (Q .decoded) i l;
     pairs = Q .decoded .scripted .writes .few;
     begun = rw (H .begun) (L .begun .few);
     answered = rw (H .answered) (L .answered .few);
   }
 
   -- if none does, nothing is to be done
-  pub none-due : (answers : List ℕ) → isBefore (r .reads .begun) (r .reads .m) (q .begun) (t + 1) || isBefore (r .reads .begun) (r .reads .m) (q .answered) (t + 1 - 2 * r .rules .delta) ≡ false
-      → WentOn r t q q answers answers
-  none-due answers e =
+  pub none-due : (answers then : List ℕ) → isBefore (r .reads .begun) (r .reads .m) (q .begun) (t + 1) || isBefore (r .reads .begun) (r .reads .m) (q .answered) (t + 1 - 2 * r .rules .delta) ≡ false
+      → WentOn s r t q q answers answers then then
+  none-due answers then e =
       let n = neither _ _ e in
       record {
         ended = until-still (r .reads .begun) (r .reads .m) (q .answered) (t + 1 - 2 * r .rules .delta) (can-go-on .answered) (n .1);
@@ -97,14 +91,22 @@ module _ (s work : List ℕ) (r : Script) (t : ℕ) (servers : List Server) (p :
         answers = placed-none _ (q .answered) answers;
         readers = begun-none (r .reads .reader) (t + 2 * r .rules .delta) (q .begun) (q .readers);
         ends = H .ends ∙ (same ∙ sym (ends-heard work t (p .readers) (q .readers) (H .heard .readers)));
+        asked = between-none s (r .links) (r .rules .n) t (r .reads .reader) (q .begun) then;
       }
 
-  module _ (f : Feed) (F : FedBy s r t f) where
-    pub noted-sized : Sized s noted (f .t) (f .rules) (f .known) (f .links)
-    noted-sized = sized-after s work noted (f .t) (f .rules) (f .known) (f .links) (feed-sized s work r t (at servers p) Q below L f F) (H .heard .rest) (H .heard .spans)
+  feed-sized : Sized s work (f .t) (f .rules) (f .known) (f .links)
+  feed-sized = sized s r (Q .decoded) work (Q .kept) (Q .room) t below written (p .ends) f F (at servers p written t .cluster) (L .state) (L .requested) (L .written) same
 
-    module _ (served : List Server) (work₁ : List ℕ) (S : CalmlyServed (feedOf s noted f) (q .ends) servers served work₁) (z : Reading) (answers answers₁ : List ℕ)
-        (W : WentOn r t q z answers answers₁) where
+  pub noted-sized : Sized s noted (f .t) (f .rules) (f .known) (f .links)
+  noted-sized = sized-after s work noted (f .t) (f .rules) (f .known) (f .links) feed-sized (H .heard .rest) (H .heard .spans)
+
+  module _ (served : List Server) (work₁ : List ℕ) (S : CalmlyServed (feedOf s noted f) (p .ends) servers served work₁) (written₁ : ℕ) (work₂ : List ℕ)
+      (N : WroteOn s (r .links) (r .rules .n) t (r .writes .begun) (r .writes .known .m) written written₁ work₁ work₂) where
+    -- where the requests begin there is room for them
+    pub request-room : requestsEnd ≤ length work₁
+    request-room = omega (arith, Q .room, H .heard .rest .size, S .rest .size)
+
+    module _ (z : Reading) (answers answers₁ work₃ : List ℕ) (W : WentOn s r t q z answers answers₁ work₂ work₃) where
       abbrev c : Cluster
       c = record { servers = servers; readers = p .readers }
 
@@ -114,8 +116,10 @@ module _ (s work : List ℕ) (r : Script) (t : ℕ) (servers : List Server) (p :
       fed : CalmlyTicked (feedOf s work f) c d work₁
       fed =
           let e : t ≡ f .t = ap (λ (x : Feed). x .t) (sym (F .same)) in
-          calmly-ticked (feedOf s work f) c (q .readers) served noted work₁ (feed-sized s work r t (at servers p) Q below L f F .servers) (L .size)
-          (rw e at (H .heard)) (rw (H .ends ∙ same) at S)
+          calmly-ticked (feedOf s work f) c (q .readers) served noted work₁ (feed-sized .servers) (L .size) (rw e at (H .heard)) (rw same at S)
+
+      outside : SameOutside work₁ work₃
+      outside = outside-trans work₁ work₂ work₃ (N .outside) (W .asked .outside)
 
       have-ended : Until (r .reads .begun) (r .reads .m) 0 (t + 1 - 2 * r .rules .delta) (z .answered)
       have-ended =
@@ -125,24 +129,31 @@ module _ (s work : List ℕ) (r : Script) (t : ℕ) (servers : List Server) (p :
       have-begun : Until (r .reads .begun) (r .reads .m) 0 (t + 1) (z .begun)
       have-begun = until-more (r .reads .begun) (r .reads .m) t (t + 1) (p .begun) (z .begun) (omega arith) (L .begun) (rw (H .begun) at (W .began))
 
-      pub forge-ready : (r .rules .n ≤ 16) × (t < 128) × (entriesEnd ≤ length work₁) × SentIn work₁ (r .starts) t
-      forge-ready = can-forge s r (Q .decoded) work (Q .kept) (Q .room) t below f F c (L .state) d work₁ fed (p .begun) (z .begun) (L .begun) have-begun (omega (arith, W .began .from, H .begun))
+      pub forge-ready : (r .rules .n ≤ 16) × (t < 128) × (entriesEnd ≤ length work₃) × SentIn work₃ (r .starts) t
+      forge-ready =
+          can-forge s r (Q .decoded) work (Q .kept) (Q .room) t below written (p .ends) f F c (L .state) (L .requested) (L .written) same d work₁ fed work₃ outside
+          (p .begun) (z .begun) (L .begun) have-begun (omega (arith, W .began .from, H .begun))
 
-      pub went : (work₂ : List ℕ) → Posted work₁ work₂ (forges (z .ends) (r .rules .n) work₁ (getD (r .starts) t 0) (getD (r .starts) (t + 1) 0))
-          → Went s work work₂ answers answers₁ r (t + 1) (at servers p) (at served z)
-      went work₂ N =
-          let k = kept s r (Q .decoded) work (Q .kept) (Q .room) t below f F c (L .state) d work₁ fed in
+      pub went : (work₄ : List ℕ) → Posted work₃ work₄ (forges (z .ends) (r .rules .n) work₃ (getD (r .starts) t 0) (getD (r .starts) (t + 1) 0))
+          → Went s work work₄ answers answers₁ r (at servers p written t) (at served z written₁ (t + 1))
+      went work₄ P =
+          let D = Q .decoded in
+          let k = kept s r D work (Q .kept) (Q .room) t below written (p .ends) f F c (L .state) (L .requested) (L .written) same d work₁ fed in
           let rs = rw (H .begun) at (W .readers) in
+          let up : p .begun ≤ z .begun = omega (arith, W .began .from, H .begun) in
           record {
-            kept = record { size = N .rest .size ∙ k .size; past = λ x l. N .rest .past x l ∙ k .past x l };
+            kept = behind-trans work work₁ work₄ (past-behind work work₁ k) (behind-trans work₁ work₃ work₄ (outside .rest) (past-behind work₃ work₄ (P .rest)));
             played = record {
-              size = servers-there s r (Q .decoded) work (Q .kept) (Q .room) t below f F c (L .state) d work₁ fed;
-              state = rw (add-one t) (state-next s r (Q .decoded) work (Q .kept) (Q .room) t below f F c (L .state) d work₁ fed
-                  (p .begun) (z .begun) (L .begun) have-begun (omega (arith, W .began .from, H .begun)) (at served z .cluster) work₂ refl rs (rw (W .ends, rs) at N));
+              size = servers-there s r D work (Q .kept) (Q .room) t below written (p .ends) f F c (L .state) (L .requested) (L .written) same d work₁ fed;
+              state = rw (add-one t) (state-next s r D work (Q .kept) (Q .room) t below written (p .ends) f F c (L .state) (L .requested) (L .written) same d work₁ fed work₃ outside
+                  (p .begun) (z .begun) (L .begun) have-begun up (at served z written₁ t .cluster) work₄ refl rs (rw (W .ends, rs) at P));
+              requested = rw (add-one t) (requested-past (planOf 16 s) (suc t) work₃ work₄ (P .rest) (requested-after s r D t below written (L .written) (p .begun) (z .begun) (L .begun) have-begun up
+                  written₁ work₁ work₂ work₃ (requested-past (planOf 16 s) t work work₁ k (L .requested)) N (rw (H .begun) at (W .asked))));
+              written = rw (add-one t) (written-next s r D t below written (L .written) written₁ work₁ work₂ N);
               begun = have-begun;
               answered = have-ended;
             };
             ordered = omega (arith, W .ended .from, H .answered);
-            answers = rw (H .answered) at (W .answers) ∙ answers-are s r (Q .decoded) work (Q .kept) (Q .room) t below f F c (L .state) d work₁ fed
+            answers = rw (H .answered) at (W .answers) ∙ answers-are s r D work (Q .kept) (Q .room) t below written (p .ends) f F c (L .state) (L .requested) (L .written) same d work₁ fed
                 (p .answered) (z .answered) answers (L .answered) have-ended (omega (arith, W .ended .from, H .answered));
           }

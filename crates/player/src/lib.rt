@@ -6,17 +6,47 @@ ghost use Rattle.plan.specs.Packed.{planOf};
 ghost use Rattle.plan.specs.Playable.{Playable};
 ghost use Rattle.answers.specs.Answers.{answerSize};
 ghost use Rattle.answers.specs.Workspace.{workspaceSize};
+ghost use Rattle.script.specs.Forged.{entriesEnd};
+ghost use Rattle.player.specs.Run.{Fresh};
 ghost use Rattle.player.specs.Player.{Answered, Seen};
 use calendar::PLACES;
+use cluster::Cluster;
 use plan::header::Shape;
+use script::Script;
 use script::operations;
 use serving::Server;
 
 pub mod run;
 pub mod tick;
 
+// The cluster between two ticks: how many writes and reads have begun, how many reads have been answered, and the tick that is next.
+pub struct Playing {
+    pub cluster: Cluster,
+    pub written: u8,
+    pub begun: usize,
+    pub answered: usize,
+    pub tick: u8,
+}
+
 // The answers of all reads that a table can hold, if no one asks for them.
 const UNASKED: usize = Shape::ANSWER_BYTES * operations::TABLE_READS;
+
+// Before the first tick: nothing is under way.
+fn begin(work: &mut [u8], script: Script) -> Playing
+    requires { ⌜ entriesEnd ≤ length (now work) ⌝ }
+    ensures { λ r. ⌜ Fresh (now (work .entry)) (now (work .exit)) script r ⌝ }
+{
+    calendar::start(work, PLACES);
+    requests::start(work);
+    let cluster = cluster::tick::start(script.shape.initial);
+    Playing {
+        cluster,
+        written: 0,
+        begun: 0,
+        answered: 0,
+        tick: 0,
+    }
+}
 
 // Plays all ticks, writes the answers and zeroes the workspace.
 pub fn play(plan: &[u8], answers: &mut [u8], work: &mut [u8])
@@ -24,10 +54,8 @@ pub fn play(plan: &[u8], answers: &mut [u8], work: &mut [u8])
     ensures { λ _. ⌜ Answered (now (plan .entry)) (now (answers .entry)) (now (answers .exit)) (now (work .entry)) (now (work .exit)) ⌝ }
 {
     let script = script::read(plan, work);
-    calendar::start(work, PLACES);
-    let shape = script.shape;
-    let start = cluster::tick::start(shape.initial);
-    let _end = run::run(plan, answers, work, script, shape.ticks, start);
+    let start = begin(work, script);
+    let _end = run::run(start, plan, answers, work, script, script.shape.ticks);
     answers::zero(work);
 }
 
@@ -37,12 +65,10 @@ pub fn look(plan: &[u8], work: &mut [u8], server: usize, tick: u8) -> Server
     ensures { λ r. ⌜ Seen (now (plan .entry)) server tick r (now (work .entry)) (now (work .exit)) ⌝ }
 {
     let script = script::read(plan, work);
-    calendar::start(work, PLACES);
-    let start = cluster::tick::start(script.shape.initial);
+    let start = begin(work, script);
     let mut unasked = [0u8; UNASKED];
-    let before = run::run(plan, &mut unasked, work, script, tick, start);
-    let feed = tick::feed_of(plan, script, tick);
-    let c = cluster::tick::next(before, work, plan, feed);
+    let end = run::run(start, plan, &mut unasked, work, script, tick + 1);
     answers::zero(work);
+    let c = end.cluster;
     c.servers[server]
 }

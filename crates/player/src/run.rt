@@ -1,54 +1,84 @@
 // The ticks of a plan that can be played, in order.
-ghost use Prim.Native.Nat.{_*_, _≤_};
+ghost use mathlib.Core.Path.{_≡_};
+ghost use Prim.Native.Nat.{suc, _*_, _≤_, _<_};
 ghost use lib.ListN.{length};
-ghost use Rattle.calendar.specs.Layout.{places};
-ghost use Rattle.calendar.specs.View.{Empty};
-ghost use Rattle.cluster.specs.Tick.{Started};
 ghost use Rattle.answers.specs.Answers.{answerSize};
-ghost use Rattle.player.specs.Run.{Ready, Ended};
+ghost use Rattle.player.specs.Run.{Ready, Played, Went};
+use super::Playing;
 use super::tick::feed_of;
+use super::tick::write_on;
 use cluster::Cluster;
 use cluster::tick;
 use script::Script;
 
-// The first `ticks` ticks; the reads that end in them are answered. The start is handed in: built in here it would be kept field by field and
-// copied so in every tick. Most ticks bring the readers nothing, and no read ends or begins in them: then the readers stay where they are.
+// The ticks from the next one to before tick `to`; the reads that end in them are answered. Most ticks bring the readers nothing, and no read ends or
+// begins in them: then the readers stay where they are.
 pub fn run(
+    start: Playing,
     plan: &[u8],
     answers: &mut [u8],
     work: &mut [u8],
     script: Script,
-    ticks: u8,
-    start: Cluster,
-) -> Cluster
-    requires { ⌜ Ready (now plan) (now work) script × (ticks ≤ script .shape .ticks) × Started (script .shape .initial) start × Empty (now work) places × (answerSize 16 * script .reads .m ≤ length (now answers)) ⌝ }
-    ensures { λ r. ⌜ Ended (now (plan .entry)) (now (work .entry)) (now (work .exit)) (now (answers .entry)) (now (answers .exit)) script ticks r ⌝ }
+    to: u8,
+) -> Playing
+    requires { ⌜ Ready (now plan) (now work) script × Played (now plan) (now work) script start × (start .tick ≤ to) × (to ≤ script .shape .ticks) × (answerSize 16 * script .reads .m ≤ length (now answers)) ⌝ }
+    ensures { λ r. ⌜ Went (now (plan .entry)) (now (work .entry)) (now (work .exit)) (now (answers .entry)) (now (answers .exit)) script start r × (r .tick ≡ to) ⌝ }
 {
     let reads = script.reads;
-    let delta = script.rules.delta;
-    let mut servers = start.servers;
-    let readers = start.readers;
-    let mut r = reading::none(readers);
-    let mut t: u8 = 0;
-    while t < ticks {
+    let rules = script.rules;
+    let known = script.writes.known;
+    let values = known.values;
+    let cluster = start.cluster;
+    let mut servers = cluster.servers;
+    let readers = cluster.readers;
+    let mut r = reading::of(readers, start.begun, start.answered);
+    let mut written = start.written;
+    let mut t = start.tick;
+    while t < to {
         // 1. Deliveries, to the readers and to the servers. 2. Cures end. 3. Movement. 4. Echo.
+        let ends = r.ends;
+        let feed = feed_of(plan, work, script, written, ends, t);
+        let due = tick::together(feed.arrivals);
         if tick::is_heard(work, t as usize) {
             let readers = r.readers;
             let heard = tick::hear(readers, work, t as usize);
             r.readers = heard;
         }
-        let ends = r.ends;
-        let served = tick::serve(servers, work, plan, feed_of(plan, script, t), ends);
-        servers = served;
-        // Reads end, then begin.
-        if reading::is_due(&reads.begun, reads.m, r.begun, r.answered, t, delta) {
-            r = reading::go_on(r, answers, script, t);
+        let mut b: usize = 0;
+        while b < rules.n {
+            let s = servers[b];
+            if tick::is_reached(s, work, b, feed, due, &values) {
+                servers[b] = tick::turn(s, work, plan, b, feed, &values, ends);
+            } else {
+                tick::pass_over(work, t as usize, b);
+            }
+            b += 1;
+        }
+        // Operations end, then begin.
+        written = write_on(work, plan, script, written, t);
+        if reading::is_due(&reads.begun, reads.m, r.begun, r.answered, t, rules.delta) {
+            r = reading::go_on(r, answers, work, plan, script, t);
         }
         // 5. Forgeries.
         let ends = r.ends;
-        forging::forge(work, ends, script.rules.n, &script.starts, t as usize);
+        forging::forge(work, ends, rules.n, &script.starts, t as usize);
         t += 1;
     }
     let readers = r.readers;
-    Cluster { servers, readers }
+    let cluster = Cluster { servers, readers };
+    Playing {
+        cluster,
+        written,
+        begun: r.begun,
+        answered: r.answered,
+        tick: t,
+    }
+}
+
+// The next tick.
+pub fn one(p: Playing, plan: &[u8], answers: &mut [u8], work: &mut [u8], script: Script) -> Playing
+    requires { ⌜ Ready (now plan) (now work) script × Played (now plan) (now work) script p × (p .tick < script .shape .ticks) × (answerSize 16 * script .reads .m ≤ length (now answers)) ⌝ }
+    ensures { λ r. ⌜ Went (now (plan .entry)) (now (work .entry)) (now (work .exit)) (now (answers .entry)) (now (answers .exit)) script p r × (r .tick ≡ suc (p .tick)) ⌝ }
+{
+    run(p, plan, answers, work, script, p.tick + 1)
 }

@@ -85,13 +85,13 @@ unfolding placed
 placed-same f g k zero b h = refl
 placed-same f g k (suc n) b h = rw (h (k + n) (omega arith) (omega arith), placed-same f g k n b (λ i a l. h i a (omega arith)))
 
-pub placed-on : (f : ℕ → List ℕ) (k n : ℕ) (b : List ℕ) → placed f k n (placed f 0 k b) ≡ placed f 0 (k + n) b
+pub placed-on : (f : ℕ → List ℕ) (a k n : ℕ) (b : List ℕ) → placed f (a + k) n (placed f a k b) ≡ placed f a (k + n) b
 unfolding placed
-placed-on f k zero b = let z : k + 0 ≡ k = omega arith in rw z
-placed-on f k (suc n) b =
+placed-on f a k zero b = let z : k + 0 ≡ k = omega arith in rw z
+placed-on f a k (suc n) b =
     let z : k + suc n ≡ suc (k + n) = omega arith in
-    let y : 0 + (k + n) ≡ k + n = omega arith in
-    rw (z, y, placed-on f k n b)
+    let y : a + k + n ≡ a + (k + n) = omega arith in
+    rw (z, y, placed-on f a k n b)
 
 -- ---- begins
 

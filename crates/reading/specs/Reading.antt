@@ -14,6 +14,8 @@ use Rattle.cluster.specs.Tick.{noReader, endsOf}
 use Rattle.script.specs.declared.operations.Reads.{Reads}
 use Rattle.script.specs.declared.Script.{Script}
 use Rattle.register.specs.Plan.{Read}
+use Rattle.requests.specs.Requests.{Asked}
+use Rattle.asking.specs.Asking.{askedBetween}
 use Rattle.answers.specs.Answers.{answerSize, answerBytes}
 use Rattle.answers.specs.Choosing.{highestOf, answerBy}
 use Rattle.reading.specs.declared.Reading.{Reading}
@@ -71,14 +73,16 @@ isBefore begun m k u = ltb k m && ltb (getD begun k 0) u
 -- what is needed of the script and of the reads so far
 pub record Begun (r : Script) (p : Reading) : Type 0 where
   pub table : There (r .reads .reader) 0 (r .reads .m)
+  pub parties : (i : ℕ) → i < r .reads .m → r .rules .n + getD (r .reads .reader) i 0 < r .links .parties
   pub pairs : r .writes .known .m ≤ places
   pub begun : p .begun ≤ r .reads .m
   pub answered : p .answered ≤ r .reads .m
 
--- the reads that end in tick t are answered, those that begin in it are set up
-pub record WentOn (r : Script) (t : ℕ) (p q : Reading) (answers₀ answers₁ : List ℕ) : Type 0 where
+-- the reads that end in tick t are answered, those that begin in it are set up, and their READs are under way
+pub record WentOn (plan : List ℕ) (r : Script) (t : ℕ) (p q : Reading) (answers₀ answers₁ work₀ work₁ : List ℕ) : Type 0 where
   pub ended : Until (r .reads .begun) (r .reads .m) (p .answered) (t + 1 - 2 * r .rules .delta) (q .answered)
   pub began : Until (r .reads .begun) (r .reads .m) (p .begun) (t + 1) (q .begun)
   pub answers : answers₁ ≡ placed (chosenBytes (p .readers) (r .reads) (r .writes .known) (r .rules .reply)) (p .answered) (q .answered - p .answered) answers₀
   pub readers : q .readers ≡ begunBy (r .reads .reader) (t + 2 * r .rules .delta) (p .begun) (q .begun - p .begun) (p .readers)
   pub ends : q .ends ≡ endsOf (q .readers)
+  pub asked : Asked work₀ work₁ (askedBetween plan (r .links) (r .rules .n) t (r .reads .reader) (p .begun) (q .begun))

@@ -10,6 +10,8 @@ ghost use Rattle.cluster.specs.Inputs.{pairAt};
 ghost use Rattle.cluster.specs.Tick.{endsOf};
 ghost use Rattle.answers.specs.Answers.{answerSize, answerBytes};
 ghost use Rattle.answers.specs.Choosing.{highestOf, answerBy};
+ghost use Rattle.serving.specs.Links.{Linked};
+ghost use Rattle.requests.specs.Requests.{requestsEnd};
 ghost use Rattle.reading.specs.Reading.{Until, There, chosenBytes, placed, begunBy, isBefore, Begun, WentOn};
 use calendar::PLACES;
 use cluster::Known;
@@ -35,16 +37,16 @@ pub fn size_of(x: u8) -> usize
     x as usize
 }
 
-// No read yet.
-pub fn none(readers: [Reader; READERS]) -> Reading
-    ensures { λ r. ⌜ r ≡ record { readers = readers; ends = endsOf readers; begun = 0; answered = 0 } ⌝ }
+// These readers, after so many reads have begun and been answered.
+pub fn of(readers: [Reader; READERS], begun: usize, answered: usize) -> Reading
+    ensures { λ r. ⌜ r ≡ record { readers = readers; ends = endsOf readers; begun = begun; answered = answered } ⌝ }
 {
     let ends = tick::ends_of(readers);
     Reading {
         readers,
         ends,
-        begun: 0,
-        answered: 0,
+        begun,
+        answered,
     }
 }
 
@@ -182,21 +184,40 @@ pub fn is_due(
 }
 
 // 'Reads end, then reads begin' in tick t.
-pub fn go_on(r: Reading, answers: &mut [u8], script: Script, t: u8) -> Reading
-    requires { ⌜ Begun script r × (t < 128) × (script .rules .delta ≤ 15) × (answerSize 16 * script .reads .m ≤ length (now answers)) ⌝ }
-    ensures { λ q. ⌜ WentOn script t r q (now (answers .entry)) (now (answers .exit)) ⌝ }
+pub fn go_on(
+    r: Reading,
+    answers: &mut [u8],
+    work: &mut [u8],
+    plan: &[u8],
+    script: Script,
+    t: u8,
+) -> Reading
+    requires { ⌜ Begun script r × Linked (now plan) (script .links) (script .rules .n) (t + 1) × (script .rules .delta ≤ 15) × (answerSize 16 * script .reads .m ≤ length (now answers)) × (requestsEnd ≤ length (now work)) ⌝ }
+    ensures { λ q. ⌜ WentOn (now (plan .entry)) script t r q (now (answers .entry)) (now (answers .exit)) (now (work .entry)) (now (work .exit)) ⌝ }
 {
+    let rules = script.rules;
+    let delta = rules.delta;
     let reads = script.reads;
-    let delta = script.rules.delta;
     let readers = r.readers;
     let ended = first_from(&reads.begun, reads.m, r.answered, ended_by(t, delta));
     end_all(answers, readers, script, r.answered, ended);
-    let began = first_from(&reads.begun, reads.m, r.begun, size_of(t) + 1);
-    let after = begin_all(readers, &reads.reader, r.begun, began, t + 2 * delta);
+    let from = r.begun;
+    let began = first_from(&reads.begun, reads.m, from, size_of(t) + 1);
+    let after = begin_all(readers, &reads.reader, from, began, t + 2 * delta);
+    asking::ask_all(
+        work,
+        plan,
+        script.links,
+        rules.n,
+        t as usize,
+        &reads.reader,
+        from,
+        began,
+    );
     let ends = tick::ends_of(after);
     Reading {
         readers: after,
-        ends: ends,
+        ends,
         begun: began,
         answered: ended,
     }

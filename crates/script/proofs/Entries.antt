@@ -11,8 +11,7 @@ use lib.Seq.{getD-set-same, getD-set-other}
 use Rattle.register.specs.Plan.{Forgery}
 use Rattle.serving.specs.declared.Links.{Links}
 use Rattle.serving.specs.Links.{delayAt}
-use Rattle.script.specs.Forged.{entriesAt, entryAt, numberIn, entryBytes, Entry, Filled, Start}
-use Rattle.script.specs.Inputs.{Reach}
+use Rattle.script.specs.Forged.{entriesAt, entryAt, numberIn, entryBytes, Entry, Filled, Start, Reach}
 
 module _ (work : List ℕ) (at a b c d e : ℕ) where
   abbrev s0 : List ℕ

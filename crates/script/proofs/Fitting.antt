@@ -1,7 +1,7 @@
 -- What a script and its ticks are fed fits the plan: the laws that the crate above cites.
--- It stands on Knowing, Asking and Naming.
+-- It stands on Knowing, Naming and the laws of requests.
 use mathlib.Core.Path.{_≡_, sym, ap, _∙_}
-use mathlib.Core.Bool.{true, false, not}
+use mathlib.Core.Bool.{Bool, true, false, not}
 use mathlib.Core.List.{List}
 use Prim.Native.Nat.{ℕ, suc, _+_, _*_, _-_, _/_, _%_, _^_, _≤_, _<_}
 use native.Mathlib.Nat.{div-mul-le-self}
@@ -21,23 +21,26 @@ use Rattle.plan.specs.Packed.{planOf}
 use Rattle.plan.specs.Playable.{Playable}
 use Rattle.plan.proofs.Accept.{in-range}
 use Rattle.plan.proofs.AcceptReads.{read-stands}
-use Rattle.plan.proofs.AcceptGood.{delay-range}
+use Rattle.plan.proofs.AcceptGood.{delay-range, good}
 use Rattle.cluster.specs.declared.Arrivals.{Arrivals}
 use Rattle.cluster.specs.declared.Movement.{Movement}
 use Rattle.calendar.specs.Bits.{bit}
 use Rattle.calendar.specs.Layout.{places}
-use Rattle.calendar.specs.View.{SamePast, Spanned}
+use Rattle.calendar.specs.View.{Spanned}
+use Rattle.requests.specs.Requests.{SameBehind}
+use Rattle.states.specs.State.{Open}
+use Rattle.states.specs.Requests.{Requested}
+use Rattle.states.proofs.RequestLaws.{asked-now}
 use Rattle.serving.specs.Links.{delayAt}
-use Rattle.cluster.specs.Inputs.{pairAt, Knows, Sized, Fits}
+use Rattle.cluster.specs.Inputs.{pairAt, requesters, wroteAt, asksAt, Knows, Sized, Fits}
 use Rattle.serving.proofs.BitLaws.{bit-shift}
 use Rattle.script.specs.declared.Script.{Script}
-use Rattle.script.specs.Inputs.{Arrive, Moves}
+use Rattle.script.specs.Inputs.{LatestWrite, liveAt, Arrive, Moves}
 use Rattle.script.specs.Forged.{entriesEnd, entryAt, entriesAt, Entry, Starts}
 use Rattle.script.specs.Script.{messageOf, messageDelay, messageNumber, Scripted}
 use Rattle.script.proofs.Placing.{table, link-delay}
 use Rattle.script.proofs.Messages.{other-link}
 use Rattle.script.proofs.Knowing.{knows, wrote-last}
-use Rattle.script.proofs.Asking.{latest-is, asked-latest}
 
 -- server b of a placement, as its bit from the top
 placed-bit : (s : List ℕ) (at b : ℕ) → b < 16 → bit (15 - b) (fieldOf s at 16) ≡ eqb (fieldOf s (at + b) 1) 1
@@ -48,10 +51,10 @@ placed-bit s at b h =
     let inner : fieldOf s (at + b) 1 ≡ fieldOf s at 16 / 2 ^ (15 - b) % 2 = rw w at (field-inner s at b 1 (15 - b)) in
     rw inner (sym (rw z at (bit-shift 0 (15 - b) (fieldOf s at 16))))
 
--- the entries stay as they are where only the calendar changes
-module _ (s after work values : List ℕ) (m : ℕ) (K : SamePast after work) where
+-- the entries stay as they are where only the calendar and the requests change
+module _ (s after work values : List ℕ) (m : ℕ) (K : SameBehind after work) where
   pub entry-kept : (e k : ℕ) → entryAt work e k ≡ entryAt after e k
-  entry-kept e k = K .past (entriesAt + 8 * e + k) (omega arith)
+  entry-kept e k = K .behind (entriesAt + 8 * e + k) (omega arith)
 
   pub entries-kept : ((e : ℕ) → e < headerOf 16 s .forgeries → Entry after e (messageOf s e) (messageDelay s e) (messageNumber s values m e))
       → (e : ℕ) → e < headerOf 16 s .forgeries → Entry work e (messageOf s e) (messageDelay s e) (messageNumber s values m e)
@@ -76,9 +79,10 @@ module _ (s before after : List ℕ) (A : Playable 16 s) (r : Script) (R : Scrip
   pub script-knows : Knows (planOf 16 s) (pairAt (r .writes .known)) (r .writes .known .m)
   script-knows = knows s A (r .writes .known) (r .writes .begun) (R .writes)
 
-  module _ (t : ℕ) (below : t < headerOf 16 s .ticks) (arrivals : Arrivals) (movement : Movement)
-      (comes : Arrive s (r .links) (headerOf 16 s .n) (r .writes .begun) (r .writes .known .m) (r .reads .begun) (r .reads .reader) (r .reads .m) t arrivals)
-      (moves : Moves s (headerOf 16 s .period) t movement) where
+  module _ (t : ℕ) (below : t < headerOf 16 s .ticks) (work ends : List ℕ) (number : ℕ) (arrivals : Arrivals) (movement : Movement)
+      (comes : Arrive work number ends t (headerOf 16 s .delta) arrivals) (moves : Moves s (headerOf 16 s .period) t movement)
+      (requested : Requested (planOf 16 s) t work) (latest : LatestWrite (r .writes .begun) (r .writes .known .m) t number)
+      (open-ends : (q : Read) → Open (planOf 16 s) t q → getD ends (q .reader - 1) 0 ≡ readEnd (planOf 16 s) q) where
     faulty-placed : isMove (planOf 16 s) t ≡ true → (b : ℕ) → b < planOf 16 s .n → bit (15 - b) (movement .faulty) ≡ planOf 16 s .placed (t / planOf 16 s .period) b
     unfolding isMove planOf inPlacement
     faulty-placed e b l =
@@ -103,31 +107,34 @@ module _ (s before after : List ℕ) (A : Playable 16 s) (r : Script) (R : Scrip
         )
 
     wrote : (b j : ℕ) → b < planOf 16 s .n → j < r .writes .known .m
-        → member (pairAt (r .writes .known) j) (writesIn (planOf 16 s) t b) ≡ eqb j (getD (arrivals .wrote) b 0)
-    unfolding planOf
+        → member (pairAt (r .writes .known) j) (writesIn (planOf 16 s) t b) ≡ eqb j (wroteAt (arrivals .requests) (arrivals .number) b)
+    unfolding wroteAt
     wrote b j lb lj =
-        wrote-last s A (r .writes .known) (r .writes .begun) (R .writes) (r .links) (R .links) t below b lb (comes .latest) (comes .is-latest) j lj
-        ∙ sym (ap (eqb j) (comes .wrote b lb))
+        wrote-last s A (r .writes .known) (r .writes .begun) (R .writes) t b number latest j lj
+        ∙ rw (comes .requests .each 0 (omega arith), comes .last, requested .writes t b (omega arith) (omega arith) lb)
 
     asks : (b : ℕ) (q : Read) → b < planOf 16 s .n → In q (planOf 16 s .reads) → q .begun < t → t ≤ readEnd (planOf 16 s) q
-        → any (sameRead q) (readsIn (planOf 16 s) t b) ≡ bit (q .reader) (getD (arrivals .asks) b 0)
-    unfolding planOf
+        → any (sameRead q) (readsIn (planOf 16 s) t b) ≡ asksAt (arrivals .requests) b (q .reader)
+    unfolding asksAt
     asks b q lb iq begun lasts =
-        let Q = read-stands 16 s A q iq in
-        asked-latest s A (r .reads .begun) (r .reads .reader) (r .reads .m) (R .reads) t q iq (r .links) (R .links) below b lb begun lasts
-        ∙ sym (comes .asks b (q .reader) lb (Q .reader-lo) (omega (arith, Q .reader-hi, R .links .parties)))
+        let (lo, hi) = script-knows .readers q iq in
+        asked-now (planOf 16 s) (good 16 s A) t b q iq begun lasts
+        ∙ rw (lt-ltb (q .reader) requesters (omega arith), lt-ltb 0 (q .reader) (omega arith), comes .requests .each (q .reader) (omega arith), requested .reads t (q .reader) b (omega arith) (omega arith) lo hi lb)
 
-    live : (q : Read) → In q (planOf 16 s .reads) → q .begun < t → t ≤ readEnd (planOf 16 s) q → bit (q .reader) (arrivals .live) ≡ not (eqb (suc (q .begun)) t)
+    live : (q : Read) → In q (planOf 16 s .reads) → q .begun < t → t ≤ readEnd (planOf 16 s) q → bit (q .reader) (arrivals .live) ≡ not (eqb (readEnd (planOf 16 s) q + 1) (t + 2 * headerOf 16 s .delta))
+    unfolding liveAt
     live q iq begun lasts =
-        comes .live (q .reader) (read-stands 16 s A q iq .reader-below)
-        ∙ ap (λ (v : ℕ). not (eqb v t)) (latest-is s A (r .reads .begun) (r .reads .reader) (r .reads .m) (R .reads) t q iq begun lasts)
+        let (lo, hi) = script-knows .readers q iq in
+        ap (λ (f : ℕ → Bool). f (q .reader)) (comes .live)
+        ∙ rw (lt-ltb (q .reader) requesters (omega arith), lt-ltb 0 (q .reader) (omega arith), open-ends q (record { listed = iq; begun = begun; lasts = lasts }))
 
     lasting : (q : Read) → In q (planOf 16 s .reads) → suc (q .begun) < t → t ≤ readEnd (planOf 16 s) q → bit (q .reader) (arrivals .live) ≡ true
-    lasting q iq begun lasts = live q iq (omega arith) lasts ∙ ap not (ne-eqb (suc (q .begun)) t (λ z. omega arith))
+    unfolding planOf
+    lasting q iq begun lasts = live q iq (omega arith) lasts ∙ ap not (ne-eqb (readEnd (planOf 16 s) q + 1) (t + 2 * headerOf 16 s .delta) (λ z. omega arith))
 
     began : (q : Read) → In q (planOf 16 s .reads) → suc (q .begun) ≡ t → bit (q .reader) (arrivals .live) ≡ false
     unfolding planOf
-    began q iq e = live q iq (omega arith) (omega (arith, in-range 16 s A .delta-lo)) ∙ ap not (eq-eqb (suc (q .begun)) t e)
+    began q iq e = live q iq (omega arith) (omega (arith, in-range 16 s A .delta-lo)) ∙ ap not (eq-eqb (readEnd (planOf 16 s) q + 1) (t + 2 * headerOf 16 s .delta) (omega arith))
 
     pub script-fits : Fits (planOf 16 s) t s (r .rules) (r .writes .known) (r .links) arrivals movement
     unfolding planOf isMove

@@ -5,17 +5,16 @@ use mathlib.Core.Bool.{Bool, true, false, _&&_, cond}
 use mathlib.Core.List.{List}
 use Prim.Native.Nat.{ℕ, zero, suc, _+_, _/_, _≤_, _<_}
 use native.Mathlib.Omega.{arith}
-use native.Mathlib.Decide.{decLe}
-use lib.Dec.{T, eqb, ltb, ltb→lt, eqb→eq, eqb-refl}
+use native.Mathlib.Decide.{decLe, ℕ-discrete}
+use lib.Dec.{T, eqb, ltb, ltb→lt, lt→ltb, eqb→eq, eqb-refl}
 use lib.ListN.{length, getD}
-use borrow.Author.Tests.{lt-ltb, le-ltb, eq-eqb}
+use borrow.Author.Tests.{lt-ltb}
 use Rattle.register.specs.Lists.{filter, In, member}
 use Rattle.register.specs.Plan.{Write, numberOf}
 use Rattle.register.specs.Cluster.{writesIn}
-use Rattle.register.proofs.Logic.{T-iff, and-l, and-r}
+use Rattle.register.proofs.Logic.{T-iff, T-eq, and-l, and-r, and-i}
 use Rattle.register.proofs.Lists.{any-in, in-any, in-map, map-in, in-filter, filter-in}
 use Rattle.plan.specs.Header.{headerOf}
-use Rattle.plan.specs.Parts.{isLink}
 use Rattle.plan.specs.Packed.{planOf}
 use Rattle.plan.proofs.Tests.{getD-in, in-getD}
 use Rattle.plan.proofs.Stamped.{number-stamped}
@@ -25,21 +24,16 @@ use Rattle.plan.proofs.AcceptWrites.{writes-apart}
 use Rattle.plan.proofs.AcceptReads.{read-stands}
 use Rattle.plan.proofs.AcceptGood.{delay-range}
 use Rattle.cluster.specs.declared.Known.{Known}
-use Rattle.serving.specs.declared.Links.{Links}
+use Rattle.calendar.specs.Layout.{noPair}
+use Rattle.states.specs.Requests.{writeReaches, writeWay, writeBegins}
 use Rattle.cluster.specs.Inputs.{pairAt, Knows}
 use Rattle.script.specs.Operations.{noWrite, Written}
-use Rattle.script.specs.Inputs.{due, LatestWrite}
-use Rattle.script.specs.Script.{LinksOf}
-use Rattle.script.proofs.Placing.{link-delay}
+use Rattle.script.specs.Inputs.{LatestWrite}
 
-writer-link : (n b : ℕ) → b < n → T (isLink n n b)
-unfolding isLink
-writer-link n b l = rw (le-ltb n n (omega arith), lt-ltb b n l) tt
-
--- the number that is written where a test passes, else 255
-taken : (j l : ℕ) (c : Bool) → j < 255 → T (eqb j (cond c l 255)) → (j ≡ l) × T c
+-- the number that is written where a test passes, else none
+taken : (j l : ℕ) (c : Bool) → j < 255 → T (eqb j (cond c l noPair)) → (j ≡ l) × T c
 taken j l true h t = (eqb→eq j l t, tt)
-taken j l false h t = absurd (omega (arith, eqb→eq j 255 t))
+taken j l false h t = absurd (omega (arith, eqb→eq j noPair t))
 
 module _ (s : List ℕ) (A : Playable 16 s) (known : Known) (begun : List ℕ)
     (W : Written (planOf 16 s .writes) (headerOf 16 s .initial) (known .values) begun (known .m)) where
@@ -86,8 +80,62 @@ module _ (s : List ℕ) (A : Playable 16 s) (known : Known) (begun : List ℕ)
     readers = λ r h. (read-stands 16 s A r h .reader-lo, omega (arith, read-stands 16 s A r h .reader-hi, in-range 16 s A .readers-hi));
   }
 
-  module _ (links : Links) (L : LinksOf (headerOf 16 s) links) (t : ℕ) (below : t < headerOf 16 s .ticks) (b : ℕ) (server : b < headerOf 16 s .n)
-      (last : ℕ) (latest : LatestWrite begun (known .m) t last) where
+  -- the next write begins after tick t
+  pub latest-next : (t last : ℕ) → LatestWrite begun (known .m) t last → (suc last < known .m → getD begun (suc last) 0 ≡ t → ⊥) → LatestWrite begun (known .m) (suc t) last
+  latest-next t last L later = record { below = L .below; before = λ h. omega (arith, L .before h); last = λ j a b. go j a b (ℕ-discrete j (suc last)) }
+    where
+      first : suc last < known .m → suc t ≤ getD begun (suc last) 0
+      first l = elim (ℕ-discrete (getD begun (suc last) 0) t) [ yes e ↦ absurd (later l e) | no d ↦ omega (arith, L .last (suc last) (omega arith) l) ]
+
+      go : (j : ℕ) → last < j → j < known .m → Dec (j ≡ suc last) → suc t ≤ getD begun j 0
+      go j a b (yes e) = rw e (first (omega arith))
+      go j a b (no d) = omega (arith, first (omega arith), begun-apart (suc last) j (omega arith) (omega arith) b)
+
+  -- it begins in tick t
+  pub latest-begun : (t last : ℕ) → suc last < known .m → getD begun (suc last) 0 ≡ t → LatestWrite begun (known .m) (suc t) (suc last)
+  latest-begun t last l e = record { below = l; before = λ h. omega arith; last = λ j a b. omega (arith, begun-apart (suc last) j (omega arith) a b) }
+
+  -- the writes that begin in tick t: the next one, or none
+  module _ (t u b last : ℕ) (latest : LatestWrite begun (known .m) t last) where
+    abbrev begins : Bool
+    begins = ltb (suc last) (known .m) && eqb (getD begun (suc last) 0) t
+
+    pub write-begins : writeBegins (planOf 16 s) t u b ≡ begins && eqb (t + planOf 16 s .delay t (planOf 16 s .n) b) u
+    unfolding writeBegins
+    write-begins = T-iff _ _ to from
+      where
+        to : T (writeBegins (planOf 16 s) t u b) → T (begins && eqb (t + planOf 16 s .delay t (planOf 16 s .n) b) u)
+        to y =
+            let (w, iw, z) = any-in (λ (w : Write). eqb (w .begun) t && writeReaches (planOf 16 s) u b w) (planOf 16 s .writes) y in
+            let now : w .begun ≡ t = eqb→eq (w .begun) t (and-l (eqb (w .begun) t) _ z) in
+            let (j, one, lj, pj, bj) = write-numbered w iw in
+            let next : j ≡ suc last = next-is j one lj (sym bj ∙ now) in
+            and-i begins _ (and-i (ltb (suc last) (known .m)) _ (rw (lt-ltb (suc last) (known .m) (rw next at lj)) tt) (rw (← next, ← bj, now) (eqb-refl t)))
+            (rw now at (and-r (eqb (w .begun) t) _ z))
+          where
+            next-is : (j : ℕ) → 1 ≤ j → j < known .m → getD begun j 0 ≡ t → j ≡ suc last
+            next-is j one lj e = go (decLe j last) (decLe j (suc last))
+              where
+                go : Dec (j ≤ last) → Dec (j ≤ suc last) → j ≡ suc last
+                go (yes v) w = absurd (earlier (ℕ-discrete j last))
+                  where
+                    earlier : Dec (j ≡ last) → ⊥
+                    earlier (yes z) = omega (arith, latest .before (omega arith), ap (λ (x : ℕ). getD begun x 0) z)
+                    earlier (no z) = omega (arith, latest .before (omega arith), begun-apart j last one (omega arith) (latest .below))
+                go (no v) (yes w) = omega arith
+                go (no v) (no w) = absurd (omega (arith, latest .last (suc last) (omega arith) (omega arith), begun-apart (suc last) j (omega arith) (omega arith) lj))
+
+        from : T (begins && eqb (t + planOf 16 s .delay t (planOf 16 s .n) b) u) → T (writeBegins (planOf 16 s) t u b)
+        from y =
+            let c = and-l begins _ y in
+            let l : suc last < known .m = ltb→lt (suc last) (known .m) (and-l (ltb (suc last) (known .m)) _ c) in
+            let now : getD begun (suc last) 0 ≡ t = eqb→eq _ t (and-r (ltb (suc last) (known .m)) _ c) in
+            let (w, iw, pw, bw) = numbered-write (suc last) (omega arith) l in
+            let e : w .begun ≡ t = bw ∙ now in
+            in-any (λ (w : Write). eqb (w .begun) t && writeReaches (planOf 16 s) u b w) w (planOf 16 s .writes) iw
+            (and-i (eqb (w .begun) t) _ (rw e (eqb-refl t)) (rw e (and-r begins _ y)))
+
+  module _ (t b last : ℕ) (latest : LatestWrite begun (known .m) t last) where
     -- write j arrives
     abbrev came : ℕ → Type 0
     came j = getD begun j 0 + planOf 16 s .delay (getD begun j 0) (planOf 16 s .n) b ≡ t
@@ -104,25 +152,18 @@ module _ (s : List ℕ) (A : Playable 16 s) (known : Known) (begun : List ℕ)
         go (yes u) (no v) = absurd (omega (arith, c, range .1, begun-apart j last a (omega arith) (latest .below), latest .before (omega arith)))
         go (no u) v = absurd (omega (arith, c, range .0, latest .last j (omega arith) l))
 
-    due-same : (u : ℕ) → u < t → due s links t u (headerOf 16 s .n) b ≡ eqb (u + planOf 16 s .delay u (planOf 16 s .n) b) t
-    unfolding planOf
-    due-same u l =
-        ap (λ (d : ℕ). eqb (u + d) t)
-        (link-delay s A links L u (headerOf 16 s .n) b (omega arith) (omega arith) (omega arith) (writer-link (headerOf 16 s .n) b server))
-
-    arrived : 1 ≤ last → came last → T (eqb last (cond (ltb 0 last && due s links t (getD begun last 0) (headerOf 16 s .n) b) last 255))
-    arrived h c = rw (lt-ltb 0 last h, due-same (getD begun last 0) (latest .before h), eq-eqb _ t c) (eqb-refl last)
-
     -- what the engine needs to know of the WRITE that arrives
-    pub wrote-last : (j : ℕ) → j < known .m
-        → member (pairAt known j) (writesIn (planOf 16 s) t b) ≡ eqb j (cond (ltb 0 last && due s links t (getD begun last 0) (headerOf 16 s .n) b) last 255)
-    unfolding writesIn
+    pub wrote-last : (j : ℕ) → j < known .m → member (pairAt known j) (writesIn (planOf 16 s) t b) ≡ eqb j (cond (writeWay (planOf 16 s) t t b) last noPair)
+    unfolding writesIn writeWay
     wrote-last j l = T-iff _ _ to from
       where
         hit : Write → Bool
         hit w = eqb (w .begun + planOf 16 s .delay (w .begun) (planOf 16 s .n) b) t
 
-        to : T (member (pairAt known j) (writesIn (planOf 16 s) t b)) → T (eqb j (cond (ltb 0 last && due s links t (getD begun last 0) (headerOf 16 s .n) b) last 255))
+        sent : Write → Bool
+        sent w = ltb (w .begun) t && writeReaches (planOf 16 s) t b w
+
+        to : T (member (pairAt known j) (writesIn (planOf 16 s) t b)) → T (eqb j (cond (writeWay (planOf 16 s) t t b) last noPair))
         to y =
             let (p, ip, ep) = any-in (λ q. eqb q (pairAt known j)) (writesIn (planOf 16 s) t b) y in
             let (w, iw, ew) = in-map (λ (w : Write). w .pair) p (filter hit (planOf 16 s .writes)) ip in
@@ -131,13 +172,17 @@ module _ (s : List ℕ) (A : Playable 16 s) (known : Known) (begun : List ℕ)
             let same : i ≡ j = sym (pair-number i) ∙ ap (λ (x : ℕ). x / 65536) (sym pi ∙ sym ew ∙ eqb→eq p (pairAt known j) ep) ∙ pair-number j in
             let arrives : came j = rw (← same, ← bi) (eqb→eq _ t hw) in
             let is-last : j ≡ last = came-last j (omega arith) l arrives in
-            rw is-last (arrived (omega arith) (rw is-last at arrives))
+            let before : w .begun < t = omega (arith, eqb→eq _ t hw, delay-range 16 s A (w .begun) (planOf 16 s .n) b .0) in
+            let way : T (writeWay (planOf 16 s) t t b) = in-any sent w (planOf 16 s .writes) wi (and-i (ltb (w .begun) t) _ (lt→ltb (w .begun) t before) hw) in
+            rw (is-last, T-eq (writeWay (planOf 16 s) t t b) way) (eqb-refl last)
 
-        from : T (eqb j (cond (ltb 0 last && due s links t (getD begun last 0) (headerOf 16 s .n) b) last 255)) → T (member (pairAt known j) (writesIn (planOf 16 s) t b))
+        from : T (eqb j (cond (writeWay (planOf 16 s) t t b) last noPair)) → T (member (pairAt known j) (writesIn (planOf 16 s) t b))
         from y =
-            let (e, c) = taken j last (ltb 0 last && due s links t (getD begun last 0) (headerOf 16 s .n) b) (omega (arith, W .few)) y in
-            let some : 0 < last = ltb→lt 0 last (and-l (ltb 0 last) _ c) in
-            let (w, iw, pw, bw) = numbered-write last some (latest .below) in
-            let comes : T (hit w) = rw (bw, ← due-same (getD begun last 0) (latest .before some)) (and-r (ltb 0 last) _ c) in
+            let (e, c) = taken j last (writeWay (planOf 16 s) t t b) (omega (arith, W .few)) y in
+            let (w, iw, z) = any-in sent (planOf 16 s .writes) c in
+            let hw : T (hit w) = and-r (ltb (w .begun) t) _ z in
+            let (i, one, li, pi, bi) = write-numbered w iw in
+            let is-last : i ≡ last = came-last i one li (rw (← bi) (eqb→eq _ t hw)) in
+            let pw : w .pair ≡ pairAt known last = pi ∙ ap (pairAt known) is-last in
             rw e (in-any (λ q. eqb q (pairAt known last)) (w .pair) (writesIn (planOf 16 s) t b)
-            (map-in (λ (w : Write). w .pair) w (filter hit (planOf 16 s .writes)) (filter-in hit w (planOf 16 s .writes) iw comes)) (rw pw (eqb-refl (pairAt known last))))
+            (map-in (λ (w : Write). w .pair) w (filter hit (planOf 16 s .writes)) (filter-in hit w (planOf 16 s .writes) iw hw)) (rw pw (eqb-refl (pairAt known last))))

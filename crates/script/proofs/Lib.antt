@@ -1,13 +1,11 @@
 pub mod Tables
 pub mod Storing
-pub mod Arriving
 pub mod Entries
 pub mod Placing
 pub mod Messages
 pub mod Forging
 pub mod Scripting
 pub mod Knowing
-pub mod Asking
 pub mod Naming
 pub mod Windows
 pub mod Fitting

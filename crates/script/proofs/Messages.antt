@@ -22,11 +22,9 @@ use Rattle.plan.specs.Playable.{Playable}
 use Rattle.plan.proofs.AcceptReads.{read-stands}
 use Rattle.plan.proofs.AcceptForgeries.{ForgedVote, ForgedReply, placed-below, forger-placed, forged-below, forged-to}
 use Rattle.serving.specs.declared.Links.{Links}
-use Rattle.script.specs.Inputs.{Reach}
-use Rattle.script.specs.Forged.{forgedBits}
+use Rattle.script.specs.Forged.{forgedBits, Reach}
 use Rattle.script.specs.Script.{LinksOf, messageOf}
-use Rattle.script.proofs.Arriving.{reach}
-use Rattle.script.proofs.Placing.{table}
+use Rattle.script.proofs.Placing.{table, reach}
 
 pub tabFrom-in : {A : Type 0} (a n : ℕ) (g : ℕ → A) (i : ℕ) → i < n → In (g (a + i)) (tabFrom a n g)
 unfolding tabFrom

@@ -19,6 +19,7 @@ use Rattle.plan.proofs.Accept.{in-range, exact}
 use Rattle.plan.proofs.AcceptWrites.{few-writes}
 use Rattle.serving.specs.declared.Links.{Links}
 use Rattle.serving.specs.Links.{linkBit, delayAt, Linked}
+use Rattle.script.specs.Forged.{Reach}
 use Rattle.script.specs.Operations.{opAt, Room}
 use Rattle.script.specs.Script.{LinksOf}
 
@@ -84,3 +85,22 @@ module _ (s : List ℕ) (A : Playable 16 s) where
     unfolding linkBit planOf delayOf
     link-delay u i b lu li lb t =
         rw (L .at, L .parties, lt-ltb u (headerOf 16 s .ticks) lu, lt-ltb i (parties (headerOf 16 s)) li, lt-ltb b (parties (headerOf 16 s)) lb, T-eq (isLink (headerOf 16 s .n) i b) t)
+
+-- a delay of a tick before t
+pub reach : (plan : List ℕ) (links : Links) (n t : ℕ) → Linked plan links n t → (u i b : ℕ) → u < t → i < links .parties → b < links .parties
+    → Reach plan links n u i b
+reach plan links n t T u i b h k l =
+    let p = links .parties in
+    let next : u + 1 ≤ t = omega arith in
+    record {
+      linked = record {
+        start = T .start;
+        ticks = omega (arith, T .ticks);
+        servers = T .servers;
+        writer = T .writer;
+        readers = T .readers;
+        inside = omega (arith, T .inside, mul-le-mul-right (p * p) next);
+      };
+      sender = k;
+      receiver = l;
+    }

@@ -1,5 +1,5 @@
 -- The forged entries of the workspace: what the code writes there for the forged messages of a plan, and where the entries of a tick start.
--- They stand behind the calendar, 8 bytes each: tick sent, tick of arrival, receiver, sender, number (255: not a known pair).
+-- They stand behind the requests, 8 bytes each: tick sent, tick of arrival, receiver, sender, number (255: not a known pair).
 use mathlib.Core.Path.{_≡_}
 use mathlib.Core.Bool.{_&&_, cond}
 use mathlib.Core.Logic.{_⊎_}
@@ -10,14 +10,20 @@ use lib.ListN.{length, getD, set}
 use Rattle.bits.specs.Field.{fieldOf}
 use Rattle.register.specs.Plan.{Forgery, stamped}
 use Rattle.serving.specs.declared.Links.{Links}
-use Rattle.calendar.specs.Layout.{places, calendarSize}
-use Rattle.serving.specs.Links.{delayAt}
+use Rattle.calendar.specs.Layout.{places}
+use Rattle.requests.specs.Requests.{requestsEnd}
+use Rattle.serving.specs.Links.{delayAt, Linked}
 use Rattle.plan.specs.declared.forgeries.Forged.{Forged}
-use Rattle.script.specs.Inputs.{Reach}
+
+-- the delay of tick u from party i to party b lies in the plan
+pub record Reach (plan : List ℕ) (links : Links) (n u i b : ℕ) : Type 0 where
+  pub linked : Linked plan links n (u + 1)
+  pub sender : i < links .parties
+  pub receiver : b < links .parties
 
 -- the byte at which they begin, how many there may be, and the byte behind them
 abbrev pub entriesAt : ℕ
-entriesAt = calendarSize
+entriesAt = requestsEnd
 
 abbrev pub mostEntries : ℕ
 mostEntries = 1024

@@ -9,8 +9,8 @@ use plan::forgeries::Forged;
 use serving::Links;
 use serving::delays;
 
-// The byte at which the forged entries begin, behind the calendar.
-pub const ENTRIES: usize = calendar::BYTES;
+// The byte at which the forged entries begin, behind the requests.
+pub const ENTRIES: usize = requests::END;
 
 // The forged message that stands from bit `at` on.
 fn message_at(part: &[u8], at: usize) -> Forged

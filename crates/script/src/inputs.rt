@@ -1,123 +1,38 @@
-// What a tick is fed: the WRITE and the READs that arrive, and the movement.
+// What a tick is fed: the requests that arrive, and the movement.
 ghost use mathlib.Core.Path.{_≡_};
 ghost use Prim.Native.Nat.{_+_, _*_, _/_, _≤_, _<_};
-ghost use lib.Dec.{eqb};
 ghost use lib.ListN.{length};
-ghost use Rattle.serving.specs.Links.{delayAt, Linked};
-ghost use Rattle.script.specs.Inputs.{Reach, LatestWrite, Wrote, LatestReads, Before, AsksAt, Asks, Live, Arrive, Moves};
-use super::operations::Reads;
-use super::operations::Writes;
+ghost use Rattle.calendar.specs.Bits.{bit};
+ghost use Rattle.requests.specs.Requests.{requestsEnd};
+ghost use Rattle.script.specs.Inputs.{liveAt, Reached, Arrive, Moves};
 use cluster::Arrivals;
 use cluster::Movement;
-use serving::Links;
-use serving::delays;
+use cluster::REQUESTERS;
+use serving::READERS;
 
-// Does what is sent in tick u from party i to party b arrive in tick t? No delay is over 15, so most are not read.
-fn is_due(plan: &[u8], links: Links, n: usize, u: u8, i: usize, b: usize, t: u8) -> bool
-    requires { ⌜ Reach (now plan) links n u i b ⌝ }
-    ensures { λ r. ⌜ r ≡ eqb (u + delayAt (now (plan .entry)) links u i b) t ⌝ }
+// The servers that each party's request reaches in tick t.
+fn reached(work: &[u8], t: usize) -> [u16; REQUESTERS]
+    requires { ⌜ requestsEnd ≤ length (now work) ⌝ }
+    ensures { λ r. ⌜ Reached (now (work .entry)) t r ⌝ }
 {
-    let sent = u as usize;
-    let now = t as usize;
-    if sent + 15 < now {
-        return false;
-    }
-    sent + delays::delay(plan, links, n, u as usize, i, b) == now
-}
-
-// The number of the last write that began before tick t; 0 if none did.
-fn latest_write(begun: [u8; 65], m: usize, t: u8) -> usize
-    requires { ⌜ (1 ≤ m) × (m ≤ 65) ⌝ }
-    ensures { λ r. ⌜ LatestWrite begun m t r ⌝ }
-{
-    let mut last: usize = 0;
-    let mut j: usize = 1;
-    while j < m {
-        if begun[j] < t {
-            last = j;
-        }
-        j += 1;
-    }
-    last
-}
-
-// The number j at each server where the WRITE begun in tick u arrives in tick t, else 255.
-fn wrote(plan: &[u8], links: Links, n: usize, u: u8, j: u8, t: u8) -> [u8; 16]
-    requires { ⌜ Linked (now plan) links n t × (u < t) ⌝ }
-    ensures { λ r. ⌜ Wrote (now (plan .entry)) links n u j t n r ⌝ }
-{
-    let mut r = [255u8; 16];
-    let mut b: usize = 0;
-    while b < n {
-        if is_due(plan, links, n, u, n, b, t) {
-            r[b] = j;
-        }
-        b += 1;
+    let mut r = [0u16; REQUESTERS];
+    let mut p: usize = 0;
+    while p < REQUESTERS {
+        r[p] = requests::reached(work, t, p);
+        p += 1;
     }
     r
 }
 
-// By reader: one more than the tick in which its last read before tick t began; 0 if none did.
-fn latest_reads(reads: Reads, t: u8) -> [u8; 8]
-    requires { ⌜ reads .m ≤ 255 ⌝ }
-    ensures { λ r. ⌜ LatestReads (reads .begun) (reads .reader) (reads .m) t r ⌝ }
+// The readers whose last read did not begin in the tick before t: `ends` has the ticks in which these reads end, 2δ after their begins.
+fn live(ends: [u8; READERS], t: u8, delta: u8) -> u8
+    ensures { λ r. ⌜ (λ x. bit x r) ≡ liveAt ends t delta ⌝ }
 {
-    let mut r = [0u8; 8];
-    let m = reads.m;
-    let mut i: usize = 0;
-    while i < m {
-        let u = reads.begun[i];
-        if u < t {
-            let x = (reads.reader[i] % 8) as usize;
-            r[x] = u + 1;
-        }
-        i += 1;
-    }
-    r
-}
-
-// The readers whose READ arrives at server b in tick t.
-fn asks_at(plan: &[u8], links: Links, n: usize, latest: [u8; 8], b: usize, t: u8) -> u8
-    requires { ⌜ Linked (now plan) links n t × Before latest t × (b < n) ⌝ }
-    ensures { λ r. ⌜ AsksAt (now (plan .entry)) links n latest b t r ⌝ }
-{
-    let parties = links.parties;
+    let fresh = t as usize + 2 * (delta as usize);
     let mut r: u8 = 0;
     let mut x: usize = 1;
-    while n + x < parties {
-        let v = latest[x];
-        if 0 < v {
-            if is_due(plan, links, n, v - 1, n + x, b, t) {
-                r = r | (1 << x);
-            }
-        }
-        x += 1;
-    }
-    r
-}
-
-// The same at each server.
-fn asks(plan: &[u8], links: Links, n: usize, latest: [u8; 8], t: u8) -> [u8; 16]
-    requires { ⌜ Linked (now plan) links n t × Before latest t ⌝ }
-    ensures { λ r. ⌜ Asks (now (plan .entry)) links n latest t r ⌝ }
-{
-    let mut r = [0u8; 16];
-    let mut b: usize = 0;
-    while b < n {
-        r[b] = asks_at(plan, links, n, latest, b, t);
-        b += 1;
-    }
-    r
-}
-
-// The readers whose last read did not begin in the tick before t.
-fn live(latest: [u8; 8], t: u8) -> u8
-    ensures { λ r. ⌜ Live latest t r ⌝ }
-{
-    let mut r: u8 = 0;
-    let mut x: usize = 0;
-    while x < 8 {
-        if latest[x] != t {
+    while x < REQUESTERS {
+        if calendar::size_of(ends[x - 1]) + 1 != fresh {
             r = r | (1 << x);
         }
         x += 1;
@@ -125,36 +40,17 @@ fn live(latest: [u8; 8], t: u8) -> u8
     r
 }
 
-// What arrives in tick t, apart from votes.
-pub fn arrivals(
-    plan: &[u8],
-    links: Links,
-    n: usize,
-    writes: Writes,
-    reads: Reads,
-    t: u8,
-) -> Arrivals
-    requires { ⌜ Linked (now plan) links n t × (1 ≤ writes .known .m) × (writes .known .m ≤ 65) × (reads .m ≤ 255) ⌝ }
-    ensures { λ r. ⌜ Arrive (now (plan .entry)) links n (writes .begun) (writes .known .m) (reads .begun) (reads .reader) (reads .m) t r ⌝ }
+// The requests that arrive in tick t; `number` is that of the last write begun.
+pub fn arrivals(work: &[u8], number: u8, ends: [u8; READERS], t: u8, delta: u8) -> Arrivals
+    requires { ⌜ requestsEnd ≤ length (now work) ⌝ }
+    ensures { λ r. ⌜ Arrive (now (work .entry)) number ends t delta r ⌝ }
 {
-    let latest = latest_reads(reads, t);
-    let asked = asks(plan, links, n, latest, t);
-    let lasting = live(latest, t);
-    let begun = writes.begun;
-    let j = latest_write(begun, writes.known.m, t);
-    if j == 0 {
-        let none = [255u8; 16];
-        return Arrivals {
-            wrote: none,
-            asks: asked,
-            live: lasting,
-        };
-    }
-    let written = wrote(plan, links, n, begun[j], j as u8, t);
+    let requests = reached(work, t as usize);
+    let live = live(ends, t, delta);
     Arrivals {
-        wrote: written,
-        asks: asked,
-        live: lasting,
+        requests,
+        number,
+        live,
     }
 }
 

@@ -9,3 +9,4 @@ pub mod NotedLaws
 pub mod RowLaws
 pub mod ReaderLaws
 pub mod StateLaws
+pub mod RequestLaws

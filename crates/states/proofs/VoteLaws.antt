@@ -34,7 +34,7 @@ use Rattle.serving.specs.Links.{delayAt}
 use Rattle.serving.specs.Sends.{votesFor, sendsVote, sendsReply, sends}
 use Rattle.serving.specs.Stored.{Small, Plain, Both, keyOf, keys, server, both, absent}
 use Rattle.serving.specs.Stages.{isNew, stageOne, stageTwo, stageFour, stagesOf}
-use Rattle.cluster.specs.Inputs.{pairAt, Knows, Fits}
+use Rattle.cluster.specs.Inputs.{pairAt, Knows, Fits, wroteAt, asksAt}
 use Rattle.cluster.specs.Tick.{Feed, Stepped, present, Ticked, endsOf}
 use Rattle.states.specs.Way.{forgedAs, voteWay}
 use Rattle.states.specs.State.{Votes, Rep, State}
@@ -131,10 +131,10 @@ module _ (P : Plan) (G : Good P) (F : Feed) (fit : Fits P (F .t) (F .plan) (F .r
     vs = votesIn P t (cluster P t .log) b
 
     abbrev wrote : ℕ
-    wrote = getD (F .arrivals .wrote) b 0
+    wrote = wroteAt (F .arrivals .requests) (F .arrivals .number) b
 
     abbrev asks : ℕ → Bool
-    asks y = bit y (getD (F .arrivals .asks) b 0)
+    asks y = asksAt (F .arrivals .requests) b y
 
     abbrev live : ℕ → Bool
     live y = bit y (F .arrivals .live)

@@ -1,2 +1,3 @@
 pub mod Way
 pub mod State
+pub mod Requests

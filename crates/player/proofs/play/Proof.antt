@@ -1,29 +1,27 @@
 -- `play` meets its contract: the ticks, in which the answers are written.
 use borrow.Author.Needs.{needs}
 use native.Mathlib.Omega.{arith}
-use mathlib.Core.Path.{refl}
-use Rattle.player.proofs.Playing.{ready, all-there}
+use Rattle.player.proofs.Whole.{ready, begun, all-there}
 use Rattle.player.proofs.play.Statement.{statement}
 use Rattle.player.proofs.play.Tie as tie
 
 read-requires : tie.Need-read-requires
-read-requires c κs = let s = c .before .before .before .before in (s .pre .0, omega (arith, s .pre .2))
+read-requires c κs = (c .before .before .before .before .pre .0, omega (arith, c .before .before .before .before .pre .2))
 
-start-requires : tie.Need-start-requires
-start-requires c κs = let s = c .before .before .before .before .before .before .before .before in (omega arith, omega (arith, s .pre .2, c .before .before .before .read .ensures .forged .filled .size))
-
-start-requires-2 : tie.Need-start-requires-2
-start-requires-2 c κs = search needs
+begin-requires : tie.Need-begin-requires
+begin-requires c κs = omega (arith, c .before .before .before .before .before .before .before .before .pre .2, c .before .before .before .read .ensures .forged .filled .size)
 
 run-requires : tie.Need-run-requires
-run-requires c κs =
-    let s = c .before .before .before .before .before .before .before .before .before .before .before .before .before .before .before in
-    let x = c .before .before .before .before .before .before .before .before .before .before .read .ensures in
-    let y = c .before .before .before .before .before .before .start .ensures in
-    (ready _ _ _ _ _ (s .pre .0) (s .pre .2) x (y .0), omega arith, c .before .before .start2 .ensures, y .1, omega (arith, x .reads .count, s .pre .1))
+run-requires c κs = (
+  ready _ _ _ _ _ (c .before .before .before .before .before .before .before .before .before .before .before .before .before .pre .0) (c .before .before .before .before .before .before .before .before .before .before .before .before .before .pre .2) (c .before .before .before .before .before .before .before .before .read .ensures) _ (c .before .before .before .before .begin .ensures),
+  begun _ _ _ _ _ (c .before .before .before .before .before .before .before .before .before .before .before .before .before .pre .0) (c .before .before .before .before .before .before .before .before .before .before .before .before .before .pre .2) (c .before .before .before .before .before .before .before .before .read .ensures) _ (c .before .before .before .before .begin .ensures),
+  rw (c .before .before .before .before .begin .ensures .first) (omega arith),
+  omega arith,
+  omega (arith, c .before .before .before .before .before .before .before .before .read .ensures .reads .count, c .before .before .before .before .before .before .before .before .before .before .before .before .before .pre .1),
+)
 
 zero-requires : tie.Need-zero-requires
-zero-requires c κs = omega (arith, c .before .before .before .before .before .before .before .before .before .before .before .before .before .before .before .before .before .before .before .before .before .pre .2, c .before .before .before .before .before .before .before .before .before .before .before .before .before .before .before .before .read .ensures .forged .filled .size, c .before .before .before .before .before .before .before .before .before .before .before .before .start .ensures .0 .size, c .before .before .before .before .before .run .ensures .ran .kept .size)
+zero-requires c κs = omega (arith, c .before .before .before .before .before .before .before .before .before .before .before .before .before .before .before .before .before .before .before .pre .2, c .before .before .before .before .before .before .before .before .before .before .before .before .before .before .read .ensures .forged .filled .size, c .before .before .before .before .before .before .before .before .before .before .begin .ensures .kept .size, c .before .before .before .before .before .run .ensures .0 .kept .size)
 
 same-length : tie.Need-same-length
 same-length c = search needs
@@ -32,15 +30,14 @@ same-length-2 : tie.Need-same-length-2
 same-length-2 c = search needs
 
 returns : tie.Need-returns
-returns c = let s = c .before .before .before .before .before .before .before .before .before .before .before .before .before .before .before .before .before .before .before .before .before .before .before .before in all-there _ _ _ _ _ (s .pre .0) (s .pre .2) (c .before .before .before .before .before .before .before .before .before .before .before .before .before .before .before .before .before .before .before .read .ensures) (c .before .before .before .before .before .before .before .before .before .before .before .before .before .before .before .start .ensures .0) _ _ _ _ _ (c .before .before .before .before .before .before .before .before .run .ensures .ran) refl _ (c .before .before .zero .ensures)
+returns c = all-there _ _ _ _ _ (c .before .before .before .before .before .before .before .before .before .before .before .before .before .before .before .before .before .before .before .before .before .before .pre .0) (c .before .before .before .before .before .before .before .before .before .before .before .before .before .before .before .before .before .before .before .before .before .before .pre .2) (c .before .before .before .before .before .before .before .before .before .before .before .before .before .before .before .before .before .read .ensures) _ (c .before .before .before .before .before .before .before .before .before .before .before .before .before .begin .ensures) _ _ _ _ (c .before .before .before .before .before .before .before .before .run .ensures .0) (c .before .before .before .before .before .before .before .before .run .ensures .1) _ (c .before .before .zero .ensures)
 
 pub play-spec : {M : Type 1} → statement M
 play-spec =
     tie.close
     (tie.spec
     read-requires
-    start-requires
-    start-requires-2
+    begin-requires
     run-requires
     zero-requires
     same-length

@@ -13,7 +13,7 @@ first-from-requires c κs = search needs
 
 end-all-requires : tie.Need-end-all-requires
 end-all-requires c κs =
-    let s = c .before .before .before .before .before .before .before .before in
+    let s = c .before .before .before .before .before .before .before .before .before .before .before in
     let e = c .before .first-from .ensures in
     (there-part _ _ (s .pre .0 .table) _ _ (e .from) (e .few), s .pre .0 .pairs, omega (arith, s .pre .3, e .few))
 
@@ -33,7 +33,13 @@ add-begin-all : tie.Need-add-begin-all
 add-begin-all c = search needs
 
 begin-all-requires : tie.Need-begin-all-requires
-begin-all-requires c κs = let e = c .before .before .first-from2 .ensures in there-part _ _ (c .before .before .before .before .before .before .before .before .before .before .before .before .before .before .before .before .before .pre .0 .table) _ _ (e .from) (e .few)
+begin-all-requires c κs = let e = c .before .before .first-from2 .ensures in there-part _ _ (c .before .before .before .before .before .before .before .before .before .before .before .before .before .before .before .before .before .before .before .before .pre .0 .table) _ _ (e .from) (e .few)
+
+ask-all-requires : tie.Need-ask-all-requires
+ask-all-requires c κs =
+    let s = c .before .before .before .before .before .before .before .before .before .before .before .before .before .before .before .before .before .before .before .before .before .before .before .before in
+    let e = c .before .before .before .before .before .before .first-from2 .ensures in
+    (s .pre .1, record { ordered = e .from; few = omega (arith, e .few, s .pre .0 .table .few); each = λ i a b. s .pre .0 .parties i (omega (arith, e .few)) }, s .pre .4)
 
 ends-of-requires : tie.Need-ends-of-requires
 ends-of-requires c κs = search needs
@@ -41,13 +47,17 @@ ends-of-requires c κs = search needs
 same-length : tie.Need-same-length
 same-length c = search needs
 
+same-length-2 : tie.Need-same-length-2
+same-length-2 c = search needs
+
 returns : tie.Need-returns
 returns c = record {
-  ended = rw (c .before .before .before .before .before .before .before .before .before .before .before .before .before .ended-by .ensures) at (c .before .before .before .before .before .before .before .before .before .before .before .before .first-from .ensures);
-  began = rw (c .before .before .before .before .before .size-of .ensures) at (c .before .before .before .before .first-from2 .ensures);
-  answers = c .before .before .before .before .before .before .before .before .before .before .end-all .ensures;
-  readers = c .before .begin-all .ensures;
+  ended = rw (c .before .before .before .before .before .before .before .before .before .before .before .before .before .before .before .before .before .before .before .ended-by .ensures) at (c .before .before .before .before .before .before .before .before .before .before .before .before .before .before .before .before .before .before .first-from .ensures);
+  began = rw (c .before .before .before .before .before .before .before .before .before .before .before .size-of .ensures) at (c .before .before .before .before .before .before .before .before .before .before .first-from2 .ensures);
+  answers = c .before .before .before .before .before .before .before .before .before .before .before .before .before .before .before .before .end-all .ensures;
+  readers = c .before .before .before .before .before .before .before .begin-all .ensures;
   ends = c .ends-of .ensures;
+  asked = c .before .before .before .ask-all .ensures;
 }
 
 pub go-on-spec : {M : Type 1} → statement M
@@ -63,6 +73,8 @@ go-on-spec =
     mul-begin-all
     add-begin-all
     begin-all-requires
+    ask-all-requires
     ends-of-requires
     same-length
+    same-length-2
     returns)

@@ -5,16 +5,22 @@ use Rattle.cluster.specs.Settled.{reached}
 use Rattle.cluster.proofs.tick.is_reached.Statement.{statement}
 use Rattle.cluster.proofs.tick.is_reached.Tie as tie
 
+is-called-requires : tie.Need-is-called-requires
+is-called-requires c κs = search needs
+
 returns : tie.Need-returns
 unfolding reached
-returns c = rw (c .if1 .taken)
+returns c = rw (sym (c .before .is-called .ensures) ∙ c .if1 .taken)
 
 is-faulty-requires : tie.Need-is-faulty-requires
 is-faulty-requires c κs = search needs
 
 returns-2 : tie.Need-returns-2
 unfolding reached
-returns-2 c = rw (c .before .before .if1 .left, sym (c .before .is-faulty .ensures) ∙ c .if2 .taken)
+returns-2 c = rw (sym (c .before .before .before .is-called .ensures) ∙ c .before .before .if1 .left, sym (c .before .is-faulty .ensures) ∙ c .if2 .taken)
+
+cast-row : tie.Need-cast-row
+cast-row c = search needs
 
 row-requires : tie.Need-row-requires
 row-requires c κs = search needs
@@ -27,20 +33,22 @@ high-requires c κs = search needs
 
 is-any-new-requires : tie.Need-is-any-new-requires
 is-any-new-requires c κs =
-    let r = c .before .before .row in
-    rw (c .high .ensures .0) (c .before .before .before .before .before .before .before .pre .2 .top (r .result) (r .ensures .1))
+    let r = c .before .before .before .row in
+    rw (c .high .ensures .0) (c .before .before .before .before .before .before .before .before .before .before .pre .2 .top (r .result) (r .ensures .1))
 
 returns-3 : tie.Need-returns-3
 unfolding reached
-returns-3 c = rw (c .before .before .before .before .before .before .if1 .left, sym (c .before .before .before .before .before .is-faulty .ensures) ∙ c .before .before .before .before .if2 .left, c .is-any-new .ensures, c .before .before .low .ensures .0, c .before .high .ensures .0, c .before .before .before .row .ensures .0)
+returns-3 c = rw (sym (c .before .before .before .before .before .before .before .before .is-called .ensures) ∙ c .before .before .before .before .before .before .before .if1 .left, sym (c .before .before .before .before .before .before .is-faulty .ensures) ∙ c .before .before .before .before .before .if2 .left, c .is-any-new .ensures, c .before .before .low .ensures .0, c .before .high .ensures .0, c .before .before .before .before .row .ensures .0)
 
 pub is-reached-spec : {M : Type 1} → statement M
 is-reached-spec =
     tie.close
     (tie.spec
+    is-called-requires
     returns
     is-faulty-requires
     returns-2
+    cast-row
     row-requires
     low-requires
     high-requires

@@ -5,7 +5,6 @@ use mathlib.Core.Logic.{inl, inr}
 use Prim.Native.Nat.{ℕ, _-_}
 use native.Mathlib.Omega.{arith}
 use native.Mathlib.Numerals.{add-one}
-use lib.ListN.{getD}
 use denote.Ref.{now}
 use borrow.Author.Needs.{needs}
 use borrow.Author.Tests.{not-true, not-false}
@@ -14,6 +13,7 @@ use Rattle.calendar.specs.Bits.{bit}
 use Rattle.serving.specs.Bits.{sets, listed}
 use Rattle.serving.specs.Stored.{Small, Step, server, both, statusOf, pairOf}
 use Rattle.serving.specs.Stages.{stageOne, stageTwo, stagesOf}
+use Rattle.cluster.specs.Inputs.{wroteAt, asksAt}
 use Rattle.cluster.specs.Settled.{Settled}
 use Rattle.cluster.specs.Tick.{feedOf}
 use Rattle.serving.proofs.StageLaws.{taken-law, lost-law, cure-law, no-cure-law, not-cured, echo-law}
@@ -31,13 +31,13 @@ row-requires : tie.Need-row-requires
 row-requires c κs = search needs
 
 low-requires : tie.Need-low-requires
-low-requires c κs = (c .before .row .ensures .1, c .before .before .before .before .before .before .before .before .before .pre .1 .room)
+low-requires c κs = (c .before .row .ensures .1, c .before .before .before .before .before .before .before .pre .2 .room)
 
 high-requires : tie.Need-high-requires
-high-requires c κs = (c .before .before .before .row .ensures .1, c .before .before .before .before .before .before .before .before .before .before .before .pre .1 .room)
+high-requires c κs = (c .before .before .before .row .ensures .1, c .before .before .before .before .before .before .before .before .before .pre .2 .room)
 
 vote-requires : tie.Need-vote-requires
-vote-requires c κs = let p = c .before .before .before .before .before .before .before .before .before .before .before .before .before .pre .1 in (c .before .before .before .before .before .row .ensures .1, p .room, p .spans)
+vote-requires c κs = let p = c .before .before .before .before .before .before .before .before .before .before .before .pre .2 in (c .before .before .before .before .before .row .ensures .1, p .room, p .spans)
 
 quiet-requires : tie.Need-quiet-requires
 quiet-requires c κs = search needs
@@ -45,14 +45,14 @@ quiet-requires c κs = search needs
 is-faulty-requires : tie.Need-is-faulty-requires
 is-faulty-requires c κs = search needs
 
-element-copy-out-wrote : tie.Need-element-copy-out-wrote
-element-copy-out-wrote c = let s = c .before .before .before .before .before .before .before .before .before .before .before .before .before .before .before .before .before in omega (arith, s .pre .0, s .pre .1 .servers)
+wrote-at-requires : tie.Need-wrote-at-requires
+wrote-at-requires c κs = omega (arith, c .before .before .before .before .before .before .before .before .before .before .before .before .before .before .before .before .pre .0, c .before .before .before .before .before .before .before .before .before .before .before .before .before .before .before .before .pre .2 .servers)
 
-element-copy-out-asks : tie.Need-element-copy-out-asks
-element-copy-out-asks c = let s = c .before .before .before .before .before .before .before .before .before .before .before .before .before .before .before .before .before .before in omega (arith, s .pre .0, s .pre .1 .servers)
+asks-at-requires : tie.Need-asks-at-requires
+asks-at-requires c κs = omega (arith, c .before .before .before .before .before .before .before .before .before .before .before .before .before .before .before .before .before .pre .0, c .before .before .before .before .before .before .before .before .before .before .before .before .before .before .before .before .before .pre .2 .servers)
 
 deliver-requires : tie.Need-deliver-requires
-deliver-requires c κs = let s = c .before .before .before .before .before .before .before .before .before .before .before .before .before .before .before .before .before .before .before .before in (s .pre .1 .pairs, s .pre .1 .echo, s .pre .1 .reply)
+deliver-requires c κs = let s = c .before .before .before .before .before .before .before .before .before .before .before .before .before .before .before .before .before .before in (s .pre .2 .pairs, s .pre .2 .echo, s .pre .2 .reply)
 
 is-cured-at-requires : tie.Need-is-cured-at-requires
 is-cured-at-requires c κs = search needs
@@ -60,8 +60,14 @@ is-cured-at-requires c κs = search needs
 cure-end-requires : tie.Need-cure-end-requires
 cure-end-requires c κs = search needs
 
-is-placed-requires : tie.Need-is-placed-requires
-is-placed-requires c κs = let s = c .before .before .before .before .before .before .before .before .before .before .before .before .before .before .before .before .before .before .before .before in omega (arith, s .pre .0, s .pre .1 .servers)
+sub-has : tie.Need-sub-has
+sub-has c = search needs
+
+sub-has-2 : tie.Need-sub-has-2
+sub-has-2 c = omega (arith, c .before .before .before .before .before .before .before .before .before .before .before .before .before .before .before .before .before .before .pre .0, c .before .before .before .before .before .before .before .before .before .before .before .before .before .before .before .before .before .before .pre .2 .servers)
+
+has-requires : tie.Need-has-requires
+has-requires c κs = omega (arith, c .before .before .before .before .before .before .before .before .before .before .before .before .before .before .before .before .before .before .pre .0, c .before .before .before .before .before .before .before .before .before .before .before .before .before .before .before .before .before .before .pre .2 .servers)
 
 moved-requires : tie.Need-moved-requires
 moved-requires c κs = search needs
@@ -70,22 +76,23 @@ is-correct-requires : tie.Need-is-correct-requires
 is-correct-requires c κs = search needs
 
 clear-requires : tie.Need-clear-requires
-clear-requires c κs = let p = c .before .before .before .before .before .before .before .before .before .before .before .before .before .before .before .before .before .before .before .before .before .pre .1 in let r = c .before .before .before .before .before .before .before .before .before .before .before .before .before .row in (r .ensures .1, p .spans .top (r .result) (r .ensures .1), p .room)
+clear-requires c κs = let p = c .before .before .before .before .before .before .before .before .before .before .before .before .before .before .before .before .before .before .before .pre .2 in let r = c .before .before .before .before .before .before .before .before .before .before .before .before .before .row in (r .ensures .1, p .spans .top (r .result) (r .ensures .1), p .room)
 
 cast-send : tie.Need-cast-send
-cast-send c = omega (arith, c .before .before .before .before .before .before .before .before .before .before .before .before .before .before .before .before .before .before .before .before .before .before .before .before .before .pre .1 .tick)
+cast-send c = omega (arith, c .before .before .before .before .before .before .before .before .before .before .before .before .before .before .before .before .before .before .before .before .before .before .before .pre .2 .tick)
 
 send-requires : tie.Need-send-requires
-send-requires c κs = let s = c .before .before .before .before .before .before .before .before .before .before .before .before .before .before .before .before .before .before .before .before .before .before .before .before .before in let p = s .pre .1 in (omega (arith, p .room, c .before .before .before .clear .ensures .rest .size), rw (add-one (s .args .feed .t)) (p .linked), p .tick, s .pre .0)
+send-requires c κs = let s = c .before .before .before .before .before .before .before .before .before .before .before .before .before .before .before .before .before .before .before .before .before .before .before in let p = s .pre .2 in (omega (arith, p .room, c .before .before .before .clear .ensures .rest .size), rw (add-one (s .args .feed .t)) (p .linked), p .tick, s .pre .0)
 
 same-length : tie.Need-same-length
 same-length c = search needs
 
 returns : tie.Need-returns
 returns c =
-    let s = c .before .before .before .before .before .before .before .before .before .before .before .before .before .before .before .before .before .before .before .before .before .before .before .before .before .before .before .before in
+    let s = c .before .before .before .before .before .before .before .before .before .before .before .before .before .before .before .before .before .before .before .before .before .before .before .before .before .before in
     let F = feedOf (now (s .args .plan)) (now (s .args .work)) (s .args .feed) in
     let g = pairOf (F .known .values) in
+    let h = pairOf (now (s .args .values)) in
     let third = c .before .before .before .before .before .before .before .before in
     let second = third .before in
     let first = third .before .before .before in
@@ -96,8 +103,8 @@ returns c =
     let row = third .before .before .before .before .before .before .before .before .before .before .before .before .row in
     let low = third .before .before .before .before .before .before .before .before .before .before .low in
     let high = third .before .before .before .before .before .before .before .before .high in
-    let w = getD (F .arrivals .wrote) (s .args .b) 0 in
-    let asks : ℕ → Bool = λ x. bit x (getD (F .arrivals .asks) (s .args .b) 0) in
+    let w = wroteAt (F .arrivals .requests) (F .arrivals .number) (s .args .b) in
+    let asks : ℕ → Bool = asksAt (F .arrivals .requests) (s .args .b) in
     let live : ℕ → Bool = λ x. bit x (F .arrivals .live) in
     let votes = sets (listed (v .result .fresh)) in
     let o₁ : Step = record { server = first .if1 .x; row = first .if1 .row } in
@@ -106,8 +113,8 @@ returns c =
     let calm : Type 0 = Settled g (F .known .m) (F .rules .echo) (F .rules .reply) (server (s .args .s)) in
     let one : calm → both o₁ ≡ stageOne g (F .known .m) (F .rules .echo) (F .rules .reply) w votes asks live (server (v .result)) = λ K. elim (first .if1 .came) [
       | inl y ↦ let alive : isFaulty (statusOf (v .result .status)) ≡ false = sym (faulty .ensures) ∙ not-true _ (y .0 .taken) in
-          rw (y .7, y .8) (taken-law g (F .known .m) (F .rules .echo) (F .rules .reply) w votes asks live (server (v .result)) _ _ alive (y .4 .ensures)
-          (rw (low .ensures .0, high .ensures .0) (span-enough g (F .known .m) (F .rules .echo) (F .rules .reply) w (F .work) (row .result) (server (s .args .s)) (server (v .result)) (v .ensures) K (sym (ap isFaulty (v .ensures .status)) ∙ alive) (s .pre .1 .pairs) (row .ensures .1) (s .pre .1 .spans))))
+          rw (y .7, y .8, ← s .pre .1, ← y .2 .ensures, ← y .3 .ensures) (taken-law h (F .known .m) (F .rules .echo) (F .rules .reply) (y .2 .result) votes (λ x. bit x (y .3 .result)) live (server (v .result)) _ _ alive (y .4 .ensures)
+          (rw (low .ensures .0, high .ensures .0) (span-enough h (F .known .m) (F .rules .echo) (F .rules .reply) (y .2 .result) (F .work) (row .result) (server (s .args .s)) (server (v .result)) (v .ensures) (rw (← s .pre .1) at K) (sym (ap isFaulty (v .ensures .status)) ∙ alive) (s .pre .2 .pairs) (row .ensures .1) (s .pre .2 .spans))))
       | inr y ↦ rw (y .1, y .2) (lost-law g (F .known .m) (F .rules .echo) (F .rules .reply) w votes asks live (server (v .result)) _ (sym (faulty .ensures) ∙ not-false _ (y .0 .left)) (quiet .ensures))
     ] in
     let status : first .if1 .x .status ≡ v .result .status = elim (first .if1 .came) [ inl y ↦ rw (y .7) refl | inr y ↦ rw (y .1) refl ] in
@@ -126,7 +133,7 @@ returns c =
     let small₁ : Small (o₁ .row .kept) = elim (first .if1 .came) [ inl y ↦ rw (y .8) (delivery-small (y .4 .result) (y .4 .ok)) | inr y ↦ rw (y .2) (row-small (quiet .result) (quiet .ok)) ] in
     let small₂ : Small (o₂ .row .kept) = elim (second .if2 .came) [ inl y ↦ rw (y .3) small₁ | inr y ↦ rw (y .2) small₁ ] in
     let small₃ : Small (o₃ .row .kept) = elim (third .if3 .came) [ inl y ↦ rw (y .5) small₂ | inr y ↦ rw (y .2) small₂ ] in
-    turned-here F (s .args .ends) (s .args .b) (s .args .s) o₃ _ _ (s .pre .1 .spans)
+    turned-here F (s .args .ends) (s .args .b) (s .args .s) o₃ _ _ (s .pre .2 .spans)
     (λ K. record { votes = votes; came = λ d j i l n. v .ensures .fresh d j i l ∙ rw (row .ensures .0); stages = all K })
     (rw (row .ensures .0) at (c .before .before .before .before .before .before .clear .ensures)) (c .before .before .send .ensures) small₃
 
@@ -141,12 +148,14 @@ turn-spec =
     vote-requires
     quiet-requires
     is-faulty-requires
-    element-copy-out-wrote
-    element-copy-out-asks
+    wrote-at-requires
+    asks-at-requires
     deliver-requires
     is-cured-at-requires
     cure-end-requires
-    is-placed-requires
+    sub-has
+    sub-has-2
+    has-requires
     moved-requires
     is-correct-requires
     clear-requires

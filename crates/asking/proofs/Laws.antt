@@ -1,0 +1,58 @@
+-- A request sent is the plan's, and those of several reads come one by one. It stands on the laws of requests.
+use mathlib.Core.Path.{_≡_, refl, sym, ap, _∙_}
+use mathlib.Core.Bool.{Bool, true, false, _&&_, _||_, cond}
+use mathlib.Core.List.{List}
+use Prim.Native.Nat.{ℕ, suc, _+_, _*_, _%_, _≤_, _<_}
+use native.Mathlib.Numerals.{add-one}
+use native.Mathlib.Omega.{arith}
+use native.Mathlib.Decide.{decLe}
+use lib.Dec.{eqb, leb, ltb, leb→le}
+use lib.ListN.{getD}
+use borrow.Author.Tests.{lt-ltb, le-ltb, le-leb}
+use Rattle.bits.specs.Field.{fieldOf}
+use Rattle.register.specs.Lists.{anyUpTo}
+use Rattle.register.proofs.Counting.{anyUpTo-e}
+use Rattle.register.proofs.Logic.{T-iff, and-l, or-comm}
+use Rattle.calendar.specs.declared.Sending.{Sending}
+use Rattle.calendar.specs.Posts.{arrivalOf, Sent}
+use Rattle.serving.specs.declared.Links.{Links}
+use Rattle.serving.specs.Links.{linkBit, delayAt}
+use Rattle.requests.specs.Requests.{askedFirst, Asked, Taken}
+use Rattle.requests.proofs.Requesting.{outside-trans, asked-none, asked-eq, asked-trans}
+use Rattle.asking.specs.Asking.{askedBy, askedBetween, begins, WroteOn}
+
+-- the delays of one sender stand one after the other
+link-next : (links : Links) (u i b : ℕ) → linkBit links u i 0 + 4 * b ≡ linkBit links u i b
+unfolding linkBit
+link-next links u i b = let x = (u * links .parties + i) * links .parties in omega arith
+
+module _ (plan : List ℕ) (links : Links) (n t : ℕ) where
+  pub asked-sent : (p : ℕ) (s : Sending) → Sent plan (linkBit links t (n + p) 0) n t p s → (a r : List ℕ) → Asked a r (askedFirst s p (s .n)) → Asked a r (askedBy plan links n t p)
+  unfolding askedBy
+  asked-sent p s S a r A = asked-eq a r _ (askedBy plan links n t p) A (λ u q b l. ap (λ (m : ℕ). ltb b m && (eqb q p && eqb (arrivalOf s b % 16) (u % 16))) (S .servers) ∙ go u q b (decLe n b))
+    where
+      go : (u q b : ℕ) → Dec (n ≤ b) → ltb b n && (eqb q p && eqb (arrivalOf s b % 16) (u % 16)) ≡ ltb b n && (eqb q p && eqb ((t + delayAt plan links t (n + p) b) % 16) (u % 16))
+      go u q b (yes h) = rw (le-ltb b n h)
+      go u q b (no h) = rw (S .arrives b (omega arith), link-next links t (n + p) b)
+
+  module _ (by : List ℕ) (from : ℕ) where
+    pub between-none : (a : List ℕ) → Asked a a (askedBetween plan links n t by from from)
+    unfolding askedBetween
+    between-none a = asked-none a _ (λ s q b. T-iff _ false (λ y.
+        let (i, l, z) = anyUpTo-e from (λ i. leb from i && askedBy plan links n t (getD by i 0) s q b) y in
+        absurd (let h = leb→le from i (and-l (leb from i) _ z) in omega arith)) (λ y. absurd y))
+
+    pub between-more : (a b c : List ℕ) (i : ℕ) → from ≤ i → Asked a b (askedBetween plan links n t by from i) → Asked b c (askedBy plan links n t (getD by i 0))
+        → Asked a c (askedBetween plan links n t by from (i + 1))
+    unfolding askedBetween anyUpTo
+    between-more a b c i h A B = asked-eq a c _ _ (asked-trans a b c _ _ A B) (λ s q x l. rw (add-one i, le-leb from i h)
+        (or-comm (anyUpTo i (λ i. leb from i && askedBy plan links n t (getD by i 0) s q x)) (askedBy plan links n t (getD by i 0) s q x)))
+
+-- the requests of the tick are taken, then one may be sent
+pub wrote-on : (plan : List ℕ) (links : Links) (n t : ℕ) (begun : List ℕ) (m number r : ℕ) (a b c : List ℕ) → Taken a b t → Asked b c (λ s q x. begins begun m t number && askedBy plan links n t 0 s q x)
+    → r ≡ cond (begins begun m t number) (suc number) number → WroteOn plan links n t begun m number r a c
+wrote-on plan links n t begun m number r a b c T A e = record {
+  next = e;
+  outside = outside-trans a b c (T .outside) (A .outside);
+  requests = λ s q x l. A .requests s q x l ∙ rw (T .requests s q x l);
+}

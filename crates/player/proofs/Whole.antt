@@ -1,0 +1,145 @@
+-- From a script that was read to the end of its ticks: the start, one tick more, all answers, and what is left of the workspace.
+-- It stands on Turns and Buffers.
+use mathlib.Core.Path.{_≡_, refl, sym, ap, _∙_}
+use mathlib.Core.Logic.{inr}
+use mathlib.Core.List.{List, _++_}
+use Prim.Native.Nat.{ℕ, zero, suc, _+_, _*_, _-_, _≤_, _<_}
+use native.Mathlib.Numerals.{add-one}
+use native.Mathlib.Omega.{arith}
+use native.Mathlib.Decide.{decLe}
+use lib.ListN.{length, getD, take, drop}
+use Rattle.register.specs.Plan.{stamped}
+use Rattle.plan.specs.Header.{Header, headerOf}
+use Rattle.plan.specs.Packed.{planOf}
+use Rattle.plan.specs.Playable.{Playable}
+use Rattle.plan.proofs.AcceptReads.{read-stands}
+use Rattle.plan.proofs.Tests.{getD-in}
+use Rattle.requests.specs.Requests.{SameBehind}
+use Rattle.requests.proofs.Requesting.{behind-trans}
+use Rattle.states.proofs.RequestLaws.{requested-none}
+use Rattle.cluster.specs.Inputs.{pairAt}
+use Rattle.serving.specs.Stored.{absent}
+use Rattle.states.proofs.StateLaws.{first-state}
+use Rattle.script.specs.declared.Script.{Script}
+use Rattle.script.specs.Operations.{noRead}
+use Rattle.script.specs.Script.{Scripted}
+use Rattle.script.proofs.Fitting.{script-knows}
+use Rattle.answers.specs.Answers.{answersFor}
+use Rattle.answers.specs.Workspace.{workspaceSize, zeroed}
+use Rattle.reading.specs.Reading.{placed}
+use Rattle.player.specs.declared.Playing.{Playing}
+use Rattle.player.specs.Run.{Decoded, Ready, Played, Fresh, answerIn, Went}
+use Rattle.player.specs.Player.{Answered, Seen}
+use Rattle.reading.proofs.Cursors.{until-none, placed-none, placed-on}
+use Rattle.player.proofs.Feeding.{range, ticks-same}
+use Rattle.player.proofs.Buffers.{answers-none, answers-more, answers-done, zeroed-same}
+
+pub ready-kept : (s a b : List ℕ) (r : Script) → SameBehind a b → Ready s a r → Ready s b r
+ready-kept s a b r K R = record {
+  decoded = R .decoded;
+  room = omega (arith, K .size, R .room);
+  kept = behind-trans (R .decoded .after) a b (R .kept) K;
+}
+
+-- ---- the start, and one tick more
+
+module _ (s : List ℕ) (r : Script) where
+  pub played-none : (before work : List ℕ) (p : Playing) → Decoded s r → Fresh before work r p → Played s work r p
+  played-none before work p D E =
+      let first : getD (r .writes .known .values) 0 0 ≡ r .shape .initial = D .scripted .writes .first ∙ sym (ap (λ (h : Header). h .initial) (D .scripted .header)) in
+      rw (E .first) (record {
+        size = E .started .size;
+        state = first-state (planOf 16 s) (pairAt (r .writes .known)) (r .writes .known .m) (r .shape .initial)
+            (script-knows s (D .before) (D .after) (D .playable) r (D .scripted)) (ap (λ (v : ℕ). stamped 16 v 0) first) (p .cluster) work (E .started) (E .empty);
+        requested = requested-none (planOf 16 s) work (E .unasked);
+        written = record { below = omega (arith, D .scripted .writes .count); before = λ h. absurd (omega arith); last = λ j a b. omega arith };
+        begun = until-none (r .reads .begun) (r .reads .m) 0 refl;
+        answered = until-none (r .reads .begun) (r .reads .m) (0 - 2 * r .rules .delta) (omega arith);
+      })
+
+  pub went-none : (work answers : List ℕ) (p : Playing) → Played s work r p → Went s work work answers answers r p p
+  went-none work answers p L = record {
+    kept = record { size = refl; behind = λ k l. refl };
+    played = L;
+    ordered = omega arith;
+    answers = placed-none (answerIn s) (p .answered) answers;
+  }
+
+  pub went-on : (work now work₁ answers then answers₁ : List ℕ) (p q z : Playing) → Went s work now answers then r p q → Went s now work₁ then answers₁ r q z
+      → Went s work work₁ answers answers₁ r p z
+  went-on work now work₁ answers then answers₁ p q z A W =
+      let from : p .answered + (q .answered - p .answered) ≡ q .answered = omega (arith, A .ordered) in
+      let all : (q .answered - p .answered) + (z .answered - q .answered) ≡ z .answered - p .answered = omega (arith, A .ordered, W .ordered) in
+      record {
+        kept = behind-trans work now work₁ (A .kept) (W .kept);
+        played = W .played;
+        ordered = omega (arith, A .ordered, W .ordered);
+        answers = W .answers ∙ rw (A .answers) (rw (from, all) at (placed-on (answerIn s) (p .answered) (q .answered - p .answered) (z .answered - q .answered) answers));
+      }
+
+-- the answers of the first reads, placed one by one
+all-placed : (s b : List ℕ) (i : ℕ) → i ≤ length (planOf 16 s .reads) → placed (answerIn s) 0 i b ≡ answersFor 16 (planOf 16 s) (take i (planOf 16 s .reads)) ++ drop (5 * i) b
+unfolding placed
+all-placed s b zero h = answers-none (planOf 16 s) b
+all-placed s b (suc i) h =
+    let z : 0 + i ≡ i = omega arith in
+    rw (z, ← add-one i) (answers-more (planOf 16 s) (planOf 16 s .reads) b (placed (answerIn s) 0 i b) i noRead (omega arith) (all-placed s b i (omega arith)))
+
+module _ (s before after started : List ℕ) (r : Script) (playable : Playable 16 s) (room : workspaceSize ≤ length before)
+    (scripted : Scripted s before after r) (first : Playing) (fresh : Fresh after started r first) where
+  abbrev decoded : Decoded s r
+  decoded = record { playable = playable; before = before; after = after; scripted = scripted }
+
+  pub ready : Ready s started r
+  ready = record { decoded = decoded; room = omega (arith, scripted .forged .filled .size, fresh .kept .size); kept = fresh .kept }
+
+  pub begun : Played s started r first
+  begun = played-none s r after started first decoded fresh
+
+  pub ticks-few : headerOf 16 s .ticks ≤ 128
+  ticks-few = range s r decoded .ticks-hi
+
+  pub servers-few : headerOf 16 s .n ≤ 16
+  servers-few = range s r decoded .n-hi
+
+  pub ticks-are : r .shape .ticks ≡ headerOf 16 s .ticks
+  ticks-are = ticks-same s r decoded
+
+  module _ (work answers answers₁ : List ℕ) (p : Playing) (W : Went s started work answers answers₁ r first p) where
+    all-zeroed : (end : List ℕ) → end ≡ zeroed work → end ≡ zeroed before
+    all-zeroed end e =
+        let K = W .kept in
+        e ∙ zeroed-same before work (K .size ∙ (fresh .kept .size ∙ scripted .forged .filled .size))
+        (λ x l. K .behind x (omega arith) ∙ (fresh .kept .behind x (omega arith) ∙ scripted .forged .filled .other x (inr (omega (arith, range s r decoded .forgeries-hi)))))
+
+    -- a server after the last of the ticks
+    pub seen : (b t : ℕ) (end : List ℕ) → b < headerOf 16 s .n → p .tick ≡ suc t → end ≡ zeroed work → Seen s b t (getD (p .cluster .servers) b absent) before end
+    unfolding planOf
+    seen b t end l e z =
+        let R = rw e at (W .played .state .servers b l) in
+        record { status = R .status; kept = R .kept; workspace = all-zeroed end z }
+
+    -- after all ticks no read is left
+    none-left : p .tick ≡ r .shape .ticks → p .answered < r .reads .m → ⊥
+    unfolding planOf
+    none-left e l =
+        let q = rw (scripted .reads .each (p .answered) l) at (getD-in (planOf 16 s .reads) (p .answered) noRead (omega (arith, scripted .reads .count))) in
+        let Q = read-stands 16 s playable _ q in
+        omega (arith, W .played .answered .next l, Q .ends, e, ticks-are, scripted .rules .delta)
+
+    all-answered : p .tick ≡ r .shape .ticks → p .answered ≡ length (planOf 16 s .reads)
+    all-answered e = elim (decLe (r .reads .m) (p .answered)) [
+      | yes d ↦ omega (arith, W .played .answered .few, scripted .reads .count)
+      | no d ↦ absurd (none-left e (omega arith))
+    ]
+
+    pub all-there : p .tick ≡ r .shape .ticks → (end : List ℕ) → end ≡ zeroed work → Answered s answers answers₁ before end
+    all-there e end z =
+        let k = all-answered e in
+        let none : first .answered ≡ 0 = ap (λ (x : Playing). x .answered) (fresh .first) in
+        let all : p .answered - 0 ≡ p .answered = omega arith in
+        let whole : answers₁ ≡ placed (answerIn s) 0 (p .answered) answers = rw (none, all) at (W .answers) in
+        record {
+          answers = rw (← k) (answers-done s answers answers₁ (p .answered) k (whole ∙ all-placed s answers (p .answered) (omega arith)));
+          workspace = all-zeroed end z;
+        }

@@ -1,0 +1,58 @@
+-- `inputs::reached` meets its contract. The loop's invariant: the parties passed have their words.
+use mathlib.Core.Path.{_≡_}
+use Prim.Native.Nat.{ℕ, _-_, _≤_, _<_}
+use native.Mathlib.Omega.{arith}
+use lib.ListN.{length, getD}
+use borrow.Author.Needs.{needs}
+use Rattle.requests.specs.Requests.{reachedOf}
+use Rattle.cluster.specs.Inputs.{requesters}
+use Rattle.script.proofs.Tables.{each-more}
+use Rattle.script.proofs.inputs.reached.Statement.{statement}
+use Rattle.script.proofs.inputs.reached.Tie as tie
+
+abbrev Inv-loop : tie.InvT-loop
+Inv-loop work t r₀ p₀ r p = (p ≤ requesters) × (length r ≡ requesters) × ((k : ℕ) → k < p → getD r k 0 ≡ reachedOf work t k)
+
+abbrev μ-loop : tie.MeasureT-loop
+μ-loop work t r₀ p₀ r p = requesters - p
+
+loop-holds : tie.Need-loop-holds Inv-loop μ-loop
+loop-holds c = (search needs, search needs, λ k l. absurd (omega arith))
+
+reached-requires : tie.Need-reached-requires Inv-loop μ-loop
+reached-requires c κs = search needs
+
+mul-r : tie.Need-mul-r Inv-loop μ-loop
+mul-r c = search needs
+
+array-write-r : tie.Need-array-write-r Inv-loop μ-loop
+array-write-r c = search needs
+
+add-p : tie.Need-add-p Inv-loop μ-loop
+add-p c = search needs
+
+loop-less : tie.Need-loop-less Inv-loop μ-loop
+loop-less c = search needs
+
+loop-again : tie.Need-loop-again Inv-loop μ-loop
+loop-again c =
+    let h = c .before .before .loop in
+    (omega arith, search needs, each-more (λ k v. v ≡ reachedOf (c .before .before .before .before .args .work .now) (c .before .before .before .before .args .t) k) (h .r) (h .p) _ (omega arith) (c .reached .ensures) (h .inv .2))
+
+returns : tie.Need-returns Inv-loop μ-loop
+returns c = record { each = λ p l. c .before .loop .inv .2 p (omega (arith, c .loop-test .left)) }
+
+pub reached-spec : {M : Type 1} → statement M
+reached-spec =
+    tie.close
+    (tie.spec
+    Inv-loop
+    μ-loop
+    loop-holds
+    reached-requires
+    mul-r
+    array-write-r
+    add-p
+    loop-less
+    loop-again
+    returns)
