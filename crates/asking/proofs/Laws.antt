@@ -1,15 +1,14 @@
 -- A request sent is the plan's, and those of several reads come one by one. It stands on the laws of requests.
-use mathlib.Core.Path.{_≡_, refl, sym, ap, _∙_}
-use mathlib.Core.Bool.{Bool, true, false, _&&_, _||_, cond}
+use mathlib.Core.Path.{_≡_, ap, _∙_}
+use mathlib.Core.Bool.{false, _&&_, cond}
 use mathlib.Core.List.{List}
-use Prim.Native.Nat.{ℕ, suc, _+_, _*_, _%_, _≤_, _<_}
+use Prim.Native.Nat.{ℕ, suc, _+_, _*_, _%_, _≤_}
 use native.Mathlib.Numerals.{add-one}
 use native.Mathlib.Omega.{arith}
 use native.Mathlib.Decide.{decLe}
 use lib.Dec.{eqb, leb, ltb, leb→le}
 use lib.ListN.{getD}
-use borrow.Author.Tests.{lt-ltb, le-ltb, le-leb}
-use Rattle.bits.specs.Field.{fieldOf}
+use borrow.Author.Tests.{le-ltb, le-leb}
 use Rattle.register.specs.Lists.{anyUpTo}
 use Rattle.register.proofs.Counting.{anyUpTo-e}
 use Rattle.register.proofs.Logic.{T-iff, and-l, or-comm}

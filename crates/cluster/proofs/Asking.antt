@@ -1,7 +1,7 @@
 -- The requests that reach a server: sets gathered member by member, and what it means that none does.
 -- It stands on the laws of sets.
 use mathlib.Core.Path.{_≡_, refl, sym, _∙_}
-use mathlib.Core.Bool.{Bool, true, false, _&&_, _||_, cond}
+use mathlib.Core.Bool.{Bool, true, false, _&&_, _||_}
 use mathlib.Core.List.{List}
 use Prim.Native.Nat.{ℕ, zero, suc, _+_, _*_, _%_, _^_, _≤_, _<_}
 use native.Mathlib.Nat.{one-mul, mod-eq-of-lt}
@@ -16,7 +16,7 @@ use Rattle.register.specs.Lists.{anyUpTo}
 use Rattle.register.proofs.Logic.{T-eq, or-comm}
 use Rattle.register.proofs.Counting.{anyUpTo-i}
 use Rattle.calendar.specs.Bits.{bit}
-use Rattle.calendar.specs.Layout.{places, noPair}
+use Rattle.calendar.specs.Layout.{places}
 use Rattle.calendar.proofs.Laws.{and-none, or-none}
 use Rattle.serving.proofs.BitLaws.{bit-or, bit-pow, bit-zero}
 use Rattle.cluster.specs.Inputs.{requesters, isAsked, wroteAt, asksAt}

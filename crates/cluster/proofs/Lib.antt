@@ -4,4 +4,3 @@ pub mod Settled
 pub mod Asking
 pub mod IdleLaws
 pub mod ServeLaws
-pub mod Sizes

@@ -27,8 +27,8 @@ use Rattle.serving.specs.declared.Row.{Row}
 use Rattle.serving.specs.declared.Links.{Links}
 use Rattle.serving.specs.Links.{delayAt, linkBit}
 use Rattle.serving.specs.Sends.{votesFor, reaches, sendsVote, sendsReply, sends}
-use Rattle.serving.specs.Stored.{Small, Step, server, both, statusOf, keys, pairOf, absent, unset}
-use Rattle.cluster.specs.Inputs.{Sized, isAsked}
+use Rattle.serving.specs.Stored.{Small, Step, server, both, statusOf, keys, pairOf, absent}
+use Rattle.cluster.specs.Inputs.{Tickable, isAsked}
 use Rattle.cluster.specs.Settled.{Settled, Calm, called, reached, CalmlyTurned, CalmlyServed, CalmlyTicked}
 use Rattle.cluster.specs.Tick.{Feed, Heard, Emptied, Stepped, Turned, Served, Ticked, endsOf, present}
 use Rattle.cluster.proofs.IdleLaws.{unreached, idle-turned}
@@ -79,7 +79,7 @@ module _ (plan : List ℕ) (links : Links) (n t : ℕ) (ends : List ℕ) (i : �
   none-now x j e = rw (no-vote x j e, no-reply x j e)
 
 -- the same of the servers before b
-pub none-before : (F : Feed) (ends : List ℕ) → Sized (F .plan) (F .work) (F .t) (F .rules) (F .known) (F .links) → (b : ℕ) → b < F .rules .n → (i x j : ℕ) (row : Row) → i < b
+pub none-before : (F : Feed) (ends : List ℕ) → Tickable (F .plan) (F .work) (F .t) (F .rules) (F .known) (F .links) → (b : ℕ) → b < F .rules .n → (i x j : ℕ) (row : Row) → i < b
     → x / receivers ≡ F .t % 16 → sends (F .plan) (F .links) (F .rules .n) (F .t) ends i row x j ≡ false
 none-before F ends Z b l i x j row h e =
     none-now (F .plan) (F .links) (F .rules .n) (F .t) ends i row (Z .linked .writer) (omega arith) (λ q u v w. Z .delays i q (omega arith) u v w) x j e
@@ -295,7 +295,7 @@ module _ (F : Feed) (ends : List ℕ) (c : List Server) where
 -- ---- the whole tick
 
 pub sized-after : (plan work after : List ℕ) (t : ℕ) (rules : Rules) (known : Known) (links : Links)
-    → Sized plan work t rules known links → SamePast work after → Spanned after places → Sized plan after t rules known links
+    → Tickable plan work t rules known links → SamePast work after → Spanned after places → Tickable plan after t rules known links
 sized-after plan work after t rules known links Z P S = record {
   room = omega (arith, Z .room, P .size);
   spans = S;

@@ -6,7 +6,7 @@ use mathlib.Core.Logic.{_⊎_, inl, inr}
 use mathlib.Core.List.{List, [], _∷_}
 use Prim.Native.Nat.{ℕ, zero, suc, _≤_, _<_}
 use native.Mathlib.Omega.{arith}
-use native.Mathlib.Decide.{ℕ-discrete, decLe}
+use native.Mathlib.Decide.{ℕ-discrete}
 use lib.Dec.{eqb, leb, ltb}
 use lib.ListN.{length, take, length-take, getD}
 use lib.Seq.{take-all}
@@ -18,7 +18,7 @@ use Rattle.register.proofs.Lists.{sameList-eq}
 use Rattle.register.proofs.Counting.{count-none, count-mono}
 use Rattle.calendar.specs.Layout.{rows, places, depth, lowOf, highOf, sender}
 use Rattle.calendar.specs.View.{Spanned}
-use Rattle.calendar.proofs.Laws.{and-none, or-none}
+use Rattle.calendar.proofs.Laws.{or-none}
 use Rattle.cluster.specs.declared.Cluster.{Cluster}
 use Rattle.serving.specs.declared.Rules.{Rules}
 use Rattle.serving.specs.Stored.{Plain, Both, server, pairOf, absent}

@@ -1,20 +1,19 @@
 -- The stages with the votes that a server notes first, the readers one by one, and the start. It stands on the laws of sets.
-use mathlib.Core.Path.{_≡_, refl, sym, ap, _∙_}
-use mathlib.Core.Bool.{Bool, true, false, _||_, cond}
+use mathlib.Core.Path.{_≡_, refl, ap, _∙_}
+use mathlib.Core.Bool.{Bool, true, false}
 use mathlib.Core.List.{List, [], _∷_}
-use Prim.Native.Nat.{ℕ, _<_}
+use Prim.Native.Nat.{ℕ}
 use native.Mathlib.Omega.{arith}
 use lib.ListN.{length, getD, replicate, getD-replicate}
 use Rattle.register.specs.Server.{Status, isFaulty}
 use Rattle.register.specs.Plan.{stamped}
-use Rattle.calendar.specs.Layout.{places, sender}
 use Rattle.calendar.specs.declared.Stamped.{Stamped}
 use Rattle.serving.specs.declared.Voters.{Voters}
 use Rattle.serving.specs.declared.Server.{Server}
 use Rattle.cluster.specs.declared.Reader.{Reader}
 use Rattle.serving.specs.declared.Rules.{Rules}
 use Rattle.serving.specs.declared.Status.the-variants.{Correct}
-use Rattle.serving.specs.Bits.{sets, listed, Joined}
+use Rattle.serving.specs.Bits.{sets, listed}
 use Rattle.serving.specs.Stored.{Plain, Both, server, keys, absent}
 use Rattle.serving.specs.Stages.{noVotes, Voted, stageOne, delivered, deliveredOf, stageTwo, stageFour, stagesOf}
 use Rattle.cluster.specs.Tick.{noReader, endsOf, firstOf, Started}

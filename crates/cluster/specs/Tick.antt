@@ -10,7 +10,7 @@ use Rattle.register.specs.Lists.{anyUpTo}
 use Rattle.register.specs.Plan.{stamped}
 use Rattle.register.specs.Server.{correct, isFaulty}
 use Rattle.calendar.specs.Bits.{bit}
-use Rattle.calendar.specs.Layout.{receivers, rows, places, depth, rowOf, highOf, sender}
+use Rattle.calendar.specs.Layout.{receivers, rows, places, rowOf, highOf, sender}
 use Rattle.calendar.specs.View.{SamePast, Spanned}
 use Rattle.serving.specs.declared.Server.{Server}
 use Rattle.cluster.specs.declared.Reader.{Reader}

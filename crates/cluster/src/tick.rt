@@ -6,7 +6,7 @@ ghost use Rattle.calendar.specs.Bits.{bit};
 ghost use Rattle.calendar.specs.Layout.{rows, places, calendarSize, rowOf};
 ghost use Rattle.calendar.specs.View.{Spanned};
 ghost use Rattle.serving.specs.Stored.{statusOf, keys, pairOf};
-ghost use Rattle.cluster.specs.Inputs.{Sized, isAsked, wroteAt, asksAt};
+ghost use Rattle.cluster.specs.Inputs.{Tickable, isAsked, wroteAt, asksAt};
 ghost use Rattle.cluster.specs.Settled.{called, reached, CalmlyTurned, CalmlyServed};
 ghost use Rattle.cluster.specs.Tick.{anyHeard, Heard, Emptied, Started, endsOf, feedOf};
 use super::Arrivals;
@@ -198,7 +198,7 @@ pub fn turn(
     values: &[u16; PLACES],
     ends: [u8; READERS],
 ) -> Server
-    requires { ⌜ (b < feed .rules .n) × (now values ≡ feed .known .values) × Sized (now plan) (now work) (feed .t) (feed .rules) (feed .known) (feed .links) ⌝ }
+    requires { ⌜ (b < feed .rules .n) × (now values ≡ feed .known .values) × Tickable (now plan) (now work) (feed .t) (feed .rules) (feed .known) (feed .links) ⌝ }
     ensures { λ r. ⌜ CalmlyTurned (feedOf (now (plan .entry)) (now (work .entry)) feed) ends b s r (now (work .exit)) ⌝ }
 {
     let t = feed.t;

@@ -8,13 +8,14 @@ ghost use Rattle.forging.specs.Forging.{forgedEntry, SentIn, forges};
 use reading::size_of;
 use script::forged;
 use serving::READERS;
+use serving::READERS_AT;
 
 // Byte k of entry e.
 fn byte(work: &[u8], e: usize, k: usize) -> u8
     requires { ⌜ (e < mostEntries) × (k < 8) × (entriesEnd ≤ length (now work)) ⌝ }
     ensures { λ r. ⌜ r ≡ entryAt (now (work .entry)) e k ⌝ }
 {
-    work[forged::ENTRIES + 8 * e + k]
+    work[forged::ENTRIES + forged::ENTRY * e + k]
 }
 
 // Entry e is under way: a vote, or a reply if it arrives by the end of its reader's read.
@@ -34,13 +35,13 @@ fn post_entry(work: &mut [u8], ends: [u8; READERS], n: usize, e: usize)
         return;
     }
     let y = receiver - n;
-    if 4 < y {
+    if READERS < y {
         return;
     }
     if size_of(ends[y - 1]) < arrival {
         return;
     }
-    calendar::post(work, calendar::row(arrival, 15 + y), number, sender);
+    calendar::post(work, calendar::row(arrival, READERS_AT + y), number, sender);
 }
 
 fn wide(x: u16) -> usize
@@ -50,7 +51,13 @@ fn wide(x: u16) -> usize
 }
 
 // The entries that are sent in tick t are; `starts` has how many are sent before each tick, `ends` the ticks in which the readers' reads end.
-pub fn forge(work: &mut [u8], ends: [u8; READERS], n: usize, starts: &[u16; 129], t: usize)
+pub fn forge(
+    work: &mut [u8],
+    ends: [u8; READERS],
+    n: usize,
+    starts: &[u16; forged::STARTS],
+    t: usize,
+)
     requires { ⌜ (n ≤ 16) × (t < 128) × (entriesEnd ≤ length (now work)) × SentIn (now work) (now starts) t ⌝ }
     ensures { λ _. ⌜ Posted (now (work .entry)) (now (work .exit)) (forges ends n (now (work .entry)) (getD (now (starts .entry)) t 0) (getD (now (starts .entry)) (t + 1) 0)) ⌝ }
 {

@@ -1,16 +1,15 @@
 -- The requests of a tick of the code are those of the plan: what begins in it is under way after it, what arrived is not.
 -- It stands on Tables, Feeding and the laws of requests.
 use mathlib.Core.Path.{_≡_, refl, sym, ap, subst, _∙_}
-use mathlib.Core.Bool.{Bool, true, false, not, _&&_, _||_}
+use mathlib.Core.Bool.{Bool, true, false, not, _&&_}
 use mathlib.Core.List.{List}
-use Prim.Native.Nat.{ℕ, suc, _+_, _*_, _-_, _%_, _≤_, _<_}
+use Prim.Native.Nat.{ℕ, suc, _+_, _-_, _%_, _≤_, _<_}
 use native.Mathlib.Nat.{add-zero}
 use native.Mathlib.Omega.{arith}
-use native.Mathlib.Decide.{decLe, ℕ-discrete}
+use native.Mathlib.Decide.{decLe}
 use lib.Dec.{T, eqb, leb, ltb, eqb→eq, eqb-refl, leb→le, le→leb}
-use lib.ListN.{length, getD}
+use lib.ListN.{getD}
 use borrow.Author.Tests.{lt-ltb, le-ltb, ne-eqb, ltb-true, ltb-false, eqb-true, eqb-false}
-use Rattle.register.specs.Lists.{any, anyUpTo, In}
 use Rattle.register.specs.Plan.{Read}
 use Rattle.register.proofs.Logic.{T-iff, and-l, and-r, and-i}
 use Rattle.register.proofs.Lists.{any-in, in-any}

@@ -27,7 +27,7 @@ use Rattle.cluster.specs.declared.Cluster.{Cluster}
 use Rattle.cluster.specs.declared.Feed.{Feed}
 use Rattle.cluster.specs.declared.Reader.{Reader}
 use Rattle.serving.specs.Bits.{sets}
-use Rattle.cluster.specs.Inputs.{pairAt, Sized, Fits}
+use Rattle.cluster.specs.Inputs.{pairAt, Tickable, Fits}
 use Rattle.states.specs.State.{State}
 use Rattle.cluster.specs.Tick.{Ticked, noReader, endsOf, feedOf}
 use Rattle.cluster.specs.Settled.{CalmlyTicked}
@@ -69,9 +69,9 @@ module _ (s : List ℕ) (r : Script) (R : Decoded s r) where
         (rw (R .scripted .rules .delta) at (F .comes)) (rw (period-same s r R) at (F .moves)) Q latest
         (λ q o. rw same-ends (end-of (c .readers) (q .reader - 1) ∙ S .readers .end q o))
 
-    pub sized : Sized s work (f .t) (f .rules) (f .known) (f .links)
+    pub sized : Tickable s work (f .t) (f .rules) (f .known) (f .links)
     sized =
-        subst (λ (x : Feed). Sized s work (x .t) (x .rules) (x .known) (x .links)) (sym (F .same))
+        subst (λ (x : Feed). Tickable s work (x .t) (x .rules) (x .known) (x .links)) (sym (F .same))
         (script-sized s (R .before) (R .after) (R .playable) r (R .scripted) work t under room (S .calendar .spans))
 
     module _ (d : Cluster) (work₁ : List ℕ) (fed : CalmlyTicked (feedOf s work f) c d work₁) where

@@ -15,7 +15,7 @@ use Rattle.cluster.specs.declared.Cluster.{Cluster}
 use Rattle.cluster.specs.declared.Feed.{Feed}
 use Rattle.cluster.specs.declared.Reader.{Reader}
 use Rattle.serving.specs.declared.Server.{Server}
-use Rattle.cluster.specs.Inputs.{Sized}
+use Rattle.cluster.specs.Inputs.{Tickable}
 use Rattle.cluster.specs.Tick.{Hearing, Heard, noReader, endsOf, feedOf}
 use Rattle.cluster.specs.Settled.{CalmlyServed, CalmlyTicked}
 use Rattle.states.proofs.RowLaws.{end-of}
@@ -23,7 +23,7 @@ use Rattle.cluster.proofs.ServeLaws.{sized-after, calmly-ticked}
 use Rattle.script.specs.declared.Script.{Script}
 use Rattle.script.specs.Forged.{entriesEnd}
 use Rattle.forging.specs.Forging.{SentIn, forges}
-use Rattle.requests.specs.Requests.{requestsEnd, SameOutside}
+use Rattle.requests.specs.Requests.{SameOutside}
 use Rattle.requests.proofs.Requesting.{behind-trans, outside-trans, past-behind}
 use Rattle.states.proofs.RequestLaws.{requested-past}
 use Rattle.asking.specs.Asking.{WroteOn}
@@ -94,18 +94,14 @@ module _ (s work : List ℕ) (r : Script) (t : ℕ) (servers : List Server) (p :
         asked = between-none s (r .links) (r .rules .n) t (r .reads .reader) (q .begun) then;
       }
 
-  feed-sized : Sized s work (f .t) (f .rules) (f .known) (f .links)
+  feed-sized : Tickable s work (f .t) (f .rules) (f .known) (f .links)
   feed-sized = sized s r (Q .decoded) work (Q .kept) (Q .room) t below written (p .ends) f F (at servers p written t .cluster) (L .state) (L .requested) (L .written) same
 
-  pub noted-sized : Sized s noted (f .t) (f .rules) (f .known) (f .links)
+  pub noted-sized : Tickable s noted (f .t) (f .rules) (f .known) (f .links)
   noted-sized = sized-after s work noted (f .t) (f .rules) (f .known) (f .links) feed-sized (H .heard .rest) (H .heard .spans)
 
   module _ (served : List Server) (work₁ : List ℕ) (S : CalmlyServed (feedOf s noted f) (p .ends) servers served work₁) (written₁ : ℕ) (work₂ : List ℕ)
       (N : WroteOn s (r .links) (r .rules .n) t (r .writes .begun) (r .writes .known .m) written written₁ work₁ work₂) where
-    -- where the requests begin there is room for them
-    pub request-room : requestsEnd ≤ length work₁
-    request-room = omega (arith, Q .room, H .heard .rest .size, S .rest .size)
-
     module _ (z : Reading) (answers answers₁ work₃ : List ℕ) (W : WentOn s r t q z answers answers₁ work₂ work₃) where
       abbrev c : Cluster
       c = record { servers = servers; readers = p .readers }

@@ -29,7 +29,7 @@ use Rattle.answers.specs.Workspace.{workspaceSize, zeroed}
 use Rattle.reading.specs.Reading.{placed}
 use Rattle.player.specs.declared.Playing.{Playing}
 use Rattle.player.specs.Run.{Decoded, Ready, Played, Fresh, answerIn, Went}
-use Rattle.player.specs.Player.{Answered, Seen}
+use Rattle.player.specs.Player.{AllAnswered, Seen}
 use Rattle.reading.proofs.Cursors.{until-none, placed-none, placed-on}
 use Rattle.player.proofs.Feeding.{range, ticks-same}
 use Rattle.player.proofs.Buffers.{answers-none, answers-more, answers-done, zeroed-same}
@@ -96,9 +96,6 @@ module _ (s before after started : List ℕ) (r : Script) (playable : Playable 1
   pub begun : Played s started r first
   begun = played-none s r after started first decoded fresh
 
-  pub ticks-few : headerOf 16 s .ticks ≤ 128
-  ticks-few = range s r decoded .ticks-hi
-
   pub servers-few : headerOf 16 s .n ≤ 16
   servers-few = range s r decoded .n-hi
 
@@ -133,7 +130,7 @@ module _ (s before after started : List ℕ) (r : Script) (playable : Playable 1
       | no d ↦ absurd (none-left e (omega arith))
     ]
 
-    pub all-there : p .tick ≡ r .shape .ticks → (end : List ℕ) → end ≡ zeroed work → Answered s answers answers₁ before end
+    pub all-there : p .tick ≡ r .shape .ticks → (end : List ℕ) → end ≡ zeroed work → AllAnswered s answers answers₁ before end
     all-there e end z =
         let k = all-answered e in
         let none : first .answered ≡ 0 = ap (λ (x : Playing). x .answered) (fresh .first) in

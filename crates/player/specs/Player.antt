@@ -10,7 +10,7 @@ use Rattle.serving.specs.Stored.{statusOf, keys}
 use Rattle.answers.specs.Answers.{answerSize, answersOf}
 use Rattle.answers.specs.Workspace.{zeroed}
 
-pub record Answered (s answers₀ answers₁ work₀ work₁ : List ℕ) : Type 0 where
+pub record AllAnswered (s answers₀ answers₁ work₀ work₁ : List ℕ) : Type 0 where
   pub answers : answers₁ ≡ answersOf 16 s ++ drop (answerSize 16 * length (planOf 16 s .reads)) answers₀
   pub workspace : work₁ ≡ zeroed work₀
 

@@ -8,7 +8,7 @@ ghost use Rattle.answers.specs.Answers.{answerSize};
 ghost use Rattle.answers.specs.Workspace.{workspaceSize};
 ghost use Rattle.script.specs.Forged.{entriesEnd};
 ghost use Rattle.player.specs.Run.{Fresh};
-ghost use Rattle.player.specs.Player.{Answered, Seen};
+ghost use Rattle.player.specs.Player.{AllAnswered, Seen};
 use calendar::PLACES;
 use cluster::Cluster;
 use plan::header::Shape;
@@ -51,7 +51,7 @@ fn begin(work: &mut [u8], script: Script) -> Playing
 // Plays all ticks, writes the answers and zeroes the workspace.
 pub fn play(plan: &[u8], answers: &mut [u8], work: &mut [u8])
     requires { ⌜ Playable 16 (now plan) × (answerSize 16 * length (planOf 16 (now plan) .reads) ≤ length (now answers)) × (workspaceSize ≤ length (now work)) ⌝ }
-    ensures { λ _. ⌜ Answered (now (plan .entry)) (now (answers .entry)) (now (answers .exit)) (now (work .entry)) (now (work .exit)) ⌝ }
+    ensures { λ _. ⌜ AllAnswered (now (plan .entry)) (now (answers .entry)) (now (answers .exit)) (now (work .entry)) (now (work .exit)) ⌝ }
 {
     let script = script::read(plan, work);
     let start = begin(work, script);
@@ -67,7 +67,8 @@ pub fn look(plan: &[u8], work: &mut [u8], server: usize, tick: u8) -> Server
     let script = script::read(plan, work);
     let start = begin(work, script);
     let mut unasked = [0u8; UNASKED];
-    let end = run::run(start, plan, &mut unasked, work, script, tick + 1);
+    let before = run::run(start, plan, &mut unasked, work, script, tick);
+    let end = tick::next(before, plan, &mut unasked, work, script);
     answers::zero(work);
     let c = end.cluster;
     c.servers[server]

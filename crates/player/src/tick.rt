@@ -1,9 +1,13 @@
-// What a tick of a plan is fed, and the write that begins in it.
-ghost use Prim.Native.Nat.{_+_, _≤_, _<_};
+// A tick of a plan: what it is fed, the write that begins in it, and the whole of it on a state that is lent.
+ghost use mathlib.Core.Path.{_≡_};
+ghost use Prim.Native.Nat.{suc, _+_, _*_, _≤_, _<_};
 ghost use lib.ListN.{length};
 ghost use Rattle.requests.specs.Requests.{requestsEnd};
+ghost use Rattle.answers.specs.Answers.{answerSize};
 ghost use Rattle.asking.specs.Asking.{WroteOn};
-ghost use Rattle.player.specs.Run.{Decoded, FedBy};
+ghost use Rattle.player.specs.Run.{Decoded, FedBy, Ready, Played, Went};
+use super::Playing;
+use super::run;
 use cluster::Feed;
 use script::Script;
 use script::inputs;
@@ -53,4 +57,22 @@ pub fn write_on(work: &mut [u8], plan: &[u8], script: Script, written: u8, t: u8
         writes.known.m,
         written,
     )
+}
+
+// 'One tick carries the whole hall from one state to the next': the next tick of a state that is lent.
+pub fn tick(p: &mut Playing, plan: &[u8], answers: &mut [u8], work: &mut [u8], script: Script)
+    requires { ⌜ Ready (now plan) (now work) script × Played (now plan) (now work) script (now p) × (now p .tick < script .shape .ticks) × (answerSize 16 * script .reads .m ≤ length (now answers)) ⌝ }
+    ensures { λ _. ⌜ Went (now (plan .entry)) (now (work .entry)) (now (work .exit)) (now (answers .entry)) (now (answers .exit)) script (now (p .entry)) (now (p .exit)) × (now (p .exit) .tick ≡ suc (now (p .entry) .tick)) ⌝ }
+{
+    *p = run::one(*p, plan, answers, work, script);
+}
+
+// The next tick of a state by value, by lending it: who calls this needs no proof by hand.
+pub fn next(p: Playing, plan: &[u8], answers: &mut [u8], work: &mut [u8], script: Script) -> Playing
+    requires { ⌜ Ready (now plan) (now work) script × Played (now plan) (now work) script p × (p .tick < script .shape .ticks) × (answerSize 16 * script .reads .m ≤ length (now answers)) ⌝ }
+    ensures { λ r. ⌜ Went (now (plan .entry)) (now (work .entry)) (now (work .exit)) (now (answers .entry)) (now (answers .exit)) script p r × (r .tick ≡ suc (p .tick)) ⌝ }
+{
+    let mut local = p;
+    tick(&mut local, plan, answers, work, script);
+    local
 }

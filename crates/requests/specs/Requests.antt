@@ -1,7 +1,7 @@
 -- Where the requests stand in the lent workspace, behind the calendar, and what the operations on them do. In words of two bytes: the servers that the
 -- request of party p reaches in tick t, at 8 (t % 16) + p. The writer is party 0 here, reader x is party x.
 use mathlib.Core.Path.{_≡_}
-use mathlib.Core.Bool.{Bool, true, false, not, _&&_, _||_}
+use mathlib.Core.Bool.{Bool, false, not, _&&_, _||_}
 use mathlib.Core.List.{List}
 use Prim.Native.Nat.{ℕ, _+_, _*_, _/_, _%_, _≤_, _<_}
 use lib.Dec.{eqb, ltb}

@@ -6,7 +6,7 @@ use mathlib.Core.List.{List}
 use Prim.Native.Nat.{ℕ, suc, _+_, _*_, _-_, _/_, _%_, _^_, _≤_, _<_}
 use native.Mathlib.Nat.{div-mul-le-self}
 use native.Mathlib.Omega.{arith}
-use lib.Dec.{T, eqb}
+use lib.Dec.{eqb}
 use lib.ListN.{length, getD}
 use borrow.Author.Tests.{lt-ltb, eq-eqb, ne-eqb}
 use Rattle.bits.specs.Field.{fieldOf}
@@ -32,7 +32,7 @@ use Rattle.states.specs.State.{Open}
 use Rattle.states.specs.Requests.{Requested}
 use Rattle.states.proofs.RequestLaws.{asked-now}
 use Rattle.serving.specs.Links.{delayAt}
-use Rattle.cluster.specs.Inputs.{pairAt, requesters, wroteAt, asksAt, Knows, Sized, Fits}
+use Rattle.cluster.specs.Inputs.{pairAt, requesters, wroteAt, asksAt, Knows, Tickable, Fits}
 use Rattle.serving.proofs.BitLaws.{bit-shift}
 use Rattle.script.specs.declared.Script.{Script}
 use Rattle.script.specs.Inputs.{LatestWrite, liveAt, Arrive, Moves}
@@ -161,7 +161,7 @@ module _ (s before after : List ℕ) (A : Playable 16 s) (r : Script) (R : Scrip
       rw (link-delay s A (r .links) (R .links) t i q below (omega (arith, n)) (omega (arith, R .links .parties)) (other-link (headerOf 16 s .n) i q (omega (arith, n)) d (λ z. w (z ∙ sym n))))
       (delay-range 16 s A t i q .0)
 
-  pub script-sized : (work : List ℕ) (t : ℕ) → t < headerOf 16 s .ticks → entriesEnd ≤ length work → Spanned work places → Sized s work t (r .rules) (r .writes .known) (r .links)
+  pub script-sized : (work : List ℕ) (t : ℕ) → t < headerOf 16 s .ticks → entriesEnd ≤ length work → Spanned work places → Tickable s work t (r .rules) (r .writes .known) (r .links)
   script-sized work t below room spans =
       let H = in-range 16 s A in
       record {

@@ -19,7 +19,7 @@ use Rattle.serving.specs.declared.Links.{Links}
 use Rattle.calendar.specs.Layout.{places}
 use Rattle.serving.specs.Links.{delayAt}
 use Rattle.script.specs.Forged.{entriesEnd, forgedBits, delayOf, Fillable, Entry, Filled, Starts}
-use Rattle.script.specs.Script.{LinksOf, messageOf, messageDelay, messageNumber, Forged}
+use Rattle.script.specs.Script.{LinksOf, messageOf, messageDelay, messageNumber, Entered}
 use Rattle.script.specs.Forged as F
 use Rattle.script.proofs.Entries.{reach-same}
 use Rattle.script.proofs.Placing.{bits-inside, link-delay}
@@ -78,7 +78,7 @@ module _ (s : List ℕ) (A : Playable 16 s) (at count : ℕ) (starts-at : at ≡
 
     pub forged : (before after values : List ℕ) (m : ℕ) (starts : List ℕ)
         → Filled before after count (λ e. forgedBits part (at % 8 + 40 * e)) (λ e. delayOf s links part (at % 8 + 40 * e)) (λ e. F.numberOf values m part (at % 8 + 40 * e))
-        → Starts after count starts → Forged s before after values m starts
+        → Starts after count starts → Entered s before after values m starts
     forged before after values m starts W S =
         let X = rw counted at W in
         record {

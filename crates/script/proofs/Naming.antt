@@ -1,13 +1,13 @@
 -- The forged entries name what the plan's forged messages name.
 -- It stands on the laws of claims, and on what an entry says.
-use mathlib.Core.Path.{_≡_, refl, sym, ap, _∙_}
+use mathlib.Core.Path.{_≡_, refl, _∙_}
 use mathlib.Core.Bool.{Bool, true, false, _&&_, cond}
 use mathlib.Core.List.{List}
 use Prim.Native.Nat.{ℕ, zero, suc, _+_, _≤_, _<_}
 use native.Mathlib.Omega.{arith}
-use lib.Dec.{T, eqb, ltb, leb, eqb→eq, eqb-refl}
+use lib.Dec.{T, eqb, ltb, eqb→eq, eqb-refl}
 use lib.ListN.{getD}
-use borrow.Author.Tests.{lt-ltb, eq-eqb, eqb-true}
+use borrow.Author.Tests.{lt-ltb, eq-eqb}
 use Rattle.register.specs.Lists.{tab, any, anyUpTo}
 use Rattle.register.specs.Plan.{Forgery, stamped, valueOf, numberOf}
 use Rattle.register.proofs.Logic.{T-iff, and-r}

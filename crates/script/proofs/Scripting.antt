@@ -14,7 +14,7 @@ use Rattle.plan.specs.Playable.{Playable}
 use Rattle.plan.specs.Shape.{shape}
 use Rattle.script.specs.declared.Script.{Script}
 use Rattle.script.specs.Operations.{opAt, Room, Written, ReadIn}
-use Rattle.script.specs.Script.{RulesOf, LinksOf, Forged, Scripted}
+use Rattle.script.specs.Script.{RulesOf, LinksOf, Entered, Scripted}
 use Rattle.script.proofs.Placing.{writes-there, reads-there, room}
 
 module _ (s : List ℕ) (A : Playable 16 s) where
@@ -40,7 +40,7 @@ module _ (s : List ℕ) (A : Playable 16 s) where
     pub scripted : (before after : List ℕ) (r : Script) → r .shape ≡ x → RulesOf (shape x) (r .rules) → LinksOf (shape x) (r .links)
         → Written (writesFrom 16 1 (tab (x .operations) (opAt s at))) (x .initial) (r .writes .known .values) (r .writes .begun) (r .writes .known .m)
         → ReadIn (readsFrom (tab (x .operations) (opAt s at))) (r .reads .begun) (r .reads .reader) (r .reads .m)
-        → Forged s before after (r .writes .known .values) (r .writes .known .m) (r .starts)
+        → Entered s before after (r .writes .known .values) (r .writes .known .m) (r .starts)
         → Scripted s before after r
     scripted before after r e R L W Q F = record {
       header = ap shape e ∙ same;

@@ -36,7 +36,7 @@ abbrev pub messageNumber : List ℕ → List ℕ → ℕ → ℕ → ℕ
 messageNumber s values m e = numberIn values m (valueOf 16 (messageOf s e .pair)) (numberOf 16 (messageOf s e .pair))
 
 -- the plan's forged messages are the first entries, and the starts are theirs
-pub record Forged (s before after values : List ℕ) (m : ℕ) (starts : List ℕ) : Type 0 where
+pub record Entered (s before after values : List ℕ) (m : ℕ) (starts : List ℕ) : Type 0 where
   pub filled : Filled before after (headerOf 16 s .forgeries) (messageOf s) (messageDelay s) (messageNumber s values m)
   pub started : Starts after (headerOf 16 s .forgeries) starts
 
@@ -47,4 +47,4 @@ pub record Scripted (s before after : List ℕ) (r : Script) : Type 0 where
   pub links : LinksOf (headerOf 16 s) (r .links)
   pub writes : Written (planOf 16 s .writes) (headerOf 16 s .initial) (r .writes .known .values) (r .writes .begun) (r .writes .known .m)
   pub reads : ReadIn (planOf 16 s .reads) (r .reads .begun) (r .reads .reader) (r .reads .m)
-  pub forged : Forged s before after (r .writes .known .values) (r .writes .known .m) (r .starts)
+  pub forged : Entered s before after (r .writes .known .values) (r .writes .known .m) (r .starts)

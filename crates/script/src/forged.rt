@@ -4,6 +4,7 @@ ghost use Prim.Native.Nat.{_+_, _*_, _^_, _≤_, _<_};
 ghost use lib.ListN.{length};
 ghost use Rattle.script.specs.Forged.{Packed, numberIn, entryBytes, Fillable, Filled, forgedBits, delayOf, numberOf, Start, Starts, entriesEnd, mostEntries};
 ghost use Rattle.calendar.specs.Layout.{places};
+use calendar::NO_PAIR;
 use calendar::PLACES;
 use plan::forgeries::Forged;
 use serving::Links;
@@ -11,6 +12,12 @@ use serving::delays;
 
 // The byte at which the forged entries begin, behind the requests.
 pub const ENTRIES: usize = requests::END;
+
+// How many bytes an entry has.
+pub const ENTRY: usize = 8;
+
+// How many ticks the starts are told for: one more than a plan may have.
+pub const STARTS: usize = 129;
 
 // The forged message that stands from bit `at` on.
 fn message_at(part: &[u8], at: usize) -> Forged
@@ -20,7 +27,7 @@ fn message_at(part: &[u8], at: usize) -> Forged
     Forged::of(bits::field(part, at, 40))
 }
 
-// The number, if it is that of a known pair with this value; else 255.
+// The number, if it is that of a known pair with this value; else NO_PAIR.
 fn known_number(values: &[u16; PLACES], m: usize, value: u16, number: u8) -> u8
     requires { ⌜ m ≤ places ⌝ }
     ensures { λ r. ⌜ r ≡ numberIn (now (values .entry)) m value number ⌝ }
@@ -31,7 +38,7 @@ fn known_number(values: &[u16; PLACES], m: usize, value: u16, number: u8) -> u8
             return number;
         }
     }
-    255
+    NO_PAIR
 }
 
 // A forged entry, from byte `at` of the workspace on.
@@ -84,7 +91,7 @@ pub fn fill(
         );
         put_entry(
             work,
-            ENTRIES + 8 * e,
+            ENTRIES + ENTRY * e,
             g.at,
             g.at + delay as u8,
             g.to,
@@ -102,7 +109,7 @@ fn next_start(work: &[u8], e: usize, count: usize, u: u8) -> usize
 {
     let mut i = e;
     while i < count {
-        if u <= work[ENTRIES + 8 * i] {
+        if u <= work[ENTRIES + ENTRY * i] {
             return i;
         }
         i += 1;
@@ -111,14 +118,14 @@ fn next_start(work: &[u8], e: usize, count: usize, u: u8) -> usize
 }
 
 // For each tick, how many entries were sent before it.
-pub fn starts(work: &[u8], count: usize) -> [u16; 129]
+pub fn starts(work: &[u8], count: usize) -> [u16; STARTS]
     requires { ⌜ (count ≤ mostEntries) × (entriesEnd ≤ length (now work)) ⌝ }
     ensures { λ r. ⌜ Starts (now (work .entry)) count r ⌝ }
 {
-    let mut r = [0u16; 129];
+    let mut r = [0u16; STARTS];
     let mut e: usize = 0;
     let mut u: usize = 0;
-    while u < 129 {
+    while u < STARTS {
         e = next_start(work, e, count, u as u8);
         r[u] = e as u16;
         u += 1;

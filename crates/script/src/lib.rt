@@ -7,7 +7,8 @@ ghost use Rattle.plan.specs.Playable.{Playable};
 ghost use Rattle.plan.specs.Shape.{Ranged, shape};
 ghost use Rattle.calendar.specs.Layout.{places};
 ghost use Rattle.script.specs.Forged.{entriesEnd};
-ghost use Rattle.script.specs.Script.{RulesOf, LinksOf, Forged, Scripted};
+ghost use Rattle.script.specs.Script.{RulesOf, LinksOf, Entered, Scripted};
+use forged::STARTS;
 use operations::Reads;
 use operations::Writes;
 use plan::header::Shape;
@@ -25,7 +26,7 @@ pub struct Script {
     pub links: Links,
     pub writes: Writes,
     pub reads: Reads,
-    pub starts: [u16; 129],
+    pub starts: [u16; STARTS],
 }
 
 fn rules_of(header: Shape) -> Rules
@@ -51,9 +52,9 @@ fn links_of(header: Shape) -> Links
 }
 
 // The forged entries, into the workspace, and where those of each tick start. The forged part is read from the byte that holds its first bit.
-fn forge(plan: &[u8], work: &mut [u8], header: Shape, links: Links, writes: Writes) -> [u16; 129]
+fn forge(plan: &[u8], work: &mut [u8], header: Shape, links: Links, writes: Writes) -> [u16; STARTS]
     requires { ⌜ Playable 16 (now plan) × (shape header ≡ headerOf 16 (now plan)) × LinksOf (shape header) links × (entriesEnd ≤ length (now work)) × (writes .known .m ≤ places) ⌝ }
-    ensures { λ r. ⌜ Forged (now (plan .entry)) (now (work .entry)) (now (work .exit)) (writes .known .values) (writes .known .m) r ⌝ }
+    ensures { λ r. ⌜ Entered (now (plan .entry)) (now (work .entry)) (now (work .exit)) (writes .known .values) (writes .known .m) r ⌝ }
 {
     let at = header.forgeries_at();
     let byte = at / 8;

@@ -2,6 +2,7 @@
 ghost use Rattle.register.specs.Lists.{tab};
 ghost use Rattle.plan.specs.Parts.{writesFrom, readsFrom};
 ghost use Rattle.script.specs.Operations.{opAt, Room, Written, ReadIn};
+use calendar::PLACES;
 use cluster::Known;
 use plan::operations::Operation;
 
@@ -11,7 +12,7 @@ pub const TABLE_READS: usize = 255;
 // The known pairs, and the tick in which write j begins, from 1 on.
 pub struct Writes {
     pub known: Known,
-    pub begun: [u8; 65],
+    pub begun: [u8; PLACES],
 }
 
 // The tick in which each read begins, and its reader.
@@ -26,8 +27,8 @@ pub fn writes_of(plan: &[u8], at: usize, count: usize, initial: u16) -> Writes
     requires { ⌜ Room (now plan) at count ⌝ }
     ensures { λ r. ⌜ Written (writesFrom 16 1 (tab count (opAt (now (plan .entry)) at))) initial (r .known .values) (r .begun) (r .known .m) ⌝ }
 {
-    let mut values = [0u16; 65];
-    let mut begun = [0u8; 65];
+    let mut values = [0u16; PLACES];
+    let mut begun = [0u8; PLACES];
     values[0] = initial;
     let mut m: usize = 1;
     let mut i: usize = 0;

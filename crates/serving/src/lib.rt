@@ -12,6 +12,12 @@ use calendar::Stamped;
 // How many readers there may be.
 pub const READERS: usize = 4;
 
+// One more than the last reader's number: they count from 1.
+pub const PAST_READERS: usize = 1 + READERS;
+
+// Reader y receives as party READERS_AT + y: the readers stand behind 16 servers.
+pub const READERS_AT: usize = 15;
+
 // A server is faulty, cured since a tick, or correct (document 01: held, curing or sound).
 pub enum Status {
     Faulty,
@@ -52,7 +58,7 @@ pub struct Links {
     pub parties: usize,
 }
 
-// What a server sends in a tick: a vote for the pair of a WRITE (255: none), votes for its pairs if it echoes, its pairs to some readers.
+// What a server sends in a tick: a vote for the pair of a WRITE (NO_PAIR: none), votes for its pairs if it echoes, its pairs to some readers.
 pub struct Row {
     pub wrote: u8,
     pub echoed: bool,

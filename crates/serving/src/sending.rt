@@ -9,7 +9,9 @@ ghost use Rattle.calendar.specs.View.{Posted};
 ghost use Rattle.serving.specs.Links.{Linked};
 ghost use Rattle.serving.specs.Sends.{sendsVote, sendsReply, sends};
 use super::Links;
+use super::PAST_READERS;
 use super::READERS;
+use super::READERS_AT;
 use super::Row;
 use super::delays;
 use calendar::PLACES;
@@ -67,12 +69,12 @@ fn send_replies(
     let readers = row.readers;
     let kept = row.kept;
     let mut y: usize = 1;
-    while y < 5 {
+    while y < PAST_READERS {
         if (readers >> y) % 2 == 1 {
             if n + y < links.parties {
                 let at = t + delays::delay(plan, links, n, t, i, n + y);
                 if at <= ends[y - 1] as usize {
-                    calendar::post_kept(work, calendar::row(at, 15 + y), kept, i);
+                    calendar::post_kept(work, calendar::row(at, READERS_AT + y), kept, i);
                 }
             }
         }

@@ -116,7 +116,7 @@ impl Server {
     }
 
     // A new voting period: the fresh votes become the old ones if two periods count.
-    pub fn turn(mut self, two: bool) -> Self
+    pub fn next_period(mut self, two: bool) -> Self
         ensures { λ r. ⌜ server r ≡ turned two (server self) ⌝ }
     {
         let none = Voters::none();

@@ -17,6 +17,7 @@ use super::servers;
 use super::sets;
 use super::store;
 use calendar::DEPTH;
+use calendar::NO_PAIR;
 use calendar::PLACES;
 use calendar::Stamped;
 
@@ -99,7 +100,7 @@ pub fn quiet() -> Row
 {
     let none = store::none();
     Row {
-        wrote: 255,
+        wrote: NO_PAIR,
         echoed: false,
         readers: 0,
         kept: none,
@@ -177,6 +178,6 @@ impl Server {
         if servers::is_faulty(status) {
             return self.wipe(t);
         }
-        self.turn(two)
+        self.next_period(two)
     }
 }

@@ -1,10 +1,10 @@
 -- The requests under way from tick to tick: at the start there are none, and in a tick those that arrive are taken and those that begin are posted.
 -- An open read's READ is told from all others of its reader. It stands on the definitions and on what a good plan has.
-use mathlib.Core.Path.{_≡_, refl, sym, ap, _∙_}
-use mathlib.Core.Logic.{_⊎_, inl, inr}
-use mathlib.Core.Bool.{Bool, true, false, not, _&&_, _||_}
+use mathlib.Core.Path.{_≡_, refl, sym, _∙_}
+use mathlib.Core.Logic.{inl, inr}
+use mathlib.Core.Bool.{Bool, false, not, _&&_, _||_}
 use mathlib.Core.List.{List}
-use Prim.Native.Nat.{ℕ, suc, _+_, _*_, _%_, _≤_, _<_}
+use Prim.Native.Nat.{ℕ, suc, _+_, _%_, _≤_, _<_}
 use native.Mathlib.Omega.{arith}
 use native.Mathlib.Decide.{decLe, ℕ-discrete}
 use lib.Dec.{T, eqb, ltb, ltb→lt, lt→ltb, eqb→eq, eqb-refl}
@@ -17,7 +17,7 @@ use Rattle.register.proofs.Good.{Good}
 use Rattle.register.proofs.Logic.{T-iff, F-eq, and-l, and-r, and-i, or-e, or-l, or-r}
 use Rattle.register.proofs.Lists.{any-in, in-any, in-filter, filter-in}
 use Rattle.calendar.specs.View.{SamePast}
-use Rattle.requests.specs.Requests.{parties, reachedBy, Unasked}
+use Rattle.requests.specs.Requests.{reachedBy, Unasked}
 use Rattle.requests.proofs.Requesting.{past-requests}
 use Rattle.states.specs.Requests.{writeReaches, readReaches, writeWay, readWay, Requested, writeBegins, readBegins}
 

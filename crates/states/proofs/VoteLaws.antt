@@ -5,10 +5,10 @@ use mathlib.Core.Path.{_≡_, refl, sym, ap, _∙_}
 use mathlib.Core.Bool.{Bool, true, false, not, _&&_, _||_, cond}
 use mathlib.Core.Logic.{inl, inr}
 use mathlib.Core.List.{List, [], _∷_, _++_}
-use Prim.Native.Nat.{ℕ, zero, suc, _+_, _*_, _-_, _/_, _%_, _≤_, _<_}
+use Prim.Native.Nat.{ℕ, zero, suc, _+_, _-_, _/_, _%_, _≤_, _<_}
 use native.Mathlib.Omega.{arith}
 use native.Mathlib.Decide.{decLe, ℕ-discrete}
-use lib.Dec.{eqb, leb, ltb, eqb→eq, eqb-refl}
+use lib.Dec.{eqb, ltb, eqb→eq, eqb-refl}
 use lib.ListN.{getD, length}
 use borrow.Author.Tests.{lt-ltb, le-ltb, lt-leb, eq-eqb, ne-eqb}
 use Rattle.register.specs.Lists.{any, In, member}
@@ -25,14 +25,14 @@ use Rattle.register.proofs.SafetyTick.{cluster-safe, writesIn-genuine, votesIn-
 use Rattle.register.proofs.Trace.{before, delivered, mid, end, before-suc, sent-row}
 use Rattle.calendar.specs.declared.Stamped.{Stamped}
 use Rattle.calendar.specs.Bits.{bit}
-use Rattle.calendar.specs.Layout.{receivers, rows, places, depth, rowOf, sender}
+use Rattle.calendar.specs.Layout.{receivers, rows, depth, rowOf, sender}
 use Rattle.calendar.specs.Posts.{vacant, amongFirst, among}
-use Rattle.calendar.proofs.Laws.{and-none, or-none}
+use Rattle.calendar.proofs.Laws.{or-none}
 use Rattle.cluster.specs.declared.Cluster.{Cluster}
 use Rattle.serving.specs.declared.Rules.{Rules}
 use Rattle.serving.specs.Links.{delayAt}
 use Rattle.serving.specs.Sends.{votesFor, sendsVote, sendsReply, sends}
-use Rattle.serving.specs.Stored.{Small, Plain, Both, keyOf, keys, server, both, absent}
+use Rattle.serving.specs.Stored.{Plain, Both, keyOf, keys, server, both, absent}
 use Rattle.serving.specs.Stages.{isNew, stageOne, stageTwo, stageFour, stagesOf}
 use Rattle.cluster.specs.Inputs.{pairAt, Knows, Fits, wroteAt, asksAt}
 use Rattle.cluster.specs.Tick.{Feed, Stepped, present, Ticked, endsOf}

@@ -2,18 +2,17 @@
 -- longer than the slowest delay. It stands on register's laws of claims and of the log.
 use mathlib.Core.Path.{_≡_, refl, sym, ap, _∙_}
 use mathlib.Core.Bool.{Bool, true, false, not, _&&_, _||_, cond}
-use mathlib.Core.List.{List, [], _∷_, map, _++_}
-use Prim.Native.Nat.{ℕ, zero, suc, _+_, _*_, _/_, _%_, _≤_, _<_}
+use mathlib.Core.List.{List, [], _∷_, map}
+use Prim.Native.Nat.{ℕ, zero, suc, _+_, _/_, _%_, _≤_, _<_}
 use native.Mathlib.Omega.{arith}
 use native.Mathlib.Decide.{decLe, ℕ-discrete}
-use lib.Dec.{T, eqb, leb, ltb, eqb→eq, ltb→lt, eqb-refl}
+use lib.Dec.{T, eqb, ltb, eqb→eq, eqb-refl}
 use borrow.Author.Tests.{lt-ltb, le-ltb, eq-eqb, ne-eqb, eqb-true}
 use Rattle.register.specs.Lists.{any, anyUpTo, filter, flat, member}
 use Rattle.register.specs.Plan.{Plan, Forgery}
 use Rattle.register.specs.Server.{Claim, claimOf, has}
 use Rattle.register.specs.Cluster.{Log, sentIn, votesFrom, votesIn, forgedIn, cluster}
 use Rattle.register.proofs.Logic.{and-l, and-r, and-i, T-iff}
-use Rattle.register.proofs.Lists.{any-in}
 use Rattle.register.proofs.Counting.{anyUpTo-e, anyUpTo-i}
 use Rattle.register.proofs.Good.{Good}
 use Rattle.register.proofs.Claims.{has-nil, has-append, has-claims, has-flat}

@@ -1,10 +1,9 @@
--- `look` meets its contract: the ticks up to the one looked at, and the server after them.
+-- `look` meets its contract: the ticks before the one looked at, that tick, and the server after them.
 use borrow.Author.Needs.{needs}
 use native.Mathlib.Omega.{arith}
 use Prim.Native.Nat.{_<_, suc}
-use mathlib.Core.Path.{_≡_, _∙_}
-use native.Mathlib.Numerals.{add-one}
-use Rattle.player.proofs.Whole.{ready, begun, servers-few, ticks-few, ticks-are, seen}
+use mathlib.Core.Path.{ap, _∙_}
+use Rattle.player.proofs.Whole.{ready-kept, went-on, ready, begun, servers-few, ticks-are, seen}
 use Rattle.player.proofs.look.Statement.{statement}
 use Rattle.player.proofs.look.Tie as tie
 
@@ -17,9 +16,6 @@ begin-requires c κs = omega (arith, c .before .before .before .before .before .
 slice-aggregate-run : tie.Need-slice-aggregate-run
 slice-aggregate-run c = search needs
 
-add-run : tie.Need-add-run
-add-run c = omega (arith, c .before .before .before .before .before .before .before .before .before .before .before .before .pre .3, ticks-few _ _ _ _ _ (c .before .before .before .before .before .before .before .before .before .before .before .before .pre .0) (c .before .before .before .before .before .before .before .before .before .before .before .before .pre .1) (c .before .before .before .before .before .before .before .before .read .ensures) _ (c .before .before .before .before .begin .ensures))
-
 run-requires : tie.Need-run-requires
 run-requires c κs = (
   ready _ _ _ _ _ (c .before .before .before .before .before .before .before .before .before .before .before .before .pre .0) (c .before .before .before .before .before .before .before .before .before .before .before .before .pre .1) (c .before .before .before .before .before .before .before .before .read .ensures) _ (c .before .before .before .before .begin .ensures),
@@ -29,27 +25,39 @@ run-requires c κs = (
   omega (arith, c .before .before .before .before .before .before .before .before .read .ensures .reads .few),
 )
 
+slice-aggregate-next : tie.Need-slice-aggregate-next
+slice-aggregate-next c = search needs
+
+next-requires : tie.Need-next-requires
+next-requires c κs = (
+  ready-kept _ _ _ _ (c .before .before .before .before .before .run .ensures .0 .kept) (ready _ _ _ _ _ (c .before .before .before .before .before .before .before .before .before .before .before .before .before .before .before .before .before .before .pre .0) (c .before .before .before .before .before .before .before .before .before .before .before .before .before .before .before .before .before .before .pre .1) (c .before .before .before .before .before .before .before .before .before .before .before .before .before .before .read .ensures) _ (c .before .before .before .before .before .before .before .before .before .before .begin .ensures)),
+  c .before .before .before .before .before .run .ensures .0 .played,
+  omega (arith, c .before .before .before .before .before .before .before .before .before .before .before .before .before .before .before .before .before .before .pre .3, c .before .before .before .before .before .run .ensures .1, ticks-are _ _ _ _ _ (c .before .before .before .before .before .before .before .before .before .before .before .before .before .before .before .before .before .before .pre .0) (c .before .before .before .before .before .before .before .before .before .before .before .before .before .before .before .before .before .before .pre .1) (c .before .before .before .before .before .before .before .before .before .before .before .before .before .before .read .ensures) _ (c .before .before .before .before .before .before .before .before .before .before .begin .ensures)),
+  omega (arith, c .before .before .before .before .before .before .before .before .before .before .before .before .before .before .read .ensures .reads .few, c .before .before .before .before .before .run .kept .1 .1 .0),
+)
+
 zero-requires : tie.Need-zero-requires
-zero-requires c κs = omega (arith, c .before .before .before .before .before .before .before .before .before .before .before .before .before .before .before .before .before .pre .1, c .before .before .before .before .before .before .before .before .before .before .before .before .before .read .ensures .forged .filled .size, c .before .before .before .before .before .before .before .before .before .begin .ensures .kept .size, c .before .before .before .before .run .ensures .0 .kept .size)
+zero-requires c κs = omega (arith, c .before .before .before .before .before .before .before .before .before .before .before .before .before .before .before .before .before .before .before .before .before .before .before .pre .1, c .before .before .before .before .before .before .before .before .before .before .before .before .before .before .before .before .before .before .before .read .ensures .forged .filled .size, c .before .before .before .before .before .before .before .before .before .before .before .before .before .before .before .begin .ensures .kept .size, c .before .before .before .before .before .before .before .before .before .before .run .ensures .0 .kept .size, c .before .before .before .before .next .ensures .0 .kept .size)
 
 mul-result : tie.Need-mul-result
 mul-result c =
-    let h = servers-few _ _ _ _ _ (c .before .before .before .before .before .before .before .before .before .before .before .before .before .before .before .before .before .before .before .before .before .pre .0) (c .before .before .before .before .before .before .before .before .before .before .before .before .before .before .before .before .before .before .before .before .before .pre .1) (c .before .before .before .before .before .before .before .before .before .before .before .before .before .before .before .before .before .read .ensures) _ (c .before .before .before .before .before .before .before .before .before .before .before .before .before .begin .ensures) in
-    let l : c .before .before .before .before .before .before .before .before .before .before .before .before .before .before .before .before .before .before .before .before .before .args .server < 16 = omega (arith, h, c .before .before .before .before .before .before .before .before .before .before .before .before .before .before .before .before .before .before .before .before .before .pre .2) in
+    let h = servers-few _ _ _ _ _ (c .before .before .before .before .before .before .before .before .before .before .before .before .before .before .before .before .before .before .before .before .before .before .before .before .before .before .before .pre .0) (c .before .before .before .before .before .before .before .before .before .before .before .before .before .before .before .before .before .before .before .before .before .before .before .before .before .before .before .pre .1) (c .before .before .before .before .before .before .before .before .before .before .before .before .before .before .before .before .before .before .before .before .before .before .before .read .ensures) _ (c .before .before .before .before .before .before .before .before .before .before .before .before .before .before .before .before .before .before .before .begin .ensures) in
+    let l : c .before .before .before .before .before .before .before .before .before .before .before .before .before .before .before .before .before .before .before .before .before .before .before .before .before .before .before .args .server < 16 = omega (arith, h, c .before .before .before .before .before .before .before .before .before .before .before .before .before .before .before .before .before .before .before .before .before .before .before .before .before .before .before .pre .2) in
     search needs
 
 element-copy-out-result : tie.Need-element-copy-out-result
 element-copy-out-result c =
-    let h = servers-few _ _ _ _ _ (c .before .before .before .before .before .before .before .before .before .before .before .before .before .before .before .before .before .before .before .before .before .pre .0) (c .before .before .before .before .before .before .before .before .before .before .before .before .before .before .before .before .before .before .before .before .before .pre .1) (c .before .before .before .before .before .before .before .before .before .before .before .before .before .before .before .before .before .read .ensures) _ (c .before .before .before .before .before .before .before .before .before .before .before .before .before .begin .ensures) in
-    let l : c .before .before .before .before .before .before .before .before .before .before .before .before .before .before .before .before .before .before .before .before .before .args .server < 16 = omega (arith, h, c .before .before .before .before .before .before .before .before .before .before .before .before .before .before .before .before .before .before .before .before .before .pre .2) in
+    let h = servers-few _ _ _ _ _ (c .before .before .before .before .before .before .before .before .before .before .before .before .before .before .before .before .before .before .before .before .before .before .before .before .before .before .before .pre .0) (c .before .before .before .before .before .before .before .before .before .before .before .before .before .before .before .before .before .before .before .before .before .before .before .before .before .before .before .pre .1) (c .before .before .before .before .before .before .before .before .before .before .before .before .before .before .before .before .before .before .before .before .before .before .before .read .ensures) _ (c .before .before .before .before .before .before .before .before .before .before .before .before .before .before .before .before .before .before .before .begin .ensures) in
+    let l : c .before .before .before .before .before .before .before .before .before .before .before .before .before .before .before .before .before .before .before .before .before .before .before .before .before .before .before .args .server < 16 = omega (arith, h, c .before .before .before .before .before .before .before .before .before .before .before .before .before .before .before .before .before .before .before .before .before .before .before .before .before .before .before .pre .2) in
     search needs
 
 same-length : tie.Need-same-length
-same-length c = omega (arith, c .before .before .before .before .zero .kept .0, c .before .before .before .before .before .before .before .before .before .run .ensures .0 .kept .size, c .before .before .before .before .before .before .before .before .before .before .before .before .before .before .begin .ensures .kept .size, c .before .before .before .before .before .before .before .before .before .before .before .before .before .before .before .before .before .before .read .ensures .forged .filled .size)
+same-length c = omega (arith, c .before .before .before .before .zero .kept .0, c .before .before .before .before .before .before .before .before .before .next .ensures .0 .kept .size, c .before .before .before .before .before .before .before .before .before .before .before .before .before .before .before .run .ensures .0 .kept .size, c .before .before .before .before .before .before .before .before .before .before .before .before .before .before .before .before .before .before .before .before .begin .ensures .kept .size, c .before .before .before .before .before .before .before .before .before .before .before .before .before .before .before .before .before .before .before .before .before .before .before .before .read .ensures .forged .filled .size)
 
 returns : tie.Need-returns
 returns c =
-    seen _ _ _ _ _ (c .before .before .before .before .before .before .before .before .before .before .before .before .before .before .before .before .before .before .before .before .before .before .pre .0) (c .before .before .before .before .before .before .before .before .before .before .before .before .before .before .before .before .before .before .before .before .before .before .pre .1) (c .before .before .before .before .before .before .before .before .before .before .before .before .before .before .before .before .before .before .read .ensures) _ (c .before .before .before .before .before .before .before .before .before .before .before .before .before .before .begin .ensures) _ _ _ _ (c .before .before .before .before .before .before .before .before .before .run .ensures .0) (c .before .before .before .before .before .before .before .before .before .before .before .before .before .before .before .before .before .before .before .before .before .before .args .server) _ _ (c .before .before .before .before .before .before .before .before .before .before .before .before .before .before .before .before .before .before .before .before .before .before .pre .2) (c .before .before .before .before .before .before .before .before .before .run .ensures .1 ∙ add-one (c .before .before .before .before .before .before .before .before .before .before .before .before .before .before .before .before .before .before .before .before .before .before .args .tick)) (c .before .before .before .before .zero .ensures)
+    let went = went-on _ _ _ _ _ _ _ _ _ _ _ (c .before .before .before .before .before .before .before .before .before .before .before .before .before .before .before .run .ensures .0) (c .before .before .before .before .before .before .before .before .before .next .ensures .0) in
+    seen _ _ _ _ _ (c .before .before .before .before .before .before .before .before .before .before .before .before .before .before .before .before .before .before .before .before .before .before .before .before .before .before .before .before .pre .0) (c .before .before .before .before .before .before .before .before .before .before .before .before .before .before .before .before .before .before .before .before .before .before .before .before .before .before .before .before .pre .1) (c .before .before .before .before .before .before .before .before .before .before .before .before .before .before .before .before .before .before .before .before .before .before .before .before .read .ensures) _ (c .before .before .before .before .before .before .before .before .before .before .before .before .before .before .before .before .before .before .before .before .begin .ensures) _ _ _ _ went (c .before .before .before .before .before .before .before .before .before .before .before .before .before .before .before .before .before .before .before .before .before .before .before .before .before .before .before .before .args .server) _ _ (c .before .before .before .before .before .before .before .before .before .before .before .before .before .before .before .before .before .before .before .before .before .before .before .before .before .before .before .before .pre .2) (c .before .before .before .before .before .before .before .before .before .next .ensures .1 ∙ ap suc (c .before .before .before .before .before .before .before .before .before .before .before .before .before .before .before .run .ensures .1)) (c .before .before .before .before .zero .ensures)
 
 pub look-spec : {M : Type 1} → statement M
 look-spec =
@@ -58,8 +66,9 @@ look-spec =
     read-requires
     begin-requires
     slice-aggregate-run
-    add-run
     run-requires
+    slice-aggregate-next
+    next-requires
     zero-requires
     mul-result
     element-copy-out-result

@@ -1,6 +1,6 @@
 -- `tick::asks_at` meets its contract. The loop's invariant: the set has the readers passed whose READ reaches the server.
 use mathlib.Core.Path.{_≡_, sym, _∙_, fun-ext}
-use mathlib.Core.Bool.{Bool, true, false, _&&_}
+use mathlib.Core.Bool.{Bool, _&&_}
 use mathlib.Core.Logic.{inl, inr}
 use Prim.Native.Nat.{ℕ, _-_, _≤_}
 use native.Mathlib.Omega.{arith}

@@ -11,7 +11,7 @@ use lib.ListN.{length}
 use Rattle.serving.specs.declared.Rules.{Rules}
 use Rattle.serving.proofs.Sizes.{servers-small}
 use Rattle.cluster.specs.declared.Feed.{Feed}
-use Rattle.cluster.specs.Inputs.{Sized}
+use Rattle.cluster.specs.Inputs.{Tickable}
 use Rattle.cluster.specs.Settled.{CalmlyServed}
 use Rattle.cluster.specs.Tick.{endsOf, feedOf}
 use Rattle.cluster.proofs.HearLaws.{heard-none}
@@ -20,7 +20,7 @@ use Rattle.reading.specs.Reading.{WentOn}
 use Rattle.player.specs.Run.{Ready, Went}
 use Rattle.player.proofs.Feeding.{range, few-ticks, linked-there}
 use Rattle.player.proofs.Sizes.{AllSmall, playing-small, small-set}
-use Rattle.player.proofs.Turns.{at, HeardBy, can-go-on, none-due, noted-sized, request-room, forge-ready, went}
+use Rattle.player.proofs.Turns.{at, HeardBy, can-go-on, none-due, noted-sized, forge-ready, went}
 use Rattle.player.proofs.Whole.{ready-kept, went-none, went-on}
 use Rattle.player.proofs.run.run.Statement.{statement}
 use Rattle.player.proofs.run.run.Tie as tie
@@ -84,7 +84,7 @@ heard-by c = elim (c .if1 .came) [
 ]
 
 module _ (c : tie.Joined1 Inv-loop2 μ-loop2 Inv-loop μ-loop) where
-  all-sized : Sized (c .before .before .before .before .before .before .before .before .before .before .before .before .before .before .before .before .before .before .before .before .args .plan .now) (c .if1 .work) (c .before .before .before .before .feed-of .result .t) (c .before .before .before .before .feed-of .result .rules) (c .before .before .before .before .feed-of .result .known) (c .before .before .before .before .feed-of .result .links)
+  all-sized : Tickable (c .before .before .before .before .before .before .before .before .before .before .before .before .before .before .before .before .before .before .before .before .args .plan .now) (c .if1 .work) (c .before .before .before .before .feed-of .result .t) (c .before .before .before .before .feed-of .result .rules) (c .before .before .before .before .feed-of .result .known) (c .before .before .before .before .feed-of .result .links)
   all-sized = noted-sized _ _ _ _ _ _ _ (ready (c .before .before .before .before .before .before .before)) (below (c .before .before .before .before .before .before .before)) (c .before .before .before .before .before .before .before .before .loop .inv .3 .played) (c .before .before .before .before .before .before .before .before .loop .inv .2) _ (c .before .before .before .before .feed-of .ensures) _ _ (heard-by c)
 
   same-rules : c .before .before .before .before .feed-of .result .rules ≡ c .before .before .before .before .before .before .before .before .before .before .before .before .before .before .before .before .before .before .before .before .args .t5 .rules

@@ -1,6 +1,5 @@
 -- `tick::write_on` meets its contract.
 use borrow.Author.Needs.{needs}
-use native.Mathlib.Omega.{arith}
 use Rattle.player.proofs.Feeding.{linked-there}
 use Rattle.player.proofs.tick.write_on.Statement.{statement}
 use Rattle.player.proofs.tick.write_on.Tie as tie

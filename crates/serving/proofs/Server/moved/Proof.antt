@@ -26,12 +26,12 @@ returns-2 : tie.Need-returns-2
 unfolding movedOn
 returns-2 c = rw (c .before .before .before .if1 .left, sym (c .before .before .is-faulty .ensures) ∙ c .before .if2 .taken) (c .wipe2 .ensures)
 
-turn-requires : tie.Need-turn-requires
-turn-requires c κs = search needs
+next-period-requires : tie.Need-next-period-requires
+next-period-requires c κs = search needs
 
 returns-3 : tie.Need-returns-3
 unfolding movedOn
-returns-3 c = rw (c .before .before .before .if1 .left, sym (c .before .before .is-faulty .ensures) ∙ c .before .if2 .left) (c .turn .ensures)
+returns-3 c = rw (c .before .before .before .if1 .left, sym (c .before .before .is-faulty .ensures) ∙ c .before .if2 .left) (c .next-period .ensures)
 
 pub moved-spec : {M : Type 1} → statement M
 moved-spec =
@@ -43,5 +43,5 @@ moved-spec =
     is-faulty-requires
     wipe-requires-2
     returns-2
-    turn-requires
+    next-period-requires
     returns-3)

@@ -1,10 +1,10 @@
--- `Server::turn` meets its contract.
+-- `Server::next_period` meets its contract.
 use mathlib.Core.Path.{refl}
 use borrow.Author.Needs.{needs}
-use Rattle.serving.proofs.Server.turn.Statement.{statement}
+use Rattle.serving.proofs.Server.next_period.Statement.{statement}
 use Rattle.serving.specs.Stored.{server}
 use Rattle.serving.proofs.StageLaws.{turned-law}
-use Rattle.serving.proofs.Server.turn.Tie as tie
+use Rattle.serving.proofs.Server.next_period.Tie as tie
 
 none-requires : tie.Need-none-requires
 none-requires c κs = search needs
@@ -15,5 +15,5 @@ returns c = let a = c .before .before .before .args in turned-law (a .two) (serv
 returns-2 : tie.Need-returns-2
 returns-2 c = let a = c .before .before .before .args in turned-law (a .two) (server (a .self)) _ _ (c .before .before .none .ensures) (rw (c .if1 .left) (c .before .before .none .ensures))
 
-pub turn-spec : {M : Type 1} → statement M
-turn-spec = tie.close (tie.spec none-requires returns returns-2)
+pub next-period-spec : {M : Type 1} → statement M
+next-period-spec = tie.close (tie.spec none-requires returns returns-2)
