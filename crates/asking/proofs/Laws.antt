@@ -1,6 +1,6 @@
 -- A request sent is the plan's, and those of several reads come one by one. It stands on the laws of requests.
 use mathlib.Core.Path.{_≡_, ap, _∙_}
-use mathlib.Core.Bool.{false, _&&_, cond}
+use mathlib.Core.Bool.{false, _&&_, cond, or-comm}
 use mathlib.Core.List.{List}
 use Prim.Native.Nat.{ℕ, suc, _+_, _*_, _%_, _≤_}
 use native.Mathlib.Numerals.{add-one}
@@ -11,19 +11,15 @@ use lib.ListN.{getD}
 use borrow.Author.Tests.{le-ltb, le-leb}
 use Rattle.register.specs.Lists.{anyUpTo}
 use Rattle.register.proofs.Counting.{anyUpTo-e}
-use Rattle.register.proofs.Logic.{T-iff, and-l, or-comm}
+use Rattle.register.proofs.Logic.{T-iff, and-l}
 use Rattle.calendar.specs.declared.Sending.{Sending}
 use Rattle.calendar.specs.Posts.{arrivalOf, Sent}
 use Rattle.serving.specs.declared.Links.{Links}
 use Rattle.serving.specs.Links.{linkBit, delayAt}
+use Rattle.serving.proofs.SendLaws.{link-at}
 use Rattle.requests.specs.Requests.{askedFirst, Asked, Taken}
 use Rattle.requests.proofs.Requesting.{outside-trans, asked-none, asked-eq, asked-trans}
 use Rattle.asking.specs.Asking.{askedBy, askedBetween, begins, WroteOn}
-
--- the delays of one sender stand one after the other
-link-next : (links : Links) (u i b : ℕ) → linkBit links u i 0 + 4 * b ≡ linkBit links u i b
-unfolding linkBit
-link-next links u i b = let x = (u * links .parties + i) * links .parties in omega arith
 
 module _ (plan : List ℕ) (links : Links) (n t : ℕ) where
   pub asked-sent : (p : ℕ) (s : Sending) → Sent plan (linkBit links t (n + p) 0) n t p s → (a r : List ℕ) → Asked a r (askedFirst s p (s .n)) → Asked a r (askedBy plan links n t p)
@@ -32,7 +28,7 @@ module _ (plan : List ℕ) (links : Links) (n t : ℕ) where
     where
       go : (u q b : ℕ) → Dec (n ≤ b) → ltb b n && (eqb q p && eqb (arrivalOf s b % 16) (u % 16)) ≡ ltb b n && (eqb q p && eqb ((t + delayAt plan links t (n + p) b) % 16) (u % 16))
       go u q b (yes h) = rw (le-ltb b n h)
-      go u q b (no h) = rw (S .arrives b (omega arith), link-next links t (n + p) b)
+      go u q b (no h) = rw (S .arrives b (omega arith), link-at links t (n + p) b)
 
   module _ (by : List ℕ) (from : ℕ) where
     pub between-none : (a : List ℕ) → Asked a a (askedBetween plan links n t by from from)

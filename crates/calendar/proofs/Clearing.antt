@@ -1,6 +1,6 @@
 -- What is left of a row's cells while they are emptied, and when the row is cleared; that nothing is left when all is zeroed.
 use mathlib.Core.Path.{_≡_, refl, _∙_}
-use mathlib.Core.Bool.{Bool, true, false, not, _&&_}
+use mathlib.Core.Bool.{Bool, true, false, not, _&&_, and-false}
 use mathlib.Core.List.{List}
 use Prim.Native.Nat.{ℕ, _+_, _*_, _≤_, _<_, max}
 use native.Mathlib.Omega.{arith}
@@ -11,7 +11,7 @@ use borrow.Author.Tests.{lt-ltb, le-ltb, le-leb, leb-true, ltb-true, ltb-false, 
 use Rattle.calendar.specs.Bits.{putWord}
 use Rattle.calendar.specs.Layout.{calendarSize, cellsAt, places, rows, cellWord, lowOf, highOf, sender}
 use Rattle.calendar.specs.View.{SamePast, Cleared, Empty, Zeroed}
-use Rattle.calendar.proofs.Laws.{and-none, bit-zero, put-length, put-byte, put-other, put-none, put-low, put-high, zeroed-word}
+use Rattle.calendar.proofs.Laws.{bit-zero, put-length, put-byte, put-other, put-none, put-low, put-high, zeroed-word}
 use Rattle.calendar.proofs.Posting.{same-cell}
 
 -- the cells of the row with the pairs from `from` to before `to` are emptied
@@ -32,7 +32,7 @@ pub emptied-none : (a : List ℕ) (row from : ℕ) → Emptied a a row from from
 emptied-none a row from = record {
   rest = record { size = refl; past = λ k l. refl };
   front = λ k l. refl;
-  cells = λ x j i l m. rw (no-number from j, and-none (eqb x row));
+  cells = λ x j i l m. rw (no-number from j, and-false (eqb x row));
 }
 
 -- one pair more is out

@@ -1,6 +1,6 @@
 -- General laws: tests, sets kept as the bits of a number, and words of two bytes after a store. They stand on the library's laws of binary digits.
 use mathlib.Core.Path.{_≡_, refl, sym, _∙_}
-use mathlib.Core.Bool.{Bool, true, false, not, _&&_, _||_}
+use mathlib.Core.Bool.{Bool, true, false, not, _&&_, _||_, or-false}
 use mathlib.Core.List.{List}
 use Prim.Native.Nat.{ℕ, zero, suc, _+_, _*_, _/_, _%_, _^_, _≤_, _<_}
 use native.Mathlib.Nat.{one-mul, pow-suc, mod-eq-of-lt}
@@ -17,25 +17,6 @@ use native.Mathlib.Decide.{ℕ-discrete}
 
 -- ---- tests
 
-pub or-assoc : (a b c : Bool) → (a || b) || c ≡ a || (b || c)
-or-assoc true b c = refl
-or-assoc false b c = refl
-
-pub or-none : (a : Bool) → a ≡ a || false
-or-none true = refl
-or-none false = refl
-
-pub and-none : (a : Bool) → a && false ≡ false
-and-none true = refl
-and-none false = refl
-
-pub and-both : (a b : Bool) → a && b ≡ true → (a ≡ true) × (b ≡ true)
-and-both true b e = (refl, e)
-and-both false b e = (e, absurd (never e))
-  where
-    never : false ≡ true → ⊥
-    never e = let z : _≡_ {A = ℕ} 0 1 = cc in omega arith
-
 pub or-either : (C : Type 0) (a b : Bool) → a || b ≡ true → (a ≡ true → C) → (b ≡ true → C) → C
 or-either C true b e f g = f refl
 or-either C false b e f g = g e
@@ -46,7 +27,7 @@ ltb-more k i h = go (ltb k i) (eqb k i) refl refl
   where
     go : (a b : Bool) → ltb k i ≡ a → eqb k i ≡ b → (a && h) || (b && h) ≡ ltb k (i + 1) && h
     go true true p q = absurd (omega (arith, ltb-true k i p, eqb-true k i q))
-    go true false p q = rw (lt-ltb k (i + 1) (omega (arith, ltb-true k i p))) (sym (or-none h))
+    go true false p q = rw (lt-ltb k (i + 1) (omega (arith, ltb-true k i p))) (or-false h)
     go false true p q = rw (lt-ltb k (i + 1) (omega (arith, eqb-true k i q)))
     go false false p q = rw (le-ltb k (i + 1) (more (ltb-false k i p) (eqb-false k i q)))
       where
@@ -82,9 +63,9 @@ bit-pow zero (suc i) = let e : 2 ^ suc i % 2 ≡ 0 = omega (arith, pow-suc 2 i) 
 bit-pow (suc k) zero = bit-zero k ∙ sym (eqb·suc-zero k)
 bit-pow (suc k) (suc i) = let e : 2 ^ suc i / 2 ≡ 2 ^ i = omega (arith, pow-suc 2 i) in rw (e, eqb·suc-suc k i) (bit-pow k i)
 
--- `1 << i` at 16 bits
-pub shifted : (i : ℕ) → i < 16 → 1 * 2 ^ i % 65536 ≡ 2 ^ i
-shifted i h = rw (one-mul (2 ^ i)) (mod-eq-of-lt (pow-lt h))
+-- `1 << i` at w bits
+pub shifted : (i w : ℕ) → i < w → 1 * 2 ^ i % 2 ^ w ≡ 2 ^ i
+shifted i w h = rw (one-mul (2 ^ i)) (mod-eq-of-lt (pow-lt h))
 
 -- ---- two bytes stored, one after the other
 
@@ -148,7 +129,7 @@ put-member s w i v k h = go (eqb v w) refl
   where
     go : (b : Bool) → eqb v w ≡ b → bit k (wordOf (putWord s w (bitOr (wordOf s w) (2 ^ i))) v) ≡ bit k (wordOf s v) || (b && eqb k i)
     go true e = rw (eqb-true v w e, put-here s w (bitOr (wordOf s w) (2 ^ i)) h, bit-or k (wordOf s w) (2 ^ i), bit-pow k i)
-    go false e = rw (put-other s w (bitOr (wordOf s w) (2 ^ i)) v (eqb-false v w e)) (or-none (bit k (wordOf s v)))
+    go false e = rw (put-other s w (bitOr (wordOf s w) (2 ^ i)) v (eqb-false v w e)) (sym (or-false (bit k (wordOf s v))))
 
 -- word w is emptied
 pub put-none : (s : List ℕ) (w v k : ℕ) → 2 * w + 1 < length s → bit k (wordOf (putWord s w 0) v) ≡ not (eqb v w) && bit k (wordOf s v)

@@ -1,6 +1,6 @@
 -- What posting one message adds: to its cell, and to the span of its row.
 use mathlib.Core.Path.{_≡_, refl, sym, ap, _∙_}
-use mathlib.Core.Bool.{Bool, true, false, _&&_, _||_, cond}
+use mathlib.Core.Bool.{Bool, true, false, _&&_, _||_, cond, and-false, or-assoc, or-false, or-true, true≢false, false≢true}
 use mathlib.Core.List.{List}
 use Prim.Native.Nat.{ℕ, _+_, _*_, _^_, _≤_, _<_}
 use native.Mathlib.Omega.{arith}
@@ -10,11 +10,12 @@ use lib.ListN.{length, getD, set, length-set}
 use lib.Seq.{getD-set-other, set-getD}
 use lib.Bits.{bitOr}
 use borrow.Author.Tests.{lt-ltb, le-ltb, eq-eqb, ne-eqb, eqb-true, eqb-false, ltb-true, ltb-false}
+use Rattle.register.proofs.Logic.{and-both, neither}
 use Rattle.calendar.specs.Bits.{wordOf, putWord}
 use Rattle.calendar.specs.Layout.{calendarSize, cellsAt, places, rows, cellWord, lowOf, highOf, sendersOf, sender}
 use Rattle.calendar.specs.View.{Inside, Posted}
 use Rattle.calendar.specs.Posts.{Messages, inRow, lowWith, highWith, widened}
-use Rattle.calendar.proofs.Laws.{or-assoc, or-none, and-none, and-both, or-either, two-length, two-other, two-first, two-second, word-same, put-length, put-byte, put-member}
+use Rattle.calendar.proofs.Laws.{or-either, two-length, two-other, two-first, two-second, word-same, put-length, put-byte, put-member}
 
 -- ---- the relation
 
@@ -35,35 +36,24 @@ posted-trans a b c f h A B = record {
   cells = λ x j k l m. B .cells x j k l m ∙ rw (A .cells x j k l m) (or-assoc (sender a x j k) (f x j k) (h x j k));
   wider = λ x j l i. B .wider x j l (A .wider x j l i);
   grown = λ x j k l m q. or-either (Inside c x j) (f x j k) (h x j k) q (λ p. B .wider x j l (A .grown x j k l m p)) (λ p. B .grown x j k l m p);
-  top = λ x m l u g. B .top x m l (A .top x m l u (λ j k n q. g j k n (rw q))) (λ j k n q. g j k n (either (f x j k) (h x j k) q));
-  bottom = λ x m l u g. B .bottom x m l (A .bottom x m l u (λ j k n q. g j k n (rw q))) (λ j k n q. g j k n (either (f x j k) (h x j k) q));
+  top = λ x m l u g. B .top x m l (A .top x m l u (λ j k n q. g j k n (rw q))) (λ j k n q. g j k n (rw q (or-true (f x j k))));
+  bottom = λ x m l u g. B .bottom x m l (A .bottom x m l u (λ j k n q. g j k n (rw q))) (λ j k n q. g j k n (rw q (or-true (f x j k))));
   still = λ x l g.
       let p = A .still x l (λ j k n. neither (f x j k) (h x j k) (g j k n) .0) in
       let q = B .still x l (λ j k n. neither (f x j k) (h x j k) (g j k n) .1) in
       (q .0 ∙ p .0, q .1 ∙ p .1);
 }
-  where
-    neither : (p q : Bool) → p || q ≡ false → (p ≡ false) × (q ≡ false)
-    neither true q e = absurd (let z : _≡_ {A = ℕ} 0 1 = cc in omega arith)
-    neither false q e = (refl, e)
-
-    either : (p q : Bool) → q ≡ true → p || q ≡ true
-    either true q e = refl
-    either false q e = e
 
 pub posted-none : (a : List ℕ) (f : Messages) → ((x j k : ℕ) → x < rows → j < places → f x j k ≡ false) → Posted a a f
 posted-none a f e = record {
   rest = record { size = refl; past = λ k l. refl };
-  cells = λ x j k l m. rw (e x j k l m) (or-none (sender a x j k));
+  cells = λ x j k l m. rw (e x j k l m) (sym (or-false (sender a x j k)));
   wider = λ x j l i. i;
-  grown = λ x j k l m q. absurd (never (sym (e x j k l m) ∙ q));
+  grown = λ x j k l m q. absurd (false≢true (sym (e x j k l m) ∙ q));
   top = λ x m l u g. u;
   bottom = λ x m l u g h. u h;
   still = λ x l g. (refl, refl);
 }
-  where
-    never : false ≡ true → ⊥
-    never e = let z : _≡_ {A = ℕ} 0 1 = cc in omega arith
 
 -- ---- the span with one pair more
 
@@ -128,7 +118,7 @@ same-cell x row y j hx hr = go (ℕ-discrete x row) (ℕ-discrete y j)
 turn : (d a b c : Bool) → d || ((a && b) && c) ≡ d || (a && (c && b))
 turn d true true true = refl
 turn d true true false = refl
-turn d true false c = rw (and-none c)
+turn d true false c = rw (and-false c)
 turn d false b c = refl
 
 module _ (s : List ℕ) (row j : ℕ) where
@@ -260,7 +250,7 @@ module _ (a : List ℕ) (row j i : ℕ) (hr : row < rows) (hj : j < places) (siz
       )
         where
           d : x ≡ row → ⊥
-          d e = let z : _≡_ {A = Bool} true false = sym (here x e) ∙ g in let y : _≡_ {A = ℕ} 0 1 = cc in omega arith
+          d e = true≢false (sym (here x e) ∙ g)
 
       here-top : (x m : ℕ) → x < rows → highOf a x ≤ m → ((y k : ℕ) → y < places → inRow row i (λ z. eqb z j) x y k ≡ true → y < m)
           → highOf (widened (added a row j i) row j) x ≤ m

@@ -1,21 +1,17 @@
--- For callers: every operation keeps what arrives inside the spans, and so clearing a span clears its row; what is posted where, by tick and
--- receiver; the bytes past the calendar as a list.
+-- For callers: every operation keeps what arrives inside the spans, and so clearing a span clears its row; the rows by tick and receiver.
 use mathlib.Core.Path.{_≡_, refl, sym, ap, _∙_}
-use mathlib.Core.Bool.{Bool, true, false, not, _&&_}
+use mathlib.Core.Bool.{Bool, true, false, not, _&&_, and-false, false≢true}
 use mathlib.Core.List.{List}
-use Prim.Native.Nat.{ℕ, _+_, _-_, _/_, _%_, _≤_, _<_}
+use Prim.Native.Nat.{ℕ, _+_, _/_, _%_, _≤_, _<_}
 use native.Mathlib.Omega.{arith}
 use native.Mathlib.Decide.{ℕ-discrete}
-use lib.Dec.{eqb, ltb}
-use lib.ListN.{drop, length-drop}
-use lib.Seq.{ext-getD, getD-drop}
+use lib.Dec.{eqb}
 use borrow.Author.Tests.{lt-ltb, le-leb, eq-eqb, ne-eqb}
-use Rattle.calendar.specs.declared.Sending.{Sending}
-use Rattle.calendar.specs.Layout.{places, rows, receivers, calendarSize, rowOf, lowOf, highOf, sender}
-use Rattle.calendar.specs.View.{SamePast, Inside, covers, Spanned, Posted, Cleared, Empty}
-use Rattle.calendar.specs.Posts.{Messages, inRow, dueIn, toOthers, arrivalOf}
-use Rattle.calendar.proofs.Laws.{and-both, or-either}
-use Rattle.calendar.proofs.Stores.{same-row}
+use Rattle.register.proofs.Logic.{and-both}
+use Rattle.calendar.specs.Layout.{places, rows, receivers, rowOf, lowOf, highOf, sender}
+use Rattle.calendar.specs.View.{Inside, covers, Spanned, Posted, Cleared, Empty}
+use Rattle.calendar.specs.Posts.{Messages}
+use Rattle.calendar.proofs.Laws.{or-either}
 
 -- ---- the spans
 
@@ -30,11 +26,8 @@ posted-spanned a r f m h P g S = record {
 pub empty-spanned : (r : List ℕ) (m : ℕ) → Empty r m → Spanned r m
 empty-spanned r m E = record {
   top = λ x l. omega (arith, E .high x l);
-  within = λ x j k l n q. absurd (never (sym (E .cells x j k l n) ∙ q));
+  within = λ x j k l n q. absurd (false≢true (sym (E .cells x j k l n) ∙ q));
 }
-  where
-    never : false ≡ true → ⊥
-    never e = let z : _≡_ {A = ℕ} 0 1 = cc in omega arith
 
 module _ (a r : List ℕ) (row m : ℕ) (h : m ≤ places) (C : Cleared a r row) (S : Spanned a m) where
   -- nothing arrives in a row that is cleared, and the other rows stay
@@ -47,11 +40,7 @@ module _ (a r : List ℕ) (row m : ℕ) (h : m ≤ places) (C : Cleared a r row)
         where
           or : (b : Bool) → sender a x j k ≡ b → not (covers a row j) && b ≡ false
           or true q = let i = rw e at (S .within x j k l n q) in rw (le-leb (lowOf a row) j (i .0), lt-ltb j (highOf a row) (i .1))
-          or false q = none (covers a row j)
-            where
-              none : (d : Bool) → not d && false ≡ false
-              none true = refl
-              none false = refl
+          or false q = and-false (not (covers a row j))
 
   pub cleared-spanned : Spanned r m
   cleared-spanned = record { top = λ x l. up x l (ℕ-discrete x row); within = λ x j k l n q. in-span x j k l n q (ℕ-discrete x row) }
@@ -61,10 +50,7 @@ module _ (a r : List ℕ) (row m : ℕ) (h : m ≤ places) (C : Cleared a r row)
       up x l (no d) = rw (C .high x l d) (S .top x l)
 
       in-span : (x j k : ℕ) → x < rows → j < m → sender r x j k ≡ true → Dec (x ≡ row) → Inside r x j
-      in-span x j k l n q (yes e) = absurd (never (rw (eq-eqb x row e) at (sym (cleared-cells x j k l n) ∙ q)))
-        where
-          never : false ≡ true → ⊥
-          never e = let z : _≡_ {A = ℕ} 0 1 = cc in omega arith
+      in-span x j k l n q (yes e) = absurd (false≢true (rw (eq-eqb x row e) at (sym (cleared-cells x j k l n) ∙ q)))
       in-span x j k l n q (no d) = rw (C .low x l d, C .high x l d)
           (S .within x j k l n (and-both (not (eqb x row)) (sender a x j k) (sym (cleared-cells x j k l n) ∙ q) .1))
 
@@ -73,21 +59,11 @@ module _ (a r : List ℕ) (row m : ℕ) (h : m ≤ places) (C : Cleared a r row)
 pub row-small : (t b : ℕ) → b < receivers → rowOf t b < rows
 row-small t b h = omega arith
 
-row-tick : (t b : ℕ) → b < receivers → rowOf t b / receivers ≡ t % 16
+pub row-tick : (t b : ℕ) → b < receivers → rowOf t b / receivers ≡ t % 16
 row-tick t b h = omega arith
 
-row-receiver : (t b : ℕ) → b < receivers → rowOf t b % receivers ≡ b
+pub row-receiver : (t b : ℕ) → b < receivers → rowOf t b % receivers ≡ b
 row-receiver t b h = omega arith
-
-pub in-row-at : (u c i t b j k : ℕ) (P : ℕ → Bool) → b < receivers → c < receivers
-    → inRow (rowOf u c) i P (rowOf t b) j k ≡ (eqb b c && eqb (u % 16) (t % 16)) && (eqb k i && P j)
-in-row-at u c i t b j k P hb hc = rw (same-row (rowOf t b) u c (row-small t b hb) hc, row-tick t b hb, row-receiver t b hb)
-
-pub others-at : (s : Sending) (P : ℕ → Bool) (t b j k : ℕ) → b < receivers
-    → toOthers s P (rowOf t b) j k
-    ≡ ltb b (s .n) && ((not (eqb b (s .sender)) && eqb (arrivalOf s b % 16) (t % 16)) && (eqb k (s .sender) && P j))
-unfolding dueIn
-others-at s P t b j k h = rw (row-tick t b h, row-receiver t b h)
 
 -- of 16 ticks in a row each has its own rows
 pub own-rows : (t u v : ℕ) → t ≤ u → u < t + 16 → t ≤ v → v < t + 16 → eqb (u % 16) (v % 16) ≡ eqb u v
@@ -96,10 +72,3 @@ own-rows t u v a b c d = go (ℕ-discrete u v)
     go : Dec (u ≡ v) → eqb (u % 16) (v % 16) ≡ eqb u v
     go (yes e) = rw (eq-eqb u v e, eq-eqb (u % 16) (v % 16) (ap (λ (x : ℕ). x % 16) e))
     go (no e) = rw (ne-eqb u v e, ne-eqb (u % 16) (v % 16) (λ q. e (omega arith)))
-
--- ---- past the calendar
-
-pub past-drop : (a r : List ℕ) (n : ℕ) → calendarSize ≤ n → SamePast a r → drop n r ≡ drop n a
-past-drop a r n h P =
-    ext-getD 0 (drop n r) (drop n a) (simp length-drop (rw (P .size)))
-    (λ k l. getD-drop n r k 0 ∙ (P .past (n + k) (omega arith) ∙ sym (getD-drop n a k 0)))

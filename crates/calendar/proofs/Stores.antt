@@ -1,6 +1,6 @@
 -- Posting the pairs of a store, place by place, and posting to all other servers, one by one. It stands on Posting.
 use mathlib.Core.Path.{_≡_, refl, sym, _∙_}
-use mathlib.Core.Bool.{Bool, true, false, not, _&&_, _||_}
+use mathlib.Core.Bool.{Bool, true, false, not, _&&_, _||_, and-false, or-assoc, or-false}
 use mathlib.Core.List.{List, [], _∷_}
 use Prim.Native.Nat.{ℕ, zero, suc, _+_, _/_, _%_, _≤_, _<_}
 use native.Mathlib.Omega.{arith}
@@ -14,7 +14,7 @@ use Rattle.calendar.specs.declared.Sending.{Sending}
 use Rattle.calendar.specs.Layout.{rows, receivers, rowOf}
 use Rattle.calendar.specs.View.{Posted}
 use Rattle.calendar.specs.Posts.{inRow, amongFirst, vacant, dueIn, toFirst, arrivalOf}
-use Rattle.calendar.proofs.Laws.{or-assoc, or-none, and-none, ltb-more}
+use Rattle.calendar.proofs.Laws.{ltb-more}
 use Rattle.calendar.proofs.Posting.{posted-eq, posted-trans, posted-none}
 
 -- ---- the pairs of a store
@@ -34,7 +34,7 @@ Full n ps = (q : ℕ) → q < n → getD ps q vacant .kept ≡ true
 among-more : (n : ℕ) (ps : List Stamped) (j : ℕ) → Full n ps → n < length ps → getD ps n vacant .kept ≡ true → amongFirst (suc n) ps j ≡ amongFirst n ps j || eqb j (getD ps n vacant .number)
 unfolding amongFirst
 among-more n [] j F l e = absurd (omega arith)
-among-more zero (p ∷ ps) j F l e = rw e (sym (or-none (eqb j (p .number))))
+among-more zero (p ∷ ps) j F l e = rw e (or-false (eqb j (p .number)))
 among-more (suc n) (p ∷ ps) j F l e =
     rw (F 0 (omega arith), among-more n ps j (λ q h. F (suc q) (omega arith)) (omega arith) e) (sym (or-assoc (eqb j (p .number)) (amongFirst n ps j) (eqb j (getD ps n vacant .number))))
 
@@ -50,7 +50,7 @@ among-stop (suc n) (suc k) (p ∷ ps) j F l e = rw (F 0 (omega arith), among-sto
 module _ (kept : List Stamped) (row i : ℕ) where
   pub kept-first : (a : List ℕ) → Posted a a (inRow row i (amongFirst 0 kept))
   unfolding amongFirst
-  kept-first a = posted-none a _ (λ x j k l m. rw (and-none (eqb k i)) (and-none (eqb x row)))
+  kept-first a = posted-none a _ (λ x j k l m. rw (and-false (eqb k i)) (and-false (eqb x row)))
 
   pub kept-more : (a r s : List ℕ) (q : ℕ) → Full q kept → q < length kept → Posted a r (inRow row i (amongFirst q kept)) → getD kept q vacant .kept ≡ true
       → Posted r s (inRow row i (λ y. eqb y (getD kept q vacant .number))) → Posted a s (inRow row i (amongFirst (q + 1) kept))
@@ -114,4 +114,4 @@ module _ (s : Sending) (P : ℕ → Bool) where
   unfolding sent
   others-self a r b d A =
       posted-eq a r _ _ A
-      (λ x j k l m. or-none (toFirst s b P x j k) ∙ (rw (← to-self x j k b d) refl ∙ ltb-more (x % receivers) b (sent x j k)))
+      (λ x j k l m. sym (or-false (toFirst s b P x j k)) ∙ (rw (← to-self x j k b d) refl ∙ ltb-more (x % receivers) b (sent x j k)))

@@ -7,10 +7,10 @@ use native.Mathlib.Omega.{arith}
 use native.Mathlib.Decide.{ℕ-discrete}
 use lib.Dec.{eqb}
 use borrow.Author.Tests.{ne-eqb}
+use Rattle.register.proofs.Logic.{and-both}
 use Rattle.calendar.specs.Layout.{rows, places, lowOf, highOf, sender}
 use Rattle.calendar.specs.View.{Posted, Cleared, Empty, Spanned}
 use Rattle.calendar.specs.Posts.{inRow}
-use Rattle.calendar.proofs.Laws.{and-both}
 use Rattle.calendar.proofs.Spans.{posted-spanned, empty-spanned, cleared-cells}
 
 module _ (a b : List ℕ) (m row i : ℕ) (P : ℕ → Bool) (h : m ≤ places) (known : (j : ℕ) → P j ≡ true → j < m)

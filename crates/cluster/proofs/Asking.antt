@@ -1,47 +1,40 @@
 -- The requests that reach a server: sets gathered member by member, and what it means that none does.
 -- It stands on the laws of sets.
 use mathlib.Core.Path.{_≡_, refl, sym, _∙_}
-use mathlib.Core.Bool.{Bool, true, false, _&&_, _||_}
+use mathlib.Core.Bool.{Bool, true, false, _&&_, _||_, and-false, or-comm, or-false}
 use mathlib.Core.List.{List}
 use Prim.Native.Nat.{ℕ, zero, suc, _+_, _*_, _%_, _^_, _≤_, _<_}
-use native.Mathlib.Nat.{one-mul, mod-eq-of-lt}
 use native.Mathlib.Omega.{arith}
 use native.Mathlib.Decide.{decLe, ℕ-discrete}
-use lib.Pow.{pow-lt}
 use lib.Bits.{bitOr}
 use lib.Dec.{eqb, ltb}
 use lib.ListN.{getD}
 use borrow.Author.Tests.{lt-ltb, le-ltb, eq-eqb, ne-eqb}
 use Rattle.register.specs.Lists.{anyUpTo}
-use Rattle.register.proofs.Logic.{T-eq, or-comm}
+use Rattle.register.proofs.Logic.{T-eq}
 use Rattle.register.proofs.Counting.{anyUpTo-i}
 use Rattle.calendar.specs.Bits.{bit}
 use Rattle.calendar.specs.Layout.{places}
-use Rattle.calendar.proofs.Laws.{and-none, or-none}
-use Rattle.serving.proofs.BitLaws.{bit-or, bit-pow, bit-zero}
+use Rattle.calendar.proofs.Laws.{bit-or, bit-pow, bit-zero, shifted}
 use Rattle.cluster.specs.Inputs.{requesters, isAsked, wroteAt, asksAt}
 
 -- ---- a set gathered in a loop
 
--- `1 << i` in eight bits
-shifted : (i : ℕ) → i < 8 → 1 * 2 ^ i % 256 ≡ 2 ^ i
-shifted i h = rw (one-mul (2 ^ i)) (mod-eq-of-lt (pow-lt h))
-
 -- a set of the numbers below x that pass a test, and x
 module _ (g : ℕ → Bool) (r x : ℕ) (S : (k : ℕ) → bit k r ≡ ltb k x && g k) where
   pub set-more : x < 8 → g x ≡ true → (k : ℕ) → bit k (bitOr r (1 * 2 ^ x % 256)) ≡ ltb k (x + 1) && g k
-  set-more h e k = rw (shifted x h, bit-or k r (2 ^ x), bit-pow k x, S k) (go (ℕ-discrete k x) (decLe k x))
+  set-more h e k = rw (shifted x 8 h, bit-or k r (2 ^ x), bit-pow k x, S k) (go (ℕ-discrete k x) (decLe k x))
     where
       go : Dec (k ≡ x) → Dec (k ≤ x) → (ltb k x && g k) || eqb k x ≡ ltb k (x + 1) && g k
       go (yes z) d = rw (z, le-ltb x x (omega arith), eq-eqb x x refl, lt-ltb x (x + 1) (omega arith), e)
-      go (no z) (yes d) = rw (ne-eqb k x z, lt-ltb k x (omega arith), lt-ltb k (x + 1) (omega arith)) (sym (or-none (g k)))
+      go (no z) (yes d) = rw (ne-eqb k x z, lt-ltb k x (omega arith), lt-ltb k (x + 1) (omega arith)) (or-false (g k))
       go (no z) (no d) = rw (ne-eqb k x z, le-ltb k x (omega arith), le-ltb k (x + 1) (omega arith))
 
   pub set-same : g x ≡ false → (k : ℕ) → bit k r ≡ ltb k (x + 1) && g k
   set-same e k = rw (S k) (go (ℕ-discrete k x) (decLe k x))
     where
       go : Dec (k ≡ x) → Dec (k ≤ x) → ltb k x && g k ≡ ltb k (x + 1) && g k
-      go (yes z) d = rw (z, e, and-none (ltb x x), and-none (ltb x (x + 1)))
+      go (yes z) d = rw (z, e, and-false (ltb x x), and-false (ltb x (x + 1)))
       go (no z) (yes d) = rw (lt-ltb k x (omega arith), lt-ltb k (x + 1) (omega arith))
       go (no z) (no d) = rw (le-ltb k x (omega arith), le-ltb k (x + 1) (omega arith))
 
@@ -80,4 +73,4 @@ module _ (requests : List ℕ) (b : ℕ) (none : isAsked requests b ≡ false) w
     where
       go : Dec (requesters ≤ x) → ltb x requesters && (ltb 0 x && bit b (getD requests x 0)) ≡ false
       go (yes d) = rw (le-ltb x requesters d)
-      go (no d) = rw (none-from x (omega arith) _ refl, and-none (ltb 0 x)) (and-none (ltb x requesters))
+      go (no d) = rw (none-from x (omega arith) _ refl, and-false (ltb 0 x)) (and-false (ltb x requesters))

@@ -1,6 +1,6 @@
 -- The readers note what arrives one after the other, and their rows of the calendar are taken. It stands on the calendar's laws of clearing.
 use mathlib.Core.Path.{_≡_, refl, sym, ap, _∙_}
-use mathlib.Core.Bool.{Bool, true, false, not, _&&_, cond}
+use mathlib.Core.Bool.{Bool, true, false, not, _&&_, and-false, or-false, and-true, true≢false}
 use mathlib.Core.List.{List}
 use Prim.Native.Nat.{ℕ, _+_, _-_, _/_, _%_, _≤_, _<_}
 use native.Mathlib.Omega.{arith}
@@ -13,7 +13,6 @@ use Rattle.register.proofs.Logic.{T-eq}
 use Rattle.register.proofs.Counting.{anyUpTo-i}
 use Rattle.calendar.specs.Layout.{receivers, rows, places, rowOf, highOf, sender}
 use Rattle.calendar.specs.View.{SamePast, Spanned, Cleared}
-use Rattle.calendar.proofs.Laws.{and-none, or-none}
 use Rattle.calendar.proofs.Stores.{same-row}
 use Rattle.calendar.proofs.Spans.{cleared-cells, cleared-spanned}
 use Rattle.cluster.specs.declared.Reader.{Reader}
@@ -30,7 +29,7 @@ taken-more t x y h l b = rw (same-row y t (16 + x) h (omega arith)) (go (ℕ-dis
     go : Dec (t % 16 ≡ y / receivers) → Dec (y % receivers ≡ 16 + x)
         → not (eqb (y % receivers) (16 + x) && eqb (t % 16) (y / receivers)) && (not (eqb (y / receivers) (t % 16) && (leb 16 (y % receivers) && ltb (y % receivers) (16 + x))) && b)
         ≡ not (eqb (y / receivers) (t % 16) && (leb 16 (y % receivers) && ltb (y % receivers) (16 + (x + 1)))) && b
-    go (no d) e = rw (ne-eqb (t % 16) (y / receivers) d, ne-eqb (y / receivers) (t % 16) (λ q. d (sym q)), and-none (eqb (y % receivers) (16 + x)))
+    go (no d) e = rw (ne-eqb (t % 16) (y / receivers) d, ne-eqb (y / receivers) (t % 16) (λ q. d (sym q)), and-false (eqb (y % receivers) (16 + x)))
     go (yes d) (yes e) =
         rw (
           eq-eqb (t % 16) (y / receivers) d,
@@ -64,8 +63,8 @@ hearing-none work t s S = record {
 }
   where
     none : (y : ℕ) (b : Bool) → Dec (16 ≤ y % receivers) → b ≡ not (eqb (y / receivers) (t % 16) && (leb 16 (y % receivers) && ltb (y % receivers) (16 + 0))) && b
-    none y b (yes q) = rw (le-ltb (y % receivers) (16 + 0) (omega arith), and-none (leb 16 (y % receivers)), and-none (eqb (y / receivers) (t % 16)))
-    none y b (no q) = rw (lt-leb 16 (y % receivers) (omega arith), and-none (eqb (y / receivers) (t % 16)))
+    none y b (yes q) = rw (le-ltb (y % receivers) (16 + 0) (omega arith), and-false (leb 16 (y % receivers)), and-false (eqb (y / receivers) (t % 16)))
+    none y b (no q) = rw (lt-leb 16 (y % receivers) (omega arith), and-false (eqb (y / receivers) (t % 16)))
 
 module _ (work : List ℕ) (t : ℕ) (s r : List Reader) (now : List ℕ) (x : ℕ) (l : x < 4) (long : length s ≡ 4) (H : Hearing-to work t s r now x) where
   -- its row is as it was
@@ -74,7 +73,7 @@ module _ (work : List ℕ) (t : ℕ) (s r : List Reader) (now : List ℕ) (x : �
   still j i h =
       let e : rowOf t (16 + x) % receivers ≡ 16 + x = omega arith in
       H .cells (rowOf t (16 + x)) j i (omega arith) h
-      ∙ rw (e, le-ltb (16 + x) (16 + x) (omega arith), and-none (leb 16 (16 + x)), and-none (eqb (rowOf t (16 + x) / receivers) (t % 16)))
+      ∙ rw (e, le-ltb (16 + x) (16 + x) (omega arith), and-false (leb 16 (16 + x)), and-false (eqb (rowOf t (16 + x) / receivers) (t % 16)))
 
   pub hearing-more : (q : Reader) (after : List ℕ) → Noted now (rowOf t (16 + x)) (getD r x noReader) q → Cleared now after (rowOf t (16 + x))
       → Hearing-to work t s (set r x q) after (x + 1)
@@ -105,10 +104,6 @@ hearing-all work t s r after H = record {
   spans = H .spans;
   cells = λ y j i h d. H .cells y j i h d ∙ rw (lt-ltb (y % receivers) (16 + 4) (omega arith)) (ap (λ (b : Bool). not (eqb (y / receivers) (t % 16) && b) && sender work y j i) (and-true (leb 16 (y % receivers))));
 }
-  where
-    and-true : (a : Bool) → a && true ≡ a
-    and-true true = refl
-    and-true false = refl
 
 -- ---- nothing arrives
 
@@ -118,10 +113,7 @@ some-heard work t x l h = T-eq (anyHeard work t) (anyUpTo-i 4 (λ x. not (eqb (h
 -- then hearing changes nothing
 module _ (work : List ℕ) (t : ℕ) (S : Spanned work places) (none : anyHeard work t ≡ false) where
   high-none : (x : ℕ) → x < 4 → highOf work (rowOf t (16 + x)) ≡ 0
-  high-none x l = elim (ℕ-discrete (highOf work (rowOf t (16 + x))) 0) [ yes e ↦ e | no d ↦ absurd (never (sym (some-heard work t x l d) ∙ none)) ]
-    where
-      never : true ≡ false → ⊥
-      never e = let z : _≡_ {A = ℕ} 1 0 = ap (λ (x : Bool). cond x 1 0) e in omega arith
+  high-none x l = elim (ℕ-discrete (highOf work (rowOf t (16 + x))) 0) [ yes e ↦ e | no d ↦ absurd (true≢false (sym (some-heard work t x l d) ∙ none)) ]
 
   row-none : (x j i : ℕ) → x < 4 → j < places → sender work (rowOf t (16 + x)) j i ≡ false
   row-none x j i l m = go (sender work (rowOf t (16 + x)) j i) refl
@@ -134,7 +126,7 @@ module _ (work : List ℕ) (t : ℕ) (S : Spanned work places) (none : anyHeard 
   heard-none s = record {
     readers = record {
       size = refl;
-      each = λ x l. record { end = refl; named = λ j i h. rw (row-none x j i l h) (or-none _) };
+      each = λ x l. record { end = refl; named = λ j i h. rw (row-none x j i l h) (sym (or-false _)) };
       rest = λ x l. refl;
     };
     rest = record { size = refl; past = λ k l. refl };
@@ -145,7 +137,7 @@ module _ (work : List ℕ) (t : ℕ) (S : Spanned work places) (none : anyHeard 
       cells : (y j i : ℕ) → y < rows → j < places → Dec (y / receivers ≡ t % 16) → Dec (16 ≤ y % receivers)
           → sender work y j i ≡ not (eqb (y / receivers) (t % 16) && leb 16 (y % receivers)) && sender work y j i
       cells y j i l h (no d) q = rw (ne-eqb (y / receivers) (t % 16) d)
-      cells y j i l h (yes d) (no q) = rw (lt-leb 16 (y % receivers) (omega arith), and-none (eqb (y / receivers) (t % 16)))
+      cells y j i l h (yes d) (no q) = rw (lt-leb 16 (y % receivers) (omega arith), and-false (eqb (y / receivers) (t % 16)))
       cells y j i l h (yes d) (yes q) =
           let e : y ≡ rowOf t (16 + (y % receivers - 16)) = omega arith in
           rw (eq-eqb (y / receivers) (t % 16) d, le-leb 16 (y % receivers) q) (rw (← e) at (row-none (y % receivers - 16) j i (omega arith) h))

@@ -1,7 +1,7 @@
 -- A settled server that nothing new reaches has done the tick as it stands, once its row is empty: its stages change nothing, and it sends
 -- nothing. It stands on Settled and StageLaws.
 use mathlib.Core.Path.{_≡_, refl, sym, ap, _∙_, fun-ext}
-use mathlib.Core.Bool.{Bool, true, false, not, _&&_, _||_, cond}
+use mathlib.Core.Bool.{Bool, true, false, not, _&&_, _||_, and-false, or-false}
 use mathlib.Core.List.{List, []}
 use Prim.Native.Nat.{ℕ, _-_, _/_, _%_, _≤_, _<_}
 use native.Mathlib.Omega.{arith}
@@ -9,11 +9,12 @@ use lib.Bits.{bitAnd}
 use lib.Dec.{eqb, leb, ltb}
 use borrow.Author.Tests.{le-ltb, ne-eqb, eqb-true, not-false}
 use Rattle.register.specs.Server.{Status, isFaulty, isCorrect, curedAt}
+use Rattle.register.proofs.Logic.{neither}
 use Rattle.calendar.specs.Bits.{bit}
 use Rattle.calendar.specs.Layout.{receivers, rows, places, noPair, rowOf, lowOf, highOf, sender}
 use Rattle.calendar.specs.View.{Inside, Spanned, Cleared}
-use Rattle.calendar.proofs.Laws.{and-none, or-none}
 use Rattle.calendar.proofs.Spans.{cleared-cells, cleared-spanned}
+use Rattle.calendar.proofs.Laws.{bit-zero}
 use Rattle.serving.specs.declared.Server.{Server}
 use Rattle.serving.specs.declared.Rules.{Rules}
 use Rattle.serving.specs.declared.Row.{Row}
@@ -27,17 +28,10 @@ use Rattle.cluster.specs.Inputs.{isAsked, wroteAt, asksAt}
 use Rattle.cluster.specs.Settled.{Settled, called, reached}
 use Rattle.cluster.proofs.Asking.{none-wrote, none-asks}
 use Rattle.cluster.specs.Tick.{Feed, Emptied, Turned}
-use Rattle.serving.proofs.BitLaws.{bit-zero, bit-and}
+use Rattle.serving.proofs.BitLaws.{bit-and}
 use Rattle.serving.proofs.StoreLaws.{same-as-itself, some-new}
 use Rattle.serving.proofs.StageLaws.{zero-set, write-kept, delivered-law, taken-law, lost-law}
 use Rattle.cluster.proofs.Settled.{taken-none}
-
-neither : (a b : Bool) → a || b ≡ false → (a ≡ false) × (b ≡ false)
-neither false b e = (refl, e)
-neither true b e = absurd (never e)
-  where
-    never : true ≡ false → ⊥
-    never e = let z : _≡_ {A = ℕ} 1 0 = ap (λ (x : Bool). cond x 1 0) e in omega arith
 
 -- what it means that nothing reaches a server; `due` has the servers that some request reaches
 module _ (work : List ℕ) (b : ℕ) (arrivals : Arrivals) (movement : Movement) (t delta : ℕ) (g : ℕ → ℕ) (status : Status) (pending : ℕ) (kept : List ℕ) where
@@ -112,11 +106,11 @@ module _ (plan : List ℕ) (links : Links) (n t : ℕ) (ends : List ℕ) (i : �
         echoed,
         readers,
         bit-zero (x % receivers - 15),
-        and-none (eqb (reaches plan links n t ends i row (x % receivers) % 16) (x / receivers)),
-        and-none (not (eqb (x % receivers) i)),
-        and-none (ltb (x % receivers) n),
+        and-false (eqb (reaches plan links n t ends i row (x % receivers) % 16) (x / receivers)),
+        and-false (not (eqb (x % receivers) i)),
+        and-false (ltb (x % receivers) n),
       )
-      (and-none (leb 16 (x % receivers)))
+      (and-false (leb 16 (x % receivers)))
 
 -- ---- its stages
 
@@ -161,7 +155,7 @@ module _ (F : Feed) (ends : List ℕ) (b : ℕ) (s : Server) (l : b < 16) (S : S
   pend = fun-ext (λ x. rw (U .asks x) (each x))
     where
       each : (x : ℕ) → bit x (s .pending) ≡ (bit x (s .pending) && bit x (F .arrivals .live)) || false
-      each x = ap (bit x) (sym (U .live)) ∙ (bit-and x (s .pending) (F .arrivals .live) ∙ or-none _)
+      each x = ap (bit x) (sym (U .live)) ∙ (bit-and x (s .pending) (F .arrivals .live) ∙ sym (or-false _))
 
   no-write : server s ≡ withWrite (pairOf (F .known .values)) (F .known .m) w (server s)
   no-write = rw (le-ltb w (F .known .m) (omega (arith, U .wrote)))
@@ -209,12 +203,12 @@ module _ (F : Feed) (ends : List ℕ) (b : ℕ) (s : Server) (l : b < 16) (S : S
         out = record { server = s; row = quiet c };
         done = record {
           votes = server s .fresh;
-          came = λ h j i m n. rw (none-new h j i m n) (or-none (server s .fresh j i));
+          came = λ h j i m n. rw (none-new h j i m n) (sym (or-false (server s .fresh j i)));
           stages = only-first (pairOf (F .known .values)) (F .known .m) (F .rules) w (server s .fresh) asked going (F .movement .moving) (bit (15 - b) (F .movement .faulty)) (F .t) (server s) _ (U .moving) (U .cured) (first c refl);
         };
         next = refl;
         small = quiet-small c small;
         rest = E .rest;
         spans = E .spans;
-        cells = λ x j i h m. rw (sends-none (F .plan) (F .links) (F .rules .n) (F .t) ends b (quiet c) (quiet-wrote c) (quiet-echoed c) (quiet-readers c) x j m, and-none (eqb i b), ← or-none (not (eqb x (rowOf (F .t) b)) && sender (F .work) x j i)) (E .cells x j i h m);
+        cells = λ x j i h m. rw (sends-none (F .plan) (F .links) (F .rules .n) (F .t) ends b (quiet c) (quiet-wrote c) (quiet-echoed c) (quiet-readers c) x j m, and-false (eqb i b), or-false (not (eqb x (rowOf (F .t) b)) && sender (F .work) x j i)) (E .cells x j i h m);
       }

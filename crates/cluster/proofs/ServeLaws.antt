@@ -1,7 +1,7 @@
 -- The loop over the servers in a tick: its start, a turn, and what it has done at its end. Nothing that is sent in a tick arrives in it, so a
 -- later server finds its row as it was. It stands on the calendar's laws of posting and clearing.
 use mathlib.Core.Path.{_≡_, refl, sym, ap, subst, _∙_}
-use mathlib.Core.Bool.{Bool, true, false, not, _&&_, _||_, cond}
+use mathlib.Core.Bool.{Bool, true, false, not, _&&_, _||_, cond, and-false, or-assoc, or-false}
 use mathlib.Core.List.{List, []}
 use Prim.Native.Nat.{ℕ, _+_, _-_, _/_, _%_, _≤_, _<_}
 use native.Mathlib.Omega.{arith}
@@ -15,7 +15,7 @@ use Rattle.calendar.specs.Bits.{bit}
 use Rattle.calendar.specs.Layout.{receivers, rows, places, rowOf, sender}
 use Rattle.calendar.specs.View.{SamePast, Spanned, Posted, Cleared}
 use Rattle.calendar.specs.Posts.{among}
-use Rattle.calendar.proofs.Laws.{and-none, or-none, or-assoc, ltb-more}
+use Rattle.calendar.proofs.Laws.{ltb-more}
 use Rattle.calendar.proofs.Stores.{same-row}
 use Rattle.calendar.proofs.Spans.{posted-spanned, cleared-cells, cleared-spanned}
 use Rattle.serving.specs.declared.Server.{Server}
@@ -73,7 +73,7 @@ module _ (plan : List ℕ) (links : Links) (n t : ℕ) (ends : List ℕ) (i : �
       go true true false p r = refl
       go true true true p r =
           let l = leb-true 16 (x % receivers) p in
-          rw (other-tick x q (ltb-true q (links .parties) r) (λ w. omega arith) (λ w. omega arith) e) (and-none late)
+          rw (other-tick x q (ltb-true q (links .parties) r) (λ w. omega arith) (λ w. omega arith) e) (and-false late)
 
   none-now : (x j : ℕ) → x / receivers ≡ t % 16 → sends plan links n t ends i row x j ≡ false
   none-now x j e = rw (no-vote x j e, no-reply x j e)
@@ -155,7 +155,7 @@ module _ (F : Feed) (ends : List ℕ) (c : List Server) where
       rest = record { size = refl; past = λ k l. refl };
       spans = S;
       cells = λ x j i l m.
-          rw (le-ltb (x % receivers) 0 (omega arith), le-ltb i 0 (omega arith), and-none (eqb (x / receivers) (F .t % 16))) (or-none (sender (F .work) x j i));
+          rw (le-ltb (x % receivers) 0 (omega arith), le-ltb i 0 (omega arith), and-false (eqb (x / receivers) (F .t % 16))) (sym (or-false (sender (F .work) x j i)));
     };
   }
 
@@ -175,8 +175,8 @@ module _ (F : Feed) (ends : List ℕ) (c : List Server) where
         let e : rowOf (F .t) b / receivers ≡ F .t % 16 = omega arith in
         let d : rowOf (F .t) b % receivers ≡ b = omega arith in
         S .cells (rowOf (F .t) b) j i (omega arith) m
-        ∙ rw (none-yet (rowOf (F .t) b) j i e, d, le-ltb b b (omega arith), and-none (eqb (rowOf (F .t) b / receivers) (F .t % 16)))
-        (sym (or-none (sender (F .work) (rowOf (F .t) b) j i)))
+        ∙ rw (none-yet (rowOf (F .t) b) j i e, d, le-ltb b b (omega arith), and-false (eqb (rowOf (F .t) b / receivers) (F .t % 16)))
+        (or-false (sender (F .work) (rowOf (F .t) b) j i))
 
     -- the rows taken, with one more
     taken-more : (x : ℕ) → x < rows → (s : Bool)
@@ -187,7 +187,7 @@ module _ (F : Feed) (ends : List ℕ) (c : List Server) where
         go : Dec (F .t % 16 ≡ x / receivers) → Dec (x % receivers ≡ b)
             → not (eqb (x % receivers) b && eqb (F .t % 16) (x / receivers)) && (not (eqb (x / receivers) (F .t % 16) && ltb (x % receivers) b) && s)
             ≡ not (eqb (x / receivers) (F .t % 16) && ltb (x % receivers) (b + 1)) && s
-        go (no d) e = rw (ne-eqb (F .t % 16) (x / receivers) d, ne-eqb (x / receivers) (F .t % 16) (λ q. d (sym q)), and-none (eqb (x % receivers) b))
+        go (no d) e = rw (ne-eqb (F .t % 16) (x / receivers) d, ne-eqb (x / receivers) (F .t % 16) (λ q. d (sym q)), and-false (eqb (x % receivers) b))
         go (yes d) (yes e) =
             rw (
               eq-eqb (F .t % 16) (x / receivers) d,
@@ -315,7 +315,7 @@ module _ (F : Feed) (c : Cluster) (heard : List Reader) (served : List Server) (
   same-votes : (b j i : ℕ) → b < 16 → j < places → sender noted (rowOf (F .t) b) j i ≡ sender (F .work) (rowOf (F .t) b) j i
   same-votes b j i l m =
       let d : rowOf (F .t) b % receivers ≡ b = omega arith in
-      H .cells (rowOf (F .t) b) j i (omega arith) m ∙ rw (d, lt-leb 16 b l, and-none (eqb (rowOf (F .t) b / receivers) (F .t % 16)))
+      H .cells (rowOf (F .t) b) j i (omega arith) m ∙ rw (d, lt-leb 16 b l, and-false (eqb (rowOf (F .t) b / receivers) (F .t % 16)))
 
   two-taken : (a b c s : Bool) → not (a && b) && (not (a && c) && s) ≡ not (a && (b || c)) && s
   two-taken true true c s = refl

@@ -1,7 +1,7 @@
 -- A pair that is not new to a store stays so, and a server that has taken in every pair with a quorum stays so: at the start, and through all
 -- stages of a tick. It stands on StoreLaws and on register's laws of counting.
 use mathlib.Core.Path.{_≡_, refl, sym, ap, subst, _∙_, fun-ext}
-use mathlib.Core.Bool.{Bool, true, false, _&&_, _||_, cond}
+use mathlib.Core.Bool.{Bool, true, false, _&&_, _||_, cond, or-false, or-true, false≢true}
 use mathlib.Core.Logic.{_⊎_, inl, inr}
 use mathlib.Core.List.{List, [], _∷_}
 use Prim.Native.Nat.{ℕ, zero, suc, _≤_, _<_}
@@ -18,7 +18,6 @@ use Rattle.register.proofs.Lists.{sameList-eq}
 use Rattle.register.proofs.Counting.{count-none, count-mono}
 use Rattle.calendar.specs.Layout.{rows, places, depth, lowOf, highOf, sender}
 use Rattle.calendar.specs.View.{Spanned}
-use Rattle.calendar.proofs.Laws.{or-none}
 use Rattle.cluster.specs.declared.Cluster.{Cluster}
 use Rattle.serving.specs.declared.Rules.{Rules}
 use Rattle.serving.specs.Stored.{Plain, Both, server, pairOf, absent}
@@ -194,7 +193,7 @@ changes p k n d = let z : _≡_ {A = ℕ} 0 1 = ap (λ (x : Bool). cond x 1 0) (
 module _ (g : ℕ → ℕ) (m e r w : ℕ) (work : List ℕ) (row : ℕ) (s q : Plain) (Z : Voted (sender work row) s q) (K : Settled g m e r s) (alive : isFaulty (s .status) ≡ false)
     (few : m ≤ places) (l : row < rows) (S : Spanned work places) where
   silent-outside : (j : ℕ) → j < m → within (lowOf work row) (highOf work row) j ≡ false → q .fresh j ≡ s .fresh j
-  silent-outside j h out = fun-ext (λ i. Z .fresh alive j i (omega arith) ∙ rw (none i (sender work row j i) refl) (sym (or-none (s .fresh j i))))
+  silent-outside j h out = fun-ext (λ i. Z .fresh alive j i (omega arith) ∙ rw (none i (sender work row j i) refl) (or-false (s .fresh j i)))
     where
       none : (i : ℕ) (b : Bool) → sender work row j i ≡ b → b ≡ false
       none i false d = refl
@@ -225,10 +224,7 @@ module _ (g : ℕ → ℕ) (m e r : ℕ) (he : 1 ≤ e) (hr : 1 ≤ r) where
   none-voting j = rw (count-none 16, lt-leb e 0 he, lt-leb r 0 hr)
 
   unvoted-settled : (s : Plain) → length (s .kept) ≤ depth → s .fresh ≡ noVotes → s .old ≡ noVotes → Fine s
-  unvoted-settled s h f o = record { few = h; same = λ j l v. absurd (never (sym (none-voting j) ∙ rw (f, o) at v)) }
-    where
-      never : false ≡ true → ⊥
-      never e = let z : _≡_ {A = ℕ} 0 1 = ap (λ (x : Bool). cond x 1 0) e in omega arith
+  unvoted-settled s h f o = record { few = h; same = λ j l v. absurd (false≢true (sym (none-voting j) ∙ rw (f, o) at v)) }
 
   pub first-settled : (v : ℕ) → Fine (firstOf v)
   first-settled v = unvoted-settled (firstOf v) (omega arith) refl refl
@@ -272,14 +268,10 @@ module _ (g : ℕ → ℕ) (m e r : ℕ) (he : 1 ≤ e) (hr : 1 ≤ r) where
       more : (j : ℕ) → count (s .fresh j) 16 ≤ count (λ i. s .fresh j i || s .old j i) 16
       more j = count-mono (s .fresh j) (λ i. s .fresh j i || s .old j i) 16 (λ i l t. or-l (s .fresh j i) (s .old j i) t)
 
-      either : (a : Bool) → a || true ≡ true
-      either true = refl
-      either false = refl
-
       before : (j : ℕ) → voting e r noVotes (s .fresh) j ≡ true → voting e r (s .fresh) (s .old) j ≡ true
       before j v =
           let q : leb r (count (s .fresh j) 16) ≡ true = rw (count-none 16, lt-leb e 0 he) at v in
-          rw (le-leb r (count (λ i. s .fresh j i || s .old j i) 16) (omega (arith, leb-true r (count (s .fresh j) 16) q, more j))) (either (leb e (count (s .fresh j) 16)))
+          rw (le-leb r (count (λ i. s .fresh j i || s .old j i) 16) (omega (arith, leb-true r (count (s .fresh j) 16) q, more j))) (or-true (leb e (count (s .fresh j) 16)))
 
   moved-settled : (two h : Bool) (t : ℕ) (s : Plain) → Fine s → Fine (movedOn two h t s)
   unfolding movedOn

@@ -1,7 +1,7 @@
 -- The delays of a tick in their order, two to a byte, are those of its rows.
 -- It stands on the definitions of the plan's parts.
 use mathlib.Core.Path.{_≡_, refl, sym, _∙_}
-use mathlib.Core.Bool.{Bool, true, false, _&&_, cond, and-assoc}
+use mathlib.Core.Bool.{Bool, true, false, _&&_, cond, and-assoc, and-false}
 use mathlib.Core.List.{List}
 use Prim.Native.Nat.{ℕ, zero, suc, _+_, _*_, _-_, _/_, _%_, _^_, _≤_, _<_}
 use native.Mathlib.Nat.{add-zero, add-suc, zero-mul, suc-mul}
@@ -17,7 +17,7 @@ use Rattle.bits.proofs.Laws.{field-byte, bytes-more, field-cut, field-first, fi
 use Rattle.bits.specs.Field.{fieldOf}
 use Rattle.register.specs.Lists.{one-if, allUpTo}
 use Rattle.plan.specs.Header.{Header, parties}
-use Rattle.plan.proofs.Laws.{and-false, all-same}
+use Rattle.plan.proofs.Laws.{all-same}
 use Rattle.plan.specs.Parts.{isLink}
 use Rattle.delays.specs.Steps.{allowed, linkStands, rowStands, tickStands, linkBit, needOf, Needed, bitStands, orderStands, firstStand}
 

@@ -1,7 +1,7 @@
 -- Where a forged message goes, and what the forged messages of a tick post: what the plan's list says of this tick.
 -- It stands on the calendar's laws of posting.
 use mathlib.Core.Path.{_≡_, refl, sym}
-use mathlib.Core.Bool.{Bool, false, _&&_}
+use mathlib.Core.Bool.{Bool, false, _&&_, or-comm, or-false}
 use mathlib.Core.Logic.{inl, inr}
 use mathlib.Core.List.{List}
 use Prim.Native.Nat.{ℕ, zero, suc, _+_, _*_, _-_, _%_, _≤_, _<_}
@@ -11,11 +11,10 @@ use lib.Dec.{T, eqb, leb, ltb, eqb→eq, eqb-refl, leb→le, ltb→lt}
 use lib.ListN.{getD}
 use borrow.Author.Tests.{lt-ltb, le-ltb, le-leb, lt-leb}
 use Rattle.register.specs.Lists.{anyUpTo}
-use Rattle.register.proofs.Logic.{and-l, and-r, or-e, or-comm}
+use Rattle.register.proofs.Logic.{and-l, and-r, or-e}
 use Rattle.calendar.specs.Layout.{rowOf}
 use Rattle.calendar.specs.View.{SamePast, Posted}
 use Rattle.calendar.specs.Posts.{inRow}
-use Rattle.calendar.proofs.Laws.{or-none}
 use Rattle.calendar.proofs.Posting.{posted-eq, posted-trans, posted-none}
 use Rattle.script.specs.Forged.{entriesAt, entryAt}
 use Rattle.forging.specs.Forging.{goesTo, forgedEntry, forges}
@@ -23,7 +22,7 @@ use Rattle.forging.specs.Forging.{goesTo, forgedEntry, forges}
 module _ (ends : List ℕ) (n q a x : ℕ) where
   pub goes-server : q < n → goesTo ends n q a x ≡ eqb x (rowOf a q)
   unfolding goesTo
-  goes-server h = rw (lt-ltb q n h, le-ltb n q (omega arith)) (sym (or-none (eqb x (rowOf a q))))
+  goes-server h = rw (lt-ltb q n h, le-ltb n q (omega arith)) (or-false (eqb x (rowOf a q)))
 
   pub goes-writer : n ≤ q → q ≤ n → goesTo ends n q a x ≡ false
   unfolding goesTo

@@ -1,7 +1,7 @@
 -- Check accepts the longest plan, and it has exactly the most bytes and the most reads.
 -- It stands on the fields of the plan's parts and on what is computed of each part.
 use mathlib.Core.Path.{_≡_, refl, ap, _∙_}
-use mathlib.Core.Bool.{Bool, true, false, not, _&&_, _||_, cond}
+use mathlib.Core.Bool.{Bool, true, false, not, _&&_, _||_, cond, or-true}
 use Prim.Native.Nat.{ℕ, _+_, _*_, _-_, _/_, _%_, _≤_, _<_}
 use native.Mathlib.Nat.{add-zero, div-one, mul-one}
 use native.Mathlib.Omega.{arith}
@@ -13,12 +13,13 @@ use Rattle.bits.specs.Field.{fieldOf}
 use Rattle.bits.proofs.Laws.{field-zero, field-split}
 use Rattle.register.specs.Lists.{one-if, allUpTo}
 use Rattle.register.proofs.Counting.{count-cong}
+use Rattle.register.proofs.Logic.{and-both}
 use Rattle.plan.specs.Header.{headerOf, moves, operationAt}
 use Rattle.plan.specs.Limits.{mostReads}
 use Rattle.plan.specs.Parts.{Operation, inPlacement, operationOf, operationsOf, forgeryOf, delayOf, isLink}
 use Rattle.plan.specs.Packed.{planOf}
 use Rattle.plan.specs.Check.{result, checkOf, endOf, placementStands, operationRises, operationWaits, operationStands, forgeryRises, forgeryStands, delayStands, placementsStand, operationsStand, forgeriesStand, delaysStand, finalBitsZero}
-use Rattle.plan.proofs.Laws.{and-both, or-true, all-at, all-from, all-same}
+use Rattle.plan.proofs.Laws.{all-at, all-from, all-same}
 use Rattle.plan.proofs.Reading.{length-reads}
 use Rattle.plan.proofs.Accept.{accepts}
 use Rattle.longest.specs.Longest.{headerBytes, placement, operationBytes, forgeryBytes, longestPlan, begunAt, partyOf, delayIn}

@@ -11,6 +11,7 @@ use borrow.Author.Tests.{leb-true, ltb-true, ne-eqb}
 use Rattle.bits.specs.Field.{fieldOf}
 use Rattle.bits.proofs.Laws.{field-split}
 use Rattle.register.specs.Lists.{allUpTo}
+use Rattle.register.proofs.Logic.{and-both}
 use Rattle.plan.specs.Header.{Header, operationAt}
 use Rattle.plan.specs.Parts as Parts
 use Rattle.plan.specs.Parts.{operationOf}
@@ -18,7 +19,7 @@ use Rattle.plan.specs.Check.{operationsStand, operationStands, operationRises, 
 use Rattle.plan.specs.Steps.{operation, IsOperation}
 use Rattle.operations.specs.Steps.{standsAlone}
 use Rattle.plan.specs.declared.operations.Operation.{Operation}
-use Rattle.plan.proofs.Laws.{all-none, all-more, all-at, and-both}
+use Rattle.plan.proofs.Laws.{all-none, all-more, all-at}
 use Rattle.plan.proofs.Waiting.{follows, follows-none, follows-more, follows-rises, ended, Free, free-none, free-more}
 
 and-regroup : (a b c d : Bool) → a && (b && (c && d)) ≡ (a && (b && c)) && d

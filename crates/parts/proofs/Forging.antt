@@ -1,7 +1,7 @@
 -- One forgery: its fields out of 40 bits, the movement that decides on its sender, the open read that it may answer.
 -- It stands on the laws of bit fields and of reads among operations.
 use mathlib.Core.Path.{_≡_, refl, sym, ap, _∙_, fun-ext}
-use mathlib.Core.Bool.{Bool, true, false, not, _&&_, _||_}
+use mathlib.Core.Bool.{Bool, true, false, not, _&&_, _||_, and-false}
 use mathlib.Core.List.{List}
 use Prim.Native.Nat.{ℕ, zero, suc, _+_, _*_, _-_, _/_, _%_, _^_, _<_, _≤_}
 use native.Mathlib.Nat.{le-div-iff-mul-le, div-mul-le-self}
@@ -23,7 +23,6 @@ use Rattle.parts.specs.Steps.{ForgedPart, spans, openAmong, Opened, isRe
 use Rattle.plan.proofs.Waiting.{follows, follows-rises}
 use Rattle.plan.specs.declared.forgeries.Forged.{Forged}
 use Rattle.plan.proofs.Reading.{isRead, any-reads}
-use Rattle.plan.proofs.Laws.{and-false}
 
 -- the movement before a tick is one of the plan's
 pub movement-of : (t at p : ℕ) → 1 ≤ p → at < t → at / p < (t + (p - 1)) / p

@@ -1,7 +1,7 @@
 -- The table of open reads: places 128 x + tick, marked one tick at a time.
 -- It stands on the definition of a span.
 use mathlib.Core.Path.{_≡_, refl}
-use mathlib.Core.Bool.{Bool, true, false, _&&_}
+use mathlib.Core.Bool.{Bool, true, false, _&&_, and-false}
 use mathlib.Core.List.{List}
 use Prim.Native.Nat.{ℕ, _+_, _*_, _<_, _≤_}
 use native.Mathlib.Decide.{ℕ-discrete, decLe}
@@ -16,7 +16,7 @@ use Rattle.plan.specs.Header.{Header, operationAt}
 use Rattle.plan.specs.declared.operations.Operation.{Operation}
 use Rattle.plan.specs.Steps.{IsOperation}
 use Rattle.parts.specs.Steps.{spans, Marked, openAmong, Opened}
-use Rattle.plan.proofs.Laws.{and-false, getD-replicate-same}
+use Rattle.plan.proofs.Laws.{getD-replicate-same}
 use Rattle.operations.proofs.Passed.{operation-is}
 
 pub spans-none : (from x y u : ℕ) → spans from from x y u ≡ false

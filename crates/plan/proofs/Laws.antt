@@ -1,7 +1,7 @@
 -- Laws of numbers and tests that the proofs of Check share.
 -- It stands on nothing of the plan.
 use mathlib.Core.Path.{_≡_, refl, sym}
-use mathlib.Core.Bool.{Bool, true, false, _&&_, _||_}
+use mathlib.Core.Bool.{Bool, true, false, _&&_, and-false}
 use Prim.Native.Nat.{ℕ, zero, suc, _+_, _*_, _-_, _/_, _≤_, _<_}
 use native.Mathlib.Nat.{mul-le-mul, mul-le-mul-right, div-lt-iff-lt-mul, not-suc-le-zero}
 use native.Mathlib.Decide.{ℕ-discrete}
@@ -9,6 +9,7 @@ use native.Mathlib.Numerals.{add-one}
 use native.Mathlib.Omega.{arith}
 use lib.ListN.{getD, replicate}
 use Rattle.register.specs.Lists.{allUpTo}
+use Rattle.register.proofs.Logic.{and-both}
 
 -- a small multiple of a byte
 pub few-times : (a f : ℕ) → a ≤ 5 → f ≤ 255 → a * f ≤ 1275
@@ -35,14 +36,6 @@ module _ (g : ℕ → Bool) where
   pub all-more : (n : ℕ) → allUpTo n g ≡ true → g n ≡ true → allUpTo (n + 1) g ≡ true
   unfolding allUpTo
   all-more n h t = rw (add-one, t, h)
-
-pub and-both : (a b : Bool) → a && b ≡ true → (a ≡ true) × (b ≡ true)
-and-both true b e = (refl, e)
-and-both false b e = let z : _≡_ {A = ℕ} 0 1 = cc in absurd (omega arith)
-
-pub and-false : (b : Bool) → b && false ≡ false
-and-false true = refl
-and-false false = refl
 
 stop-step : (g : ℕ → Bool) (i n : ℕ) → g i ≡ false → (i < n → allUpTo n g ≡ false) → i < suc n → g n && allUpTo n g ≡ false
 stop-step g i n t ih h = go (ℕ-discrete i n)
@@ -74,10 +67,6 @@ unfolding allUpTo
 all-at g zero i l h = absurd (not-suc-le-zero l)
 all-at g (suc n) i l h = at-step g n i h (all-at g n i) l
 
-pub or-false : (b : Bool) → b || false ≡ b
-or-false true = refl
-or-false false = refl
-
 -- a row inside a table
 pub row-inside : (i n p : ℕ) → i < n → i * p + p ≤ n * p
 row-inside i n p h = let m = mul-le-mul-right p h in omega (arith, m)
@@ -93,10 +82,6 @@ pub all-same : (f g : ℕ → Bool) (n : ℕ) → ((i : ℕ) → i < n → f i �
 unfolding allUpTo
 all-same f g zero e = refl
 all-same f g (suc n) e = rw (e n (omega arith), all-same f g n (λ i l. e i (omega arith)))
-
-pub or-true : (b : Bool) → b || true ≡ true
-or-true true = refl
-or-true false = refl
 
 -- a table of one value has it at every place
 pub getD-replicate-same : {A : Type 0} (k j : ℕ) (d : A) → getD (replicate k d) j d ≡ d

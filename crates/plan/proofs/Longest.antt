@@ -2,7 +2,7 @@
 -- ticks.
 -- It stands on the laws of waiting and on the ranges of the header.
 use mathlib.Core.Path.{_≡_, refl}
-use mathlib.Core.Bool.{Bool, true, false, not, _&&_, _||_}
+use mathlib.Core.Bool.{Bool, true, false, not, _&&_, _||_, or-true}
 use mathlib.Core.List.{List}
 use Prim.Native.Nat.{ℕ, zero, suc, _+_, _*_, _≤_, _<_}
 use native.Mathlib.Nat.{mul-le-mul-left}
@@ -17,8 +17,8 @@ use Rattle.plan.specs.Check.{operationStands, operationsStand, operation
 use Rattle.plan.specs.Limits.{mostBytes, mostReads}
 use Rattle.plan.specs.Packed.{planOf}
 use Rattle.plan.specs.Shape.{Ranged}
-use Rattle.plan.proofs.Laws.{and-both, or-true, all-at, all-from, table-few}
-use Rattle.register.proofs.Logic.{T-eq}
+use Rattle.plan.proofs.Laws.{all-at, all-from, table-few}
+use Rattle.register.proofs.Logic.{T-eq, and-both}
 use Rattle.register.proofs.Counting.{count-not}
 use Rattle.plan.proofs.Accept.{playable, reads-counted}
 use Rattle.plan.proofs.Sizes.{playable-sizes}

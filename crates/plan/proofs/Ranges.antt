@@ -8,10 +8,10 @@ use native.Mathlib.Omega.{arith}
 use lib.Dec.{leb, eqb}
 use borrow.Author.Tests.{leb-true, eqb-true}
 use Rattle.bits.proofs.Laws.{field-lt}
+use Rattle.register.proofs.Logic.{and-both}
 use Rattle.plan.specs.Header.{Header, headerOf}
 use Rattle.plan.specs.Check.{within, headerInRange}
 use Rattle.plan.specs.Shape.{Ranged}
-use Rattle.plan.proofs.Laws.{and-both}
 
 inside : (lo hi x : ℕ) → within lo hi x ≡ true → (lo ≤ x) × (x ≤ hi)
 inside lo hi x e = let b = and-both (leb lo x) (leb x hi) e in (leb-true lo x (b .0), leb-true x hi (b .1))

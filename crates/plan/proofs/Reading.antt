@@ -1,7 +1,7 @@
 -- The reads among a table of operations: counted, and tested, by an index that rises.
 -- It stands on the definitions of the plan's parts.
 use mathlib.Core.Path.{_≡_, refl, ap, _∙_}
-use mathlib.Core.Bool.{Bool, true, false, not, _&&_, _||_, cond}
+use mathlib.Core.Bool.{Bool, true, false, not, _&&_, _||_, cond, or-comm}
 use mathlib.Core.List.{List, [], _∷_, _++_, map}
 use Prim.Native.Nat.{ℕ, zero, suc, _+_}
 use native.Mathlib.Nat.{add-zero, zero-add}
@@ -9,7 +9,6 @@ use native.Mathlib.Numerals.{add-one}
 use native.Mathlib.Omega.{arith}
 use lib.Dec.{eqb}
 use lib.ListN.{length, length-append}
-use Rattle.register.proofs.Logic.{or-comm}
 use Rattle.register.specs.Lists.{count, one-if, anyUpTo, any, filter, tab, tabFrom}
 use Rattle.register.specs.Plan.{Read}
 use Rattle.register.proofs.Lists.{any-append}

@@ -1,7 +1,7 @@
 -- The requests of a tick of the code are those of the plan: what begins in it is under way after it, what arrived is not.
 -- It stands on Tables, Feeding and the laws of requests.
 use mathlib.Core.Path.{_≡_, refl, sym, ap, subst, _∙_}
-use mathlib.Core.Bool.{Bool, true, false, not, _&&_}
+use mathlib.Core.Bool.{Bool, true, false, not, _&&_, and-false, or-false}
 use mathlib.Core.List.{List}
 use Prim.Native.Nat.{ℕ, suc, _+_, _-_, _%_, _≤_, _<_}
 use native.Mathlib.Nat.{add-zero}
@@ -19,7 +19,6 @@ use Rattle.plan.specs.Parts.{isLink}
 use Rattle.plan.specs.Packed.{planOf}
 use Rattle.plan.proofs.AcceptGood.{good, delay-range}
 use Rattle.plan.proofs.AcceptReads.{read-stands}
-use Rattle.calendar.proofs.Laws.{and-none, or-none}
 use Rattle.calendar.proofs.Spans.{own-rows}
 use Rattle.serving.specs.Links.{delayAt}
 use Rattle.requests.specs.Requests.{reachedBy, Asked}
@@ -83,7 +82,7 @@ module _ (s : List ℕ) (r : Script) (R : Decoded s r) (t : ℕ) (below : t < r 
 
     no-write : (u x b : ℕ) → 1 ≤ x → next && askedBy s (r .links) (r .rules .n) t 0 u x b ≡ false
     unfolding askedBy
-    no-write u x b h = rw (ne-eqb x 0 (λ e. omega arith), and-none (ltb b (r .rules .n)), and-none next)
+    no-write u x b h = rw (ne-eqb x 0 (λ e. omega arith), and-false (ltb b (r .rules .n)), and-false next)
 
     -- ---- the reads
 
@@ -142,5 +141,5 @@ module _ (s : List ℕ) (r : Script) (R : Decoded s r) (t : ℕ) (below : t < r 
           → WroteOn s (r .links) (r .rules .n) t (r .writes .begun) (r .writes .known .m) number number₁ work middle → Asked middle after asks → Requested (planOf 16 s) (suc t) after
       requested-after number₁ work middle after Q W A =
           requested-next (planOf 16 s) (good 16 s (R .playable)) (knows s r R .slow) t work after Q
-          (λ u b lo hi l. A .requests u 0 b (omega arith) ∙ (rw (W .requests u 0 b (omega arith), no-read u b, write-now u b lo hi l) (sym (or-none _))))
-          (λ u x b lo hi one four l. A .requests u x b (omega arith) ∙ (rw (W .requests u x b (omega arith), no-write u x b one, read-now u x b lo hi l, ← or-none (not (eqb (u % 16) (t % 16)) && reachedBy work u x b))))
+          (λ u b lo hi l. A .requests u 0 b (omega arith) ∙ (rw (W .requests u 0 b (omega arith), no-read u b, write-now u b lo hi l) (or-false _)))
+          (λ u x b lo hi one four l. A .requests u x b (omega arith) ∙ (rw (W .requests u x b (omega arith), no-write u x b one, read-now u x b lo hi l, or-false (not (eqb (u % 16) (t % 16)) && reachedBy work u x b))))

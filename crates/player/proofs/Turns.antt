@@ -9,6 +9,7 @@ use native.Mathlib.Numerals.{add-one}
 use native.Mathlib.Decide.{decLe}
 use lib.ListN.{length, getD, length-map}
 use lib.Seq.{ext-getD}
+use Rattle.register.proofs.Logic.{neither}
 use Rattle.plan.specs.Packed.{planOf}
 use Rattle.calendar.specs.View.{Posted}
 use Rattle.cluster.specs.declared.Cluster.{Cluster}
@@ -60,13 +61,6 @@ pub record HeardBy (work noted : List ℕ) (t : ℕ) (p q : Reading) : Type 0 wh
   pub ends : q .ends ≡ p .ends
   pub begun : q .begun ≡ p .begun
   pub answered : q .answered ≡ p .answered
-
-neither : (a b : Bool) → a || b ≡ false → (a ≡ false) × (b ≡ false)
-neither false b e = (refl, e)
-neither true b e = absurd (never e)
-  where
-    never : true ≡ false → ⊥
-    never e = let z : _≡_ {A = ℕ} 1 0 = ap (λ (x : Bool). cond x 1 0) e in omega arith
 
 module _ (s work : List ℕ) (r : Script) (t : ℕ) (servers : List Server) (p : Reading) (written : ℕ) (Q : Ready s work r) (below : t < r .shape .ticks) (L : Played s work r (at servers p written t))
     (same : p .ends ≡ endsOf (p .readers)) (f : Feed) (F : FedBy s work r written (p .ends) t f) (noted : List ℕ) (q : Reading) (H : HeardBy work noted t p q) where

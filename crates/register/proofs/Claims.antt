@@ -1,7 +1,7 @@
 -- Claims: who has named a pair. A claim that is counted is in the list, and a list counts what its parts count; the pairs named are the
 -- candidates. It stands on Lists and Counting.
 use mathlib.Core.Path.{_≡_, refl}
-use mathlib.Core.Bool.{Bool, true, false, _&&_, _||_}
+use mathlib.Core.Bool.{Bool, true, false, _&&_, _||_, or-comm}
 use mathlib.Core.Logic.{_⊎_, inl, inr}
 use mathlib.Core.List.{List, [], _∷_, _++_, map}
 use Prim.Native.Nat.{ℕ, zero, suc, _≤_}
@@ -10,8 +10,8 @@ use lib.Dec.{T, leb, eqb, eqb→eq, eqb-refl, leb→le}
 use Rattle.register.specs.Lists.{count, anyUpTo, flat, any, In, member}
 use Rattle.register.specs.Plan.{Plan, echoQuorum, replyQuorum}
 use Rattle.register.specs.Server.{Claim, claimOf, has, pairsOf, quorum}
-use Rattle.register.proofs.Logic.{and-l, and-r, and-i, or-e, or-l, or-comm}
-use Rattle.register.proofs.Lists.{any-in, in-any, any-append, in-map, map-in, in-distinct, distinct-in}
+use Rattle.register.proofs.Logic.{and-l, and-r, and-i, or-e, or-l}
+use Rattle.register.proofs.Lists.{any-in, in-any, any-append, map-in, in-distinct}
 use Rattle.register.proofs.Counting.{count-mono, count-cong, count-some}
 
 -- has server i named p, as a claim of the list
@@ -63,10 +63,6 @@ in-pairsOf c cs i = in-distinct (c .pair) (map (λ (c : Claim). c .pair) cs) (ma
 
 pub has-named : (cs : List Claim) (p i : ℕ) → T (has cs p i) → In p (pairsOf cs)
 has-named cs p i h = let r = has-in cs p i h in rw (← r .2) (in-pairsOf (r .0) cs (r .1))
-
-pub pairsOf-in : (cs : List Claim) (p : ℕ) → In p (pairsOf cs) → (c : Claim) × In c cs × (p ≡ c .pair)
-unfolding pairsOf
-pairsOf-in cs p i = in-map (λ (c : Claim). c .pair) p cs (distinct-in p (map (λ (c : Claim). c .pair) cs) i)
 
 -- a pair with a count was named
 pub counted-named : (cs : List Claim) (n p : ℕ) → 1 ≤ count (λ i. has cs p i) n → In p (pairsOf cs)

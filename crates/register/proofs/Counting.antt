@@ -6,13 +6,19 @@ use mathlib.Core.Logic.{_⊎_, inl, inr}
 use Prim.Native.Nat.{ℕ, zero, suc, _+_, _≤_, _<_}
 use native.Mathlib.Omega.{arith}
 use native.Mathlib.Decide.{ℕ-discrete}
-use lib.Dec.{T}
+use lib.Dec.{T, eqb}
 use Rattle.register.specs.Lists.{one-if, count, anyUpTo}
 use Rattle.register.proofs.Logic.{or-e, or-l, or-r}
 
-one-if-le : (a : Bool) → one-if a ≤ 1
+pub one-if-le : (a : Bool) → one-if a ≤ 1
 one-if-le true = omega arith
 one-if-le false = omega arith
+
+-- a binary digit
+pub digit-one : (x : ℕ) → x < 2 → x ≡ one-if (eqb x 1)
+digit-one zero h = refl
+digit-one (suc zero) h = refl
+digit-one (suc (suc x)) h = absurd (omega arith)
 
 one-if-or : (a b c : Bool) → (T a → T b ⊎ T c) → one-if a ≤ one-if b + one-if c
 one-if-or false b c h = omega arith
@@ -43,24 +49,6 @@ count-none (suc n) = omega (arith, count-none n)
 
 pub count-mono : (P Q : ℕ → Bool) (n : ℕ) → ((i : ℕ) → i < n → T (P i) → T (Q i)) → count P n ≤ count Q n
 count-mono P Q n h = omega (arith, count-or P Q (λ i. false) n (λ i l t. inl (h i l t)), count-none n)
-
-pub count-or3 : (P Q R S : ℕ → Bool) (n : ℕ) → ((i : ℕ) → i < n → T (P i) → T (Q i) ⊎ (T (R i) ⊎ T (S i)))
-    → count P n ≤ count Q n + count R n + count S n
-count-or3 P Q R S n h =
-    omega (
-      arith,
-      count-or P Q (λ i. R i || S i) n (λ i l t. elim (h i l t) [ inl x ↦ inl x | inr y ↦ inr (join (R i) (S i) y) ]),
-      count-or (λ i. R i || S i) R S n (λ i l t. split (R i) (S i) t),
-    )
-  where
-    join : (a b : Bool) → T a ⊎ T b → T (a || b)
-    join true b x = tt
-    join false b (inl x) = absurd x
-    join false b (inr x) = x
-
-    split : (a b : Bool) → T (a || b) → T a ⊎ T b
-    split true b x = inl tt
-    split false b x = inr x
 
 pub count-not : (P : ℕ → Bool) (n : ℕ) → count P n + count (λ i. not (P i)) n ≡ n
 unfolding count
@@ -112,3 +100,8 @@ anyUpTo-i (suc n) g d l t = go (ℕ-discrete d n) (λ m. anyUpTo-i n g d m t)
     go : Dec (d ≡ n) → (d < n → T (anyUpTo n g)) → T (g n || anyUpTo n g)
     go (yes e) ih = or-l (g n) (anyUpTo n g) (rw e at t)
     go (no m) ih = or-r (g n) (anyUpTo n g) (ih (omega arith))
+
+pub any-cong : (n : ℕ) (f h : ℕ → Bool) → ((u : ℕ) → u < n → f u ≡ h u) → anyUpTo n f ≡ anyUpTo n h
+unfolding anyUpTo
+any-cong zero f h e = refl
+any-cong (suc n) f h e = rw (e n (omega arith), any-cong n f h (λ u l. e u (omega arith)))

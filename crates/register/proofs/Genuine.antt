@@ -11,7 +11,6 @@ use Rattle.register.specs.Plan.{Write, Plan}
 use Rattle.register.specs.Regular.{hasBegun}
 use Rattle.register.proofs.Logic.{and-l, and-r, and-i, or-e, or-l, or-r}
 use Rattle.register.proofs.Lists.{any-in, in-any}
-use Rattle.register.proofs.Good.{Good}
 
 -- p is genuine at tick t
 abbrev pub Genuine : Plan → ℕ → ℕ → Type 0
@@ -57,7 +56,3 @@ module _ (P : Plan) where
   -- a genuine pair above the initial one is that of a write
   pub genuine-above : (t p q : ℕ) → P .initial ≤ p → Genuine P t q → p < q → (w : Write) × In w (P .writes) × (w .pair ≡ q) × (w .begun < t)
   genuine-above t p q lo g h = elim (genuine-cases t q g) [ inl e ↦ absurd (omega arith) | inr w ↦ w ]
-
-  -- the initial pair is the least
-  pub initial-le : Good P → (t p : ℕ) → Genuine P t p → P .initial ≤ p
-  initial-le G t p g = elim (genuine-cases t p g) [ inl e ↦ omega arith | inr (w, i, e, h) ↦ omega (arith, G .initial-least w i) ]

@@ -7,24 +7,24 @@ use mathlib.Core.List.{List, _++_, map}
 use Prim.Native.Nat.{ℕ, zero, suc, _+_, _-_, _/_, _≤_, _<_}
 use native.Mathlib.Omega.{arith}
 use native.Mathlib.Decide.{ℕ-discrete}
-use lib.Dec.{T, ltb, eqb, eqb-refl, ltb→lt, lt→ltb}
+use lib.Dec.{T, ltb, eqb, eqb-refl, lt→ltb}
 use lib.ListN.{take, length, length-map}
 use Rattle.register.specs.Lists.{filter, In}
 use Rattle.register.specs.Plan.{Write, Plan}
 use Rattle.register.specs.Server.{isFaulty, Claim, pairsOf, Server, insertAll, takeIn, quorum, votedIn, deliver}
 use Rattle.register.specs.Cluster.{writesIn, votesIn, cluster}
 use Rattle.register.specs.Regular.{laterBegun}
-use Rattle.register.proofs.Logic.{and-l, and-r, and-i}
-use Rattle.register.proofs.Lists.{in-append, in-left, in-right, in-filter, filter-in, length-filter-mono, in-take, map-in}
+use Rattle.register.proofs.Logic.{and-i}
+use Rattle.register.proofs.Lists.{in-append, in-left, in-right, in-filter, filter-in, in-take, map-in}
 use Rattle.register.proofs.Good.{Good}
 use Rattle.register.proofs.Placements.{FreeSince}
 use Rattle.register.proofs.Genuine.{Genuine, genuine-mono, genuine-above}
 use Rattle.register.proofs.Stores.{Falling, in-insertAll, falling-take, falling-insertAll, insertAll-in, first-or-above}
 use Rattle.register.proofs.Stores.{falling-length}
 use Rattle.register.proofs.Claims.{quorum-named}
-use Rattle.register.proofs.Safety.{FreshSafe, ServerSafe, OutSafe, voted-genuine}
-use Rattle.register.proofs.SafetyTick.{writesIn-genuine, votesIn-safe, mid-safe, step-safe, cluster-safe}
-use Rattle.register.proofs.Trace.{before, delivered, mid, end, freshIn, end-is-step}
+use Rattle.register.proofs.Safety.{FreshSafe, ServerSafe, voted-genuine}
+use Rattle.register.proofs.SafetyTick.{writesIn-genuine, votesIn-safe, cluster-safe}
+use Rattle.register.proofs.Trace.{before, mid, freshIn}
 use Rattle.register.proofs.Stages.{mid-keeps, delivered-is, next-same}
 use Rattle.register.proofs.Statuses.{not-faulty}
 
@@ -34,22 +34,6 @@ Recent P t p = (l : List ℕ) → Falling l → ((q : ℕ) → In q l → Genuin
 
 pub recent-mono : (P : Plan) (t u p : ℕ) → t ≤ u → Recent P u p → Recent P t p
 recent-mono P t u p h f l d g = f l d (λ q i. (genuine-mono P t u q h (g q i .0), g q i .1))
-
--- the later writes begun only grow in number
-pub laterBegun-mono : (P : Plan) (t u p : ℕ) → t ≤ u → laterBegun P t p ≤ laterBegun P u p
-unfolding laterBegun
-laterBegun-mono P t u p l = go (P .writes)
-  where
-    by : ℕ → Write → Bool
-    by t w = ltb p (w .pair) && ltb (w .begun) t
-
-    up : (w : Write) → T (by t w) → T (by u w)
-    up w h =
-        let b = ltb→lt (w .begun) t (and-r (ltb p (w .pair)) (ltb (w .begun) t) h) in
-        and-i (ltb p (w .pair)) (ltb (w .begun) u) (and-l (ltb p (w .pair)) (ltb (w .begun) t) h) (lt→ltb (w .begun) u (omega arith))
-
-    go : (ws : List Write) → length (filter (by t) ws) ≤ length (filter (by u) ws)
-    go ws = length-filter-mono (by t) (by u) up ws
 
 -- fewer than depth later writes begun: each genuine pair above p is that of one of them
 pub later-recent : (P : Plan) (t p : ℕ) → P .initial ≤ p → laterBegun P t p < P .depth → Recent P t p
@@ -105,13 +89,6 @@ module _ (P : Plan) (G : Good P) where
   pub before-safe : (t b : ℕ) → ServerSafe P t ((t - 1) / P .period) (before P t b)
   unfolding before
   before-safe t b = cluster-safe P G t .0 b
-
-  pub mid-out-safe : (t b : ℕ) → OutSafe P t ((t - 1) / P .period) (mid P t b)
-  unfolding mid delivered
-  mid-out-safe t b = mid-safe P G t b (cluster P t .log) (before P t b) (before-safe t b) (cluster-safe P G t .1)
-
-  pub end-out-safe : (t b : ℕ) → OutSafe P t (t / P .period) (end P t b)
-  end-out-safe t b = rw (end-is-step P t b) (step-safe P G t b (cluster P t .log) (before P t b) (before-safe t b) (cluster-safe P G t .1))
 
   pub freshIn-safe : (t b : ℕ) (v : Claim) → In v (freshIn P t b) → FreshSafe P t ((t - 1) / P .period) v
   freshIn-safe t b v i = elim (in-append v (before P t b .fresh) (votesIn P t (cluster P t .log) b) i) [

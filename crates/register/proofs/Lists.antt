@@ -47,18 +47,6 @@ module _ {A : Type 0} where
   filter-in p x (y ∷ l) (inr i) t =
       cond-e (λ (m : List A). In x m) (p y) (y ∷ filter p l) (filter p l) (λ u. inr (filter-in p x l i t)) (λ u. filter-in p x l i t)
 
-  pub length-filter-mono : (p q : A → Bool) → ((x : A) → T (p x) → T (q x)) → (l : List A) → length (filter p l) ≤ length (filter q l)
-  unfolding filter
-  length-filter-mono p q f [] = omega arith
-  length-filter-mono p q f (y ∷ l) = go (p y) (q y) (f y) (length-filter-mono p q f l)
-    where
-      go : (a b : Bool) → (T a → T b) → length (filter p l) ≤ length (filter q l)
-          → length (cond a (y ∷ filter p l) (filter p l)) ≤ length (cond b (y ∷ filter q l) (filter q l))
-      go true true h e = omega arith
-      go true false h e = absurd (h tt)
-      go false true h e = omega arith
-      go false false h e = e
-
   pub any-in : (p : A → Bool) (l : List A) → T (any p l) → (x : A) × In x l × T (p x)
   unfolding any
   any-in p [] t = absurd t
@@ -202,13 +190,3 @@ in-distinct x (y ∷ l) (inl e) = go (member y (distinct l)) refl
 in-distinct x (y ∷ l) (inr i) =
     cond-e (λ (m : List ℕ). In x m) (member y (distinct l)) (distinct l) (y ∷ distinct l) (λ t. in-distinct x l i)
     (λ t. inr (in-distinct x l i))
-
-pub distinct-in : (x : ℕ) (l : List ℕ) → In x (distinct l) → In x l
-unfolding distinct
-distinct-in x [] i = absurd i
-distinct-in x (y ∷ l) i = go (member y (distinct l)) i (distinct-in x l)
-  where
-    go : (b : Bool) → In x (cond b (distinct l) (y ∷ distinct l)) → (In x (distinct l) → In x l) → In x (y ∷ l)
-    go true h ih = inr (ih h)
-    go false (inl e) ih = inl e
-    go false (inr h) ih = inr (ih h)

@@ -1,7 +1,7 @@
 -- Laws of tests: conjunctions, disjunctions and choices by a Bool, and strong induction.
 -- It stands on nothing of the register.
 use mathlib.Core.Path.{_≡_, refl}
-use mathlib.Core.Bool.{Bool, true, false, not, _&&_, _||_, cond}
+use mathlib.Core.Bool.{Bool, true, false, not, _&&_, _||_, cond, true≢false, and-eq-true-iff}
 use mathlib.Core.Logic.{_⊎_, inl, inr}
 use Prim.Native.Nat.{ℕ, zero, suc, _<_, max}
 use native.Mathlib.Omega.{arith}
@@ -32,12 +32,6 @@ pub or-r : (a b : Bool) → T b → T (a || b)
 or-r true b t = tt
 or-r false b t = t
 
-pub or-comm : (a b : Bool) → a || b ≡ b || a
-or-comm true true = refl
-or-comm true false = refl
-or-comm false true = refl
-or-comm false false = refl
-
 -- a test decides
 pub test : (b : Bool) → T b ⊎ T (not b)
 test true = inl tt
@@ -51,6 +45,14 @@ T-eq false t = absurd t
 pub F-eq : (b : Bool) → T (not b) → b ≡ false
 F-eq true t = absurd t
 F-eq false t = refl
+
+-- two tests that both pass, and two that both fail
+pub and-both : (a b : Bool) → a && b ≡ true → (a ≡ true) × (b ≡ true)
+and-both a b = and-eq-true-iff a b .0
+
+pub neither : (a b : Bool) → a || b ≡ false → (a ≡ false) × (b ≡ false)
+neither true b e = absurd (true≢false e)
+neither false b e = (refl, e)
 
 -- two tests that imply each other are equal
 pub T-iff : (a b : Bool) → (T a → T b) → (T b → T a) → a ≡ b

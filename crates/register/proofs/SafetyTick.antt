@@ -18,7 +18,6 @@ use Rattle.register.proofs.Lists.{in-append, in-filter, in-flat, in-tab
 use Rattle.register.proofs.Good.{Good}
 use Rattle.register.proofs.Placements.{Near, not-moving, sent-near, period-step}
 use Rattle.register.proofs.Genuine.{Genuine, genuine-initial, genuine-write, genuine-mono}
-use Rattle.register.proofs.Stores.{Falling}
 use Rattle.register.proofs.Safety.{FreshSafe, ServerSafe, SentSafe, OutSafe, blank-safe, nothing-safe, stage1-safe, stage2-safe}
 use Rattle.register.proofs.Safety.{stage4-safe, stage3-safe}
 
@@ -170,15 +169,6 @@ module _ (P : Plan) (G : Good P) where
       first-safe = record { kept = only; falling = (λ q i. absurd i, tt); fresh = λ p i. absurd i; old = λ p i. absurd i }
   cluster-safe (suc t) = tick-safe t (cluster P t) (cluster-safe t)
 
-  -- what a server keeps before tick t, and what it sent in a tick before t, is genuine
-  pub kept-genuine : (t b p : ℕ) → In p (serverOf (cluster P t) b .kept) → Genuine P t p
-  kept-genuine t b p i = cluster-safe t .0 b .kept p i
-
-  pub kept-falling : (t b : ℕ) → Falling (serverOf (cluster P t) b .kept)
-  kept-falling t b = cluster-safe t .0 b .falling
-
-  pub votes-genuine : (t u b p : ℕ) → In p (sentIn (cluster P t .log) u b .votes) → Genuine P t p
-  votes-genuine t u b p i = cluster-safe t .1 u b .votes p i
-
+  -- what a server replied with in a tick before t is genuine
   pub reply-genuine : (t u b p : ℕ) → In p (sentIn (cluster P t .log) u b .replyWith) → Genuine P t p
   reply-genuine t u b p i = cluster-safe t .1 u b .replyWith p i

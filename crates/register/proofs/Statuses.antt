@@ -1,6 +1,6 @@
 -- Status: which servers are faulty, cured or correct follows from the placements alone. A server is faulty as placed, cured for delta ticks
 -- after a placement it has left, and otherwise correct. It stands on Stages and Placements.
-use mathlib.Core.Path.{_≡_, refl, sym}
+use mathlib.Core.Path.{_≡_, refl}
 use mathlib.Core.Bool.{Bool, true, false, not, cond}
 use mathlib.Core.Logic.{_≢_}
 use Prim.Native.Nat.{ℕ, zero, suc, _+_, _*_, _-_, _/_, _≤_, _<_}
@@ -9,7 +9,7 @@ use native.Mathlib.Omega.{arith}
 use lib.Dec.{T, eqb, eqb→eq, eqb-refl, T-not}
 use Rattle.register.specs.Plan.{Plan, isMove}
 use Rattle.register.specs.Server.{Status, faulty, cured, correct, isFaulty, isCorrect, curedAt, Server}
-use Rattle.register.proofs.Logic.{T-eq, F-eq, cond-e}
+use Rattle.register.proofs.Logic.{cond-e}
 use Rattle.register.proofs.Good.{Good}
 use Rattle.register.proofs.Placements.{not-moving, moving, period-suc}
 use Rattle.register.proofs.Trace.{before, mid, before-zero, before-suc}
@@ -83,16 +83,6 @@ module _ (P : Plan) (G : Good P) where
       go faulty k = absurd (T-not (P .placed (t / P .period) b) h k)
       go (cured m) k = tt
       go correct k = tt
-
-  -- the faulty servers are those placed
-  pub faulty-placed : (t b : ℕ) → b < P .n → isFaulty (before P (suc t) b .status) ≡ P .placed (t / P .period) b
-  unfolding StatusIs
-  faulty-placed t b l = go (before P (suc t) b .status) (status-is t b l)
-    where
-      go : (s : Status) → StatusIs P (t / P .period) t b s → isFaulty s ≡ P .placed (t / P .period) b
-      go faulty k = sym (T-eq (P .placed (t / P .period) b) k)
-      go (cured m) k = sym (F-eq (P .placed (t / P .period) b) (k .0))
-      go correct k = sym (F-eq (P .placed (t / P .period) b) (k .0))
 
   -- a server that neither this placement nor the one before makes faulty is correct
   pub steady-correct : (t b : ℕ) → b < P .n → T (not (P .placed (t / P .period) b)) → T (not (P .placed (t / P .period - 1) b))

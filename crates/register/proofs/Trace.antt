@@ -2,15 +2,15 @@
 -- log, whose row u is what was sent in tick u. It stands on the definitions and Lists.
 use mathlib.Core.Path.{_≡_, refl, ap, _∙_}
 use mathlib.Core.List.{List, [], _∷_, _++_, map}
-use Prim.Native.Nat.{ℕ, zero, suc, _≤_, _<_}
+use Prim.Native.Nat.{ℕ, zero, suc, _<_}
 use native.Mathlib.Omega.{arith}
 use native.Mathlib.Decide.{ℕ-discrete}
-use lib.ListN.{getD, length, length-append, length-map, List·getD-map, List·getD-append, List·getD-eq-default}
+use lib.ListN.{getD, length, length-append, List·getD-map, List·getD-append}
 use Rattle.register.specs.Lists.{tab}
 use Rattle.register.specs.Plan.{Plan}
 use Rattle.register.specs.Server.{faulty, Claim, Server, Sent, nothing, Out, stage1, stage2, blank, stage3, stage4}
 use Rattle.register.specs.Cluster.{sentIn, writesIn, readsIn, votesIn, step, first, serverOf, tick, cluster}
-use Rattle.register.proofs.Lists.{length-tabFrom, getD-tab, getD-last}
+use Rattle.register.proofs.Lists.{getD-tab, getD-last}
 
 -- server b before tick t; after stage 1 of tick t; after stage 2; after the whole tick, each with what it sent
 unfoldable pub before : Plan → ℕ → ℕ → Server
@@ -62,13 +62,6 @@ pub cluster-servers : (P : Plan) (t b : ℕ) → b < P .n
 unfolding before
 cluster-servers P t b l = before-suc P t b l ∙ ap (λ (o : Out). o .server) (end-is-step P t b)
 
-pub length-servers : (P : Plan) (t : ℕ) → length (cluster P t .servers) ≡ P .n
-unfolding cluster tick
-length-servers P zero = length-tabFrom 0 (P .n) (λ b. first P)
-length-servers P (suc t) =
-    length-map (tab (P .n) (λ b. step P t b (cluster P t .log) (serverOf (cluster P t) b))) (λ (o : Out). o .server)
-    ∙ length-tabFrom 0 (P .n) (λ b. step P t b (cluster P t .log) (serverOf (cluster P t) b))
-
 -- the log: a row for each tick
 pub log-suc : (P : Plan) (t : ℕ) → cluster P (suc t) .log ≡ cluster P t .log ++ (map (λ (o : Out). o .sent) (outs P t) ∷ [])
 unfolding cluster tick outs
@@ -95,7 +88,8 @@ row-new P t b l =
     row-is : getD (cluster P (suc t) .log) t [] ≡ row
     row-is = rw (log-suc P t) last
 
-row-kept : (P : Plan) (t u b : ℕ) → u < t → sentIn (cluster P (suc t) .log) u b ≡ sentIn (cluster P t .log) u b
+-- a tick leaves the rows before it
+pub row-kept : (P : Plan) (t u b : ℕ) → u < t → sentIn (cluster P (suc t) .log) u b ≡ sentIn (cluster P t .log) u b
 unfolding sentIn
 row-kept P t u b l = ap (λ (r : List Sent). getD r b nothing) row-is
   where
@@ -113,13 +107,3 @@ sent-row P (suc t) u b l h = go (ℕ-discrete u t) (sent-row P t u b l)
     go : Dec (u ≡ t) → (u < t → sentIn (cluster P t .log) u b ≡ end P u b .sent) → sentIn (cluster P (suc t) .log) u b ≡ end P u b .sent
     go (yes e) ih = rw e (row-new P t b l)
     go (no n) ih = let h : u < t = omega arith in row-kept P t u b h ∙ ih h
-
-pub cluster-sent : (P : Plan) (t u b : ℕ) → b < P .n → u < t
-    → sentIn (cluster P t .log) u b ≡ step P u b (cluster P u .log) (serverOf (cluster P u) b) .sent
-unfolding before
-cluster-sent P t u b l h = sent-row P t u b l h ∙ ap (λ (o : Out). o .sent) (end-is-step P u b)
-
--- no rows past the log's end
-pub sent-none : (P : Plan) (t u b : ℕ) → t ≤ u → sentIn (cluster P t .log) u b ≡ nothing
-unfolding sentIn
-sent-none P t u b h = ap (λ (r : List Sent). getD r b nothing) (List·getD-eq-default (cluster P t .log) [] (omega (arith, log-length P t)))

@@ -1,6 +1,6 @@
 -- What a request adds, and what is left when a tick's requests are taken. It stands on the calendar's laws of words.
 use mathlib.Core.Path.{_≡_, refl, sym, _∙_}
-use mathlib.Core.Bool.{Bool, true, false, not, _&&_, _||_}
+use mathlib.Core.Bool.{Bool, true, false, not, _&&_, _||_, and-true, and-false, or-false, or-assoc}
 use mathlib.Core.List.{List}
 use Prim.Native.Nat.{ℕ, _+_, _*_, _%_, _^_, _≤_, _<_}
 use native.Mathlib.Omega.{arith}
@@ -39,7 +39,7 @@ past-requests a b S t p c =
 -- ---- requests one after the other
 
 pub asked-none : (a : List ℕ) (g : ℕ → ℕ → ℕ → Bool) → ((t p b : ℕ) → g t p b ≡ false) → Asked a a g
-asked-none a g none = record { outside = outside-none a; requests = λ t p b l. rw (none t p b) (laws.or-none (reachedBy a t p b)) }
+asked-none a g none = record { outside = outside-none a; requests = λ t p b l. rw (none t p b) (sym (or-false (reachedBy a t p b))) }
 
 pub asked-eq : (a r : List ℕ) (g h : ℕ → ℕ → ℕ → Bool) → Asked a r g → ((t p b : ℕ) → p < parties → g t p b ≡ h t p b) → Asked a r h
 asked-eq a r g h A e = record { outside = A .outside; requests = λ t p b l. A .requests t p b l ∙ rw (e t p b l) }
@@ -47,7 +47,7 @@ asked-eq a r g h A e = record { outside = A .outside; requests = λ t p b l. A .
 pub asked-trans : (a b c : List ℕ) (g h : ℕ → ℕ → ℕ → Bool) → Asked a b g → Asked b c h → Asked a c (λ t p i. g t p i || h t p i)
 asked-trans a b c g h A B = record {
   outside = outside-trans a b c (A .outside) (B .outside);
-  requests = λ t p i l. B .requests t p i l ∙ rw (A .requests t p i l) (laws.or-assoc (reachedBy a t p i) (g t p i) (h t p i));
+  requests = λ t p i l. B .requests t p i l ∙ rw (A .requests t p i l) (or-assoc (reachedBy a t p i) (g t p i) (h t p i));
 }
 
 -- ---- a request is posted
@@ -60,13 +60,9 @@ same-request t q u p hq hp = go (ℕ-discrete q p) (ℕ-discrete (u % 16) (t % 1
     go (yes d) (no e) = rw (eq-eqb q p d, ne-eqb (u % 16) (t % 16) e, ne-eqb (requestWord t q) (requestWord u p) (λ g. e (omega arith)))
     go (no d) e = rw (ne-eqb q p d, ne-eqb (requestWord t q) (requestWord u p) (λ g. d (omega arith)))
 
-and-true : (a : Bool) → a && true ≡ a
-and-true true = refl
-and-true false = refl
-
 module _ (s : Sending) (p : ℕ) (hp : p < parties) where
   pub asked-first : (a : List ℕ) → Asked a a (askedFirst s p 0)
-  asked-first a = record { outside = outside-none a; requests = λ t q b l. rw (le-ltb b 0 (omega arith)) (laws.or-none (reachedBy a t q b)) }
+  asked-first a = record { outside = outside-none a; requests = λ t q b l. rw (le-ltb b 0 (omega arith)) (sym (or-false (reachedBy a t q b))) }
 
   -- server b's share
   to-server : (t q c b : ℕ) → (eqb q p && eqb (arrivalOf s b % 16) (t % 16)) && eqb c b ≡ eqb c b && (eqb q p && eqb (arrivalOf s c % 16) (t % 16))
@@ -74,7 +70,7 @@ module _ (s : Sending) (p : ℕ) (hp : p < parties) where
     where
       go : (e : Bool) → eqb c b ≡ e → (eqb q p && eqb (arrivalOf s b % 16) (t % 16)) && e ≡ e && (eqb q p && eqb (arrivalOf s c % 16) (t % 16))
       go true e = rw (eqb-true c b e) (and-true (eqb q p && eqb (arrivalOf s b % 16) (t % 16)))
-      go false e = laws.and-none (eqb q p && eqb (arrivalOf s b % 16) (t % 16))
+      go false e = and-false (eqb q p && eqb (arrivalOf s b % 16) (t % 16))
 
   -- the bytes with server b reached
   unfoldable pub reaching : List ℕ → ℕ → List ℕ
@@ -94,7 +90,7 @@ module _ (s : Sending) (p : ℕ) (hp : p < parties) where
         };
         requests = λ t q c l. laws.put-member r w b (requestWord t q) c (omega arith)
             ∙ rw (same-request t q (arrivalOf s b) p l hp, to-server t q c b, A .requests t q c l)
-            (laws.or-assoc (reachedBy a t q c) (askedFirst s p b t q c) (eqb c b && (eqb q p && eqb (arrivalOf s c % 16) (t % 16)))
+            (or-assoc (reachedBy a t q c) (askedFirst s p b t q c) (eqb c b && (eqb q p && eqb (arrivalOf s c % 16) (t % 16)))
             ∙ rw (laws.ltb-more c b (eqb q p && eqb (arrivalOf s c % 16) (t % 16))));
       }
 

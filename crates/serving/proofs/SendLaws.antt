@@ -1,6 +1,6 @@
 -- What a server sends, posted: where its delays stand in the plan; its votes; its replies, reader by reader.
-use mathlib.Core.Path.{_≡_, refl, sym, ap, _∙_}
-use mathlib.Core.Bool.{Bool, true, false, not, _&&_, _||_}
+use mathlib.Core.Path.{_≡_, refl, sym, _∙_}
+use mathlib.Core.Bool.{Bool, true, false, not, _&&_, _||_, and-false, or-false, and-or-distrib-left}
 use mathlib.Core.List.{List}
 use Prim.Native.Nat.{ℕ, _+_, _*_, _-_, _/_, _%_, _^_, _≤_, _<_}
 use native.Mathlib.Nat.{mul-le-mul}
@@ -8,21 +8,20 @@ use native.Mathlib.Omega.{arith}
 use lib.Dec.{eqb, leb, ltb}
 use lib.ListN.{length, getD}
 use borrow.Author.Tests.{lt-ltb, le-ltb, le-leb, lt-leb, eq-eqb, ne-eqb, eqb-true, ltb-true, ltb-false}
-use Rattle.bits.specs.Field.{fieldOf}
 use Rattle.calendar.specs.declared.Sending.{Sending}
 use Rattle.calendar.specs.declared.Stamped.{Stamped}
 use Rattle.calendar.specs.Bits.{bit}
 use Rattle.calendar.specs.Layout.{receivers, rows, places, rowOf}
 use Rattle.calendar.specs.View.{Posted}
 use Rattle.calendar.specs.Posts.{Messages, inRow, among, dueIn, toOthers, arrivalOf, Sent}
-use Rattle.calendar.proofs.Laws.{and-none, or-none, ltb-more}
+use Rattle.calendar.proofs.Laws.{ltb-more, bit-zero}
 use Rattle.calendar.proofs.Posting.{posted-eq, posted-trans, posted-none}
 use Rattle.calendar.proofs.Stores.{same-row}
 use Rattle.serving.specs.declared.Links.{Links}
 use Rattle.serving.specs.declared.Row.{Row}
-use Rattle.serving.specs.Links.{linkBit, delayAt, Linked}
+use Rattle.serving.specs.Links.{linkBit, Linked}
 use Rattle.serving.specs.Sends.{reaches, sendsVote, sendsReply, sends}
-use Rattle.serving.proofs.BitLaws.{bit-zero, bit-test}
+use Rattle.serving.proofs.BitLaws.{bit-test}
 
 -- ---- where the delays stand
 
@@ -74,7 +73,7 @@ module _ (plan : List ℕ) (links : Links) (n t : ℕ) (ends : List ℕ) (i : �
       go : (c : Bool) → ltb (x % receivers) n ≡ c
           → c && ((not (eqb (x % receivers) i) && eqb (arrivalOf s (x % receivers) % 16) (x / receivers)) && (eqb k i && P j))
           ≡ eqb k i && (c && (not (eqb (x % receivers) i) && (eqb (reaches plan links n t ends i row (x % receivers) % 16) (x / receivers) && P j)))
-      go false e = sym (and-none (eqb k i))
+      go false e = sym (and-false (eqb k i))
       go true e =
           let l = ltb-true (x % receivers) n e in
           rw (S .arrives (x % receivers) l, link-at links t i (x % receivers)) (turn (not (eqb (x % receivers) i)) _ (eqb k i) (P j))
@@ -89,7 +88,7 @@ module _ (plan : List ℕ) (links : Links) (n t : ℕ) (ends : List ℕ) (i : �
     unfolding sendsVote to-servers
     votes-plain e =
         posted-eq a b _ _ A
-        (λ x j k l m. others-sent s (λ y. eqb y (row .wrote)) S x j k ∙ rw (e, ← or-none (eqb j (row .wrote))))
+        (λ x j k l m. others-sent s (λ y. eqb y (row .wrote)) S x j k ∙ rw (e, or-false (eqb j (row .wrote))))
 
     pub votes-echo : (c : List ℕ) → row .echoed ≡ true → Posted b c (toOthers s (among (row .kept)))
         → Posted a c (λ x j k. eqb k i && sendsVote plan links n t ends i row x j)
@@ -134,7 +133,7 @@ module _ (plan : List ℕ) (links : Links) (n t : ℕ) (ends : List ℕ) (i : �
     where
       go : (x j : ℕ) (d c : Bool) → ltb (x % receivers) 16 ≡ c → c && (d && sendsReply plan links n t ends i row x j) ≡ false
       go x j d false e = refl
-      go x j d true e = rw (no-reply x j (ltb-true (x % receivers) 16 e)) (and-none d)
+      go x j d true e = rw (no-reply x j (ltb-true (x % receivers) 16 e)) (and-false d)
 
   replies-more : (a r w : List ℕ) (y : ℕ) (f : Messages) → Posted a r (repliesBelow y) → Posted r w f
       → ((x j k : ℕ) → x < rows → f x j k ≡ eqb (x % receivers) (15 + y) && (eqb k i && sendsReply plan links n t ends i row x j))
@@ -153,7 +152,7 @@ module _ (plan : List ℕ) (links : Links) (n t : ℕ) (ends : List ℕ) (i : �
     where
       go : (x j : ℕ) (d c : Bool) → eqb (x % receivers) (15 + y) ≡ c → false ≡ c && (d && sendsReply plan links n t ends i row x j)
       go x j d false q = refl
-      go x j d true q = rw (e x j (eqb-true (x % receivers) (15 + y) q)) (sym (and-none d))
+      go x j d true q = rw (e x j (eqb-true (x % receivers) (15 + y) q)) (sym (and-false d))
 
   module _ (a r : List ℕ) (y : ℕ) (h : 1 ≤ y) (A : Posted a r (repliesBelow y)) where
     pub replies-unasked : (row .readers / 2 ^ y % 2 ≡ 1 → ⊥) → Posted a r (repliesBelow (y + 1))
@@ -162,12 +161,12 @@ module _ (plan : List ℕ) (links : Links) (n t : ℕ) (ends : List ℕ) (i : �
         replies-none a r y A (λ x j p. reply-at x j y p h ∙ rw e)
 
     pub replies-absent : links .parties ≤ n + y → Posted a r (repliesBelow (y + 1))
-    replies-absent e = replies-none a r y A (λ x j p. reply-at x j y p h ∙ rw (le-ltb (n + y) (links .parties) e) (and-none (bit y (row .readers))))
+    replies-absent e = replies-none a r y A (λ x j p. reply-at x j y p h ∙ rw (le-ltb (n + y) (links .parties) e) (and-false (bit y (row .readers))))
 
     pub replies-late : getD ends (y - 1) 0 < reaches plan links n t ends i row (n + y) → Posted a r (repliesBelow (y + 1))
     replies-late e =
         replies-none a r y A
-        (λ x j p. reply-at x j y p h ∙ rw (lt-leb (reaches plan links n t ends i row (n + y)) (getD ends (y - 1) 0) e, and-none (ltb (n + y) (links .parties))) (and-none (bit y (row .readers))))
+        (λ x j p. reply-at x j y p h ∙ rw (lt-leb (reaches plan links n t ends i row (n + y)) (getD ends (y - 1) 0) e, and-false (ltb (n + y) (links .parties))) (and-false (bit y (row .readers))))
 
     pub replies-sent : (w : List ℕ) → y < 5 → row .readers / 2 ^ y % 2 ≡ 1 → n + y < links .parties
         → reaches plan links n t ends i row (n + y) ≤ getD ends (y - 1) 0
@@ -197,11 +196,7 @@ module _ (plan : List ℕ) (links : Links) (n t : ℕ) (ends : List ℕ) (i : �
   pub sent-both : (a b c : List ℕ) → Posted a b (λ x j k. eqb k i && sendsVote plan links n t ends i row x j)
       → Posted b c (λ x j k. eqb k i && sendsReply plan links n t ends i row x j) → Posted a c (λ x j k. eqb k i && sends plan links n t ends i row x j)
   sent-both a b c A B =
-      posted-eq a c _ _ (posted-trans a b c _ _ A B) (λ x j k l m. join (eqb k i) (sendsVote plan links n t ends i row x j) (sendsReply plan links n t ends i row x j))
-    where
-      join : (a b c : Bool) → (a && b) || (a && c) ≡ a && (b || c)
-      join true b c = refl
-      join false b c = refl
+      posted-eq a c _ _ (posted-trans a b c _ _ A B) (λ x j k l m. sym (and-or-distrib-left (eqb k i) (sendsVote plan links n t ends i row x j) (sendsReply plan links n t ends i row x j)))
 
   -- no vote for a known pair
   pub votes-nobody : (a : List ℕ) → false ≡ row .echoed || ltb (row .wrote) places → Posted a a (λ x j k. eqb k i && sendsVote plan links n t ends i row x j)
@@ -215,16 +210,16 @@ module _ (plan : List ℕ) (links : Links) (n t : ℕ) (ends : List ℕ) (i : �
           rw (
             d,
             ne-eqb j (row .wrote) (λ h. omega (arith, ltb-false (row .wrote) places (sym q))),
-            and-none (eqb (reaches plan links n t ends i row (x % receivers) % 16) (x / receivers)),
-            and-none (not (eqb (x % receivers) i)),
-            and-none (ltb (x % receivers) n),
+            and-false (eqb (reaches plan links n t ends i row (x % receivers) % 16) (x / receivers)),
+            and-false (not (eqb (x % receivers) i)),
+            and-false (ltb (x % receivers) n),
           )
-          (and-none (eqb k i)))
+          (and-false (eqb k i)))
 
   pub replies-nobody : (a : List ℕ) → row .readers ≡ 0 → Posted a a (λ x j k. eqb k i && sendsReply plan links n t ends i row x j)
   unfolding sendsReply
   replies-nobody a e =
-      posted-none a _ (λ x j k l m. rw (e, bit-zero (x % receivers - 15), and-none (leb 16 (x % receivers))) (and-none (eqb k i)))
+      posted-none a _ (λ x j k l m. rw (e, bit-zero (x % receivers - 15), and-false (leb 16 (x % receivers))) (and-false (eqb k i)))
 
 -- a row of which only the replies matter
 abbrev pub replying : ℕ → List Stamped → Row

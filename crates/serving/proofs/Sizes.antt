@@ -32,9 +32,6 @@ use Rattle.serving.proofs.Row.Laws as TR′
 pub most-length : (v : Voters) {vs : List Val} → Is TV.the-row v vs → length (v .most) ≡ 64
 most-length v {vs} is = sym (length-map (v .most) _) ∙ LL.owed TV.the-type TV′.the-laws v vs is .0 .1 .0 .1
 
-pub kept-length : (r : Row) {vs : List Val} → Is TR.the-row r vs → length (r .kept) ≡ depth
-kept-length r {vs} is = sym (length-map (r .kept) _) ∙ LL.owed TR.the-type TR′.the-laws r vs is .1 .1 .1 .0 .1 .0 .1
-
 pub value-fits : (p : Stamped) {vs : List Val} → Is TP.the-row p vs → p .value < 65536
 value-fits p {vs} is = LL.owed TP.the-type TP′.the-laws p vs is .1 .1 .0 .1
 

@@ -1,7 +1,7 @@
 -- Steps of the stages' proofs: the quorum's test by masks, a turn of taking in, and the stages put together from what their calls give.
 -- It stands on BitLaws.
 use mathlib.Core.Path.{_≡_, refl, sym, ap, _∙_, fun-ext}
-use mathlib.Core.Bool.{Bool, true, false, _&&_, _||_, cond}
+use mathlib.Core.Bool.{Bool, true, false, _&&_, _||_, cond, true≢false}
 use mathlib.Core.List.{List}
 use Prim.Native.Nat.{ℕ, _+_, _^_, _≤_, _<_}
 use native.Mathlib.Omega.{arith}
@@ -17,10 +17,11 @@ use Rattle.register.proofs.Logic.{cond-ap}
 use Rattle.register.proofs.Counting.{count-none}
 use Rattle.calendar.specs.Bits.{bit}
 use Rattle.calendar.specs.Layout.{depth, sender}
+use Rattle.calendar.proofs.Laws.{bit-zero, bit-or}
 use Rattle.serving.specs.Bits.{sets, Joined}
 use Rattle.serving.specs.Stored.{Plain, Said, Both}
 use Rattle.serving.specs.Stages.{Voted, nobody, noVotes, blankAs, silent, restated, written, resetAt, cureEnded, turned, within, quorate, taken, voting, withWrite, repliesTo, delivered, deliveredOf, stageOne, stageTwo, movedOn, stageFour}
-use Rattle.serving.proofs.BitLaws.{bit-zero, bit-or, bit-and, unmarked, ones-count, ones-either}
+use Rattle.serving.proofs.BitLaws.{bit-and, unmarked, ones-count, ones-either}
 
 pub zero-table : sets (replicate 65 0) ≡ noVotes
 zero-table = fun-ext (λ j. fun-ext (λ k. unmarked 65 j k))
@@ -141,12 +142,9 @@ echo-law two h t o s e p q = rw (q, p)
 
 -- ---- the votes that a server notes
 
-not-both : (b : Bool) → b ≡ true → b ≡ false → ⊥
-not-both b e f = let z : _≡_ {A = ℕ} 0 1 = ap (λ (x : Bool). cond x 0 1) (sym e ∙ f) in omega arith
-
 -- a faulty server loses them
 pub votes-lost : (f : ℕ → ℕ → Bool) (s : Plain) → isFaulty (s .status) ≡ true → Voted f s s
-votes-lost f s h = record { status = refl; kept = refl; pending = refl; old = refl; fresh = λ e. absurd (not-both (isFaulty (s .status)) h e); lost = λ e. refl }
+votes-lost f s h = record { status = refl; kept = refl; pending = refl; old = refl; fresh = λ e. absurd (true≢false (sym h ∙ e)); lost = λ e. refl }
 
 pub votes-noted : (work : List ℕ) (row : ℕ) (fresh : List ℕ) (s r : Plain) → s .fresh ≡ sets fresh → (more : List ℕ)
     → isFaulty (s .status) ≡ false → Joined work row fresh more
@@ -157,5 +155,5 @@ votes-noted work row fresh s r q more h J e = record {
   pending = rw e;
   old = rw e;
   fresh = λ d j i l. rw (e, q) (J .each j i l);
-  lost = λ d. absurd (not-both (isFaulty (s .status)) d h);
+  lost = λ d. absurd (true≢false (sym d ∙ h));
 }

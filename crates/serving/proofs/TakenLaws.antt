@@ -1,13 +1,12 @@
 -- Taking in only the pairs of a span: those below it and beyond it do not pass.
 use mathlib.Core.Path.{_≡_, refl}
-use mathlib.Core.Bool.{Bool, false, _&&_}
+use mathlib.Core.Bool.{Bool, false, _&&_, and-false}
 use mathlib.Core.List.{List}
 use Prim.Native.Nat.{ℕ, zero, suc, _≤_, _<_}
 use native.Mathlib.Omega.{arith}
 use native.Mathlib.Decide.{ℕ-discrete, decLe}
 use lib.Dec.{leb}
 use borrow.Author.Tests.{le-ltb, lt-leb}
-use Rattle.calendar.proofs.Laws.{and-none}
 use Rattle.serving.specs.Stages.{within, taken}
 
 -- pairs from one on that do not pass
@@ -33,7 +32,7 @@ module _ (v : ℕ → Bool) (g : ℕ → ℕ) (low high : ℕ) where
   taken-beyond n m l h e f = go (decLe high m)
     where
       go : Dec (high ≤ m) → taken (λ j. within low high j && v j) g m l ≡ taken (λ j. within low high j && v j) g n l
-      go (yes d) = taken-past (λ j. within low high j && v j) g n m l h (λ j a b. rw (le-ltb j high (omega (arith, e d)), and-none (leb low j)))
+      go (yes d) = taken-past (λ j. within low high j && v j) g n m l h (λ j a b. rw (le-ltb j high (omega (arith, e d)), and-false (leb low j)))
       go (no d) = let z : n ≡ m = omega (arith, f (omega arith)) in rw z
 
 pub from-low : (low m j : ℕ) → (low ≤ m → low ≤ j) → (m ≤ low → m ≤ j) → j < m → low ≤ j

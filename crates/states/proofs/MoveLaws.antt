@@ -1,6 +1,6 @@
 -- Stages 3 and 4 of the engine keep the relation with the step rules, at a movement and in any other tick. They stand on Told.
 use mathlib.Core.Path.{_≡_, refl, sym, _∙_}
-use mathlib.Core.Bool.{Bool, true, false, not, cond}
+use mathlib.Core.Bool.{Bool, true, false, not, cond, and-false, or-false}
 use mathlib.Core.List.{List, [], _++_}
 use Prim.Native.Nat.{ℕ, suc, _+_, _/_, _<_}
 use native.Mathlib.Omega.{arith}
@@ -13,13 +13,12 @@ use Rattle.register.proofs.Lists.{any-append}
 use Rattle.serving.specs.Stored.{Plain, Both}
 use Rattle.serving.specs.Stages.{noVotes, blankAs, turned, movedOn, stageFour}
 use Rattle.states.specs.State.{Votes, Rep}
-use Rattle.calendar.proofs.Laws.{and-none, or-none}
 use Rattle.states.proofs.Told.{Mid, End}
 
 module _ (P : Plan) (g : ℕ → ℕ) (m : ℕ) where
   no-votes : (l : List ℕ) → Votes P g m l [] noVotes
   unfolding has any
-  no-votes l j i h n = sym (and-none (ltb i (P .n)))
+  no-votes l j i h n = sym (and-false (ltb i (P .n)))
 
   moved-rep : (t : ℕ) (h : Bool) (x : Server) (s : Plain) → Rep P g m (suc t) x s → Rep P g m (suc t) (moved P t h x) (movedOn (eqb (kk P) 2) h t s)
   unfolding moved movedOn any
@@ -94,7 +93,7 @@ module _ (P : Plan) (g : ℕ → ℕ) (m : ℕ) where
       R = moved-rep t h (o .server) (q .server) (M .server)
 
       quiet-votes : (j : ℕ) → j < m → member (g j) (o .sent .votes) ≡ eqb j (q .said .wrote)
-      quiet-votes j l = M .sent .votes j l ∙ rw (M .quiet) (sym (or-none (eqb j (q .said .wrote))))
+      quiet-votes j l = M .sent .votes j l ∙ rw (M .quiet) (or-false (eqb j (q .said .wrote)))
 
       go : (e : Bool) → isCorrect (mb .status) ≡ e
           → End P g m t
@@ -118,7 +117,7 @@ module _ (P : Plan) (g : ℕ → ℕ) (m : ℕ) where
           let z : isCorrect (ms .status) ≡ false = rw (R .status) at y in
           record {
             server = R;
-            sent = record { votes = λ j l. quiet-votes j l ∙ rw z (or-none (eqb j (q .said .wrote))); readers = M .sent .readers; pairs = M .sent .pairs; short = M .sent .short; early = M .sent .early };
+            sent = record { votes = λ j l. quiet-votes j l ∙ rw z (sym (or-false (eqb j (q .said .wrote)))); readers = M .sent .readers; pairs = M .sent .pairs; short = M .sent .short; early = M .sent .early };
           }
 
   pub still-rep : (t b : ℕ) (o : Out) (q : Both) → T (not (isMove P t)) → Mid P g m t o q → End P g m t (stage4 P t (stage3 P t b o)) q

@@ -1,6 +1,6 @@
 -- What arrives is noted, and at the read's end all that it has noted is what the definitions say. It stands on ReplyLaws and on register's laws of claims.
 use mathlib.Core.Path.{_≡_, sym, ap, _∙_}
-use mathlib.Core.Bool.{Bool, true, false, _&&_, _||_, cond}
+use mathlib.Core.Bool.{Bool, true, false, _&&_, _||_, cond, or-comm}
 use mathlib.Core.Logic.{_⊎_, inl, inr}
 use mathlib.Core.List.{[], map}
 use Prim.Native.Nat.{ℕ, suc, _+_, _≤_, _<_}
@@ -11,7 +11,7 @@ use Rattle.register.specs.Plan.{Plan, Read, Forgery, readEnd}
 use Rattle.register.specs.Server.{Claim, claimOf, has}
 use Rattle.register.specs.Cluster.{Log, sentIn, cluster}
 use Rattle.register.specs.Reading.{sameRead, replyFrom as repliesFrom, forgedTo, noted, notedBy}
-use Rattle.register.proofs.Logic.{and-l, and-r, and-i, or-e, or-l, or-r, T-iff, or-comm}
+use Rattle.register.proofs.Logic.{and-l, and-r, and-i, or-e, or-l, or-r, T-iff}
 use Rattle.register.proofs.Lists.{in-filter, filter-in, in-map, map-in, any-in, in-any}
 use Rattle.register.proofs.Counting.{anyUpTo-e, anyUpTo-i}
 use Rattle.register.proofs.Good.{Good}

@@ -1,7 +1,7 @@
 -- The readers' part of State over one tick: what a reader has noted, what is under way to it after stages 1 to 4, and both after the reads of the
 -- tick have begun and its forged replies are posted. It stands on ReplyLaws.
 use mathlib.Core.Path.{_≡_, refl, sym, _∙_}
-use mathlib.Core.Bool.{Bool, true, false, not, _&&_, _||_}
+use mathlib.Core.Bool.{Bool, true, false, not, _&&_, _||_, and-false}
 use mathlib.Core.Logic.{_⊎_, inl, inr}
 use mathlib.Core.List.{List}
 use Prim.Native.Nat.{ℕ, suc, _+_, _-_, _%_, _≤_, _<_}
@@ -20,7 +20,6 @@ use Rattle.register.proofs.Trace.{end}
 use Rattle.calendar.specs.Bits.{bit}
 use Rattle.calendar.specs.Layout.{rows, places, rowOf, sender}
 use Rattle.calendar.specs.Posts.{among}
-use Rattle.calendar.proofs.Laws.{and-none}
 use Rattle.cluster.specs.declared.Cluster.{Cluster}
 use Rattle.cluster.specs.declared.Reader.{Reader}
 use Rattle.serving.specs.Bits.{sets}
@@ -131,7 +130,7 @@ module _ (P : Plan) (G : Good P) (F : Feed) (fit : Fits P (F .t) (F .plan) (F .r
 
   kept-open : (q : Read) → Open P t q → (s j i : ℕ) → t < s → s ≤ t + 16 → j < m → kept (q .reader) s j i ≡ (ltb i (P .n) && replyWay P L t q s (g j) i)
   kept-open q o s j i a b h = let k = K .readers q (o .listed) in elim (decLe (t + 16) s) [
-    | yes l ↦ rw (taken (q .reader) (k .0) (k .1) s a (omega arith), replies-far P G t q s (g j) i L (omega (arith, K .slow))) (sym (and-none (ltb i (P .n))))
+    | yes l ↦ rw (taken (q .reader) (k .0) (k .1) s a (omega arith), replies-far P G t q s (g j) i L (omega (arith, K .slow))) (sym (and-false (ltb i (P .n))))
     | no l ↦ rw (stays (q .reader) (k .0) (k .1) s a (omega arith)) (S .calendar .replies q o s j i (omega arith) (omega arith) h)
   ]
 
@@ -237,7 +236,7 @@ module _ (P : Plan) (G : Good P) (F : Feed) (fit : Fits P (F .t) (F .plan) (F .r
       where
         first : q .begun ≡ t → Dec (P .n ≤ i) → false ≡ (ltb i (P .n) && heardWay P M (suc t) q (g j) i)
         first e (yes l) = rw (le-ltb i (P .n) l)
-        first e (no l) = rw (heard-first P G t q (g j) i (omega arith) e) (sym (and-none (ltb i (P .n))))
+        first e (no l) = rw (heard-first P G t q (g j) i (omega arith) e) (sym (and-false (ltb i (P .n))))
 
         later : q .begun < t → Dec (P .n ≤ i) → (ltb i (P .n) && (heardWay P L t q (g j) i || replyWay P L t q t (g j) i)) ≡ (ltb i (P .n) && heardWay P M (suc t) q (g j) i)
         later b (yes l) = rw (le-ltb i (P .n) l)
@@ -286,5 +285,5 @@ module _ (P : Plan) (G : Good P) (F : Feed) (fit : Fits P (F .t) (F .plan) (F .r
         go : ((p : Read) × Open P t p × (p .reader ≡ q .reader)) ⊎ Idle P t (q .reader) → sender work (rowOf s (15 + q .reader)) j i ≡ false
         go (inl y) =
             let late : readEnd P (y .0) < s = omega (arith, o (y .0) (y .1 .listed) (y .2) (omega (arith, y .1 .begun))) in
-            rw (← y .2, cells-open (y .0) (y .1) s j i (omega arith) (omega arith) h, replies-over P t (y .0) s (g j) i L late, lt-leb s (readEnd P (y .0)) late) (and-none (ltb i (P .n)))
+            rw (← y .2, cells-open (y .0) (y .1) s j i (omega arith) (omega arith) h, replies-over P t (y .0) s (g j) i L late, lt-leb s (readEnd P (y .0)) late) (and-false (ltb i (P .n)))
         go (inr y) = cells-idle q l y s j i (omega arith) (omega arith) h

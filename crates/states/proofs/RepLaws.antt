@@ -1,7 +1,7 @@
 -- Stages 1 and 2 of the engine keep the relation with the step rules: what they make of a server that stands for the definitions' server
 -- stands for what the definitions make of it. Every quorate pair is genuine, and so a known one. It stands on Order, Settled and register's safety.
 use mathlib.Core.Path.{_≡_, refl, sym, ap, _∙_, fun-ext}
-use mathlib.Core.Bool.{Bool, true, false, not, _&&_, _||_, cond}
+use mathlib.Core.Bool.{Bool, true, false, not, _&&_, _||_, cond, and-false, or-false}
 use mathlib.Core.Logic.{inl, inr}
 use mathlib.Core.List.{List, [], _++_}
 use Prim.Native.Nat.{ℕ, zero, suc, _+_, _≤_, _<_}
@@ -28,7 +28,6 @@ use Rattle.states.specs.State.{Votes, Rep}
 use Rattle.serving.proofs.StageLaws.{write-kept}
 use Rattle.states.proofs.Told.{Mid, Came}
 use Rattle.calendar.specs.Layout.{depth}
-use Rattle.calendar.proofs.Laws.{and-none, or-none}
 use Rattle.states.proofs.Order.{by-number}
 use Rattle.cluster.proofs.Settled.{written-alike, new-before}
 
@@ -138,7 +137,7 @@ module _ (P : Plan) (G : Good P) (g : ℕ → ℕ) (m : ℕ) (K : Knows P g m) w
         and-true false = refl
 
         go : Dec (suc (r .begun) ≡ t) → any (sameRead r) (x .pending) || asks (r .reader) ≡ (s .pending (r .reader) && live (r .reader)) || asks (r .reader)
-        go (yes e) = rw (I .began r i e, R .unheard r i (omega arith), and-none (s .pending (r .reader)))
+        go (yes e) = rw (I .began r i e, R .unheard r i (omega arith), and-false (s .pending (r .reader)))
         go (no d) = rw (I .lasting r i (omega arith) u, R .heard r i (omega arith) (omega arith)) (ap (λ (b : Bool). b || asks (r .reader)) (and-true (s .pending (r .reader))))
 
     unlisted : (r : Read) → In r (P .reads) → t ≤ r .begun → any (sameRead r) (x .pending ++ rs) ≡ false
@@ -216,7 +215,7 @@ module _ (P : Plan) (G : Good P) (g : ℕ → ℕ) (m : ℕ) (K : Knows P g m) w
                 empty = λ y. absurd (T-not (isFaulty (x .status)) (rw (R .status, h) tt) y);
               };
               sent = record {
-                votes = λ j l. I .wrote j l ∙ or-none (eqb j w);
+                votes = λ j l. I .wrote j l ∙ sym (or-false (eqb j w));
                 readers = λ r i a b. rw (R .status, eqk h, R .kept)
                     (replies-rep r (isCorrect (s .status)) (sameList (s .kept) (taken (voting e q votes (s .old)) g m (withWrite g m w s .kept))) rs (x .pending ++ rs) asks lst
                     (I .asking r i a b) (list-rep r i a b));

@@ -1,7 +1,7 @@
 -- Replies under way by the step rules: none before the read's begin, and a tick adds what is sent in it. It stands on WayLaws' general laws and on
 -- register's laws of the log.
 use mathlib.Core.Path.{_≡_, refl, sym, _∙_}
-use mathlib.Core.Bool.{Bool, true, false, _&&_, _||_, cond}
+use mathlib.Core.Bool.{Bool, true, false, _&&_, _||_, cond, and-false, or-comm}
 use mathlib.Core.Logic.{inl, inr}
 use mathlib.Core.List.{List, [], _++_}
 use Prim.Native.Nat.{ℕ, zero, suc, _+_, _/_, _≤_, _<_}
@@ -14,12 +14,11 @@ use Rattle.register.specs.Plan.{Plan, Read, Forgery, isMove, readEnd}
 use Rattle.register.specs.Server.{isFaulty, isCorrect, curedAt, Server, Out, deliver, stage1, stage2, moved}
 use Rattle.register.specs.Cluster.{Log, sentIn, readsIn, cluster}
 use Rattle.register.specs.Reading.{sameRead}
-use Rattle.register.proofs.Logic.{and-l, and-r, cond-e, or-comm}
+use Rattle.register.proofs.Logic.{and-l, and-r, cond-e}
 use Rattle.register.proofs.Lists.{in-append, in-filter, any-in}
 use Rattle.register.proofs.Good.{Good}
 use Rattle.register.proofs.Trace.{before, delivered, mid, end, before-zero, before-suc, sent-row}
 use Rattle.register.proofs.Stages.{end-server, end-replies}
-use Rattle.calendar.proofs.Laws.{and-none}
 use Rattle.states.specs.Way.{forgedAs, replyFrom, replyWay, heardWay}
 use Rattle.states.proofs.WayLaws.{any-cong, none-up, none-any, any-or, before-next}
 
@@ -159,7 +158,7 @@ module _ (P : Plan) (G : Good P) where
   replies-later : (t : ℕ) (r : Read) (s p i : ℕ) → s ≤ t → repliesIn P t r s p i ≡ false
   unfolding repliesIn
   replies-later t r s p i h =
-      rw (ne-eqb (t + P .delay t i (P .n + r .reader)) s (λ e. omega (arith, G .delay-lo t i (P .n + r .reader))), and-none (any (sameRead r) (end P t i .sent .replyTo)))
+      rw (ne-eqb (t + P .delay t i (P .n + r .reader)) s (λ e. omega (arith, G .delay-lo t i (P .n + r .reader))), and-false (any (sameRead r) (end P t i .sent .replyTo)))
 
   forged-later : (t : ℕ) (r : Read) (s p i : ℕ) → s ≤ t → forgedNow P t r s p i ≡ false
   forged-later t r s p i h = none-any (λ x. eqb (x .at) t && forgedAs P s (P .n + r .reader) p i x) (P .forged) (λ x.
@@ -199,11 +198,11 @@ module _ (P : Plan) (G : Good P) where
         none-up t (λ u. replyFrom P (cluster P t .log) t r u s p i) (λ u a. rw (early t u i r l a (omega arith))),
         none-any (λ x. leb (r .begun) (x .at) && (ltb (x .at) t && forgedAs P s (P .n + r .reader) p i x)) (P .forged) forged,
       )
-      (and-none (leb s (readEnd P r)))
+      (and-false (leb s (readEnd P r)))
     where
       forged : (x : Forgery) → leb (r .begun) (x .at) && (ltb (x .at) t && forgedAs P s (P .n + r .reader) p i x) ≡ false
       forged x = elim (decLe t (x .at)) [
-        | yes a ↦ rw (le-ltb (x .at) t a) (and-none (leb (r .begun) (x .at)))
+        | yes a ↦ rw (le-ltb (x .at) t a) (and-false (leb (r .begun) (x .at)))
         | no a ↦ rw (lt-leb (r .begun) (x .at) (omega arith))
       ]
 
@@ -212,7 +211,7 @@ module _ (P : Plan) (G : Good P) where
       → replyWay P (cluster P (suc t) .log) (suc t) r s p i ≡ leb s (readEnd P r) && forgedNow P t r s p i
   unfolding repliesIn
   replies-first t r s p i l h =
-      rw (replies-next t r s p i l (omega arith), replies-none t r s p i l (omega arith), not-replied t i r l (omega arith), and-none (leb s (readEnd P r)))
+      rw (replies-next t r s p i l (omega arith), replies-none t r s p i l (omega arith), not-replied t i r l (omega arith), and-false (leb s (readEnd P r)))
 
   pub heard-first : (t : ℕ) (r : Read) (p i : ℕ) → i < P .n → r .begun ≡ t → heardWay P (cluster P (suc t) .log) (suc t) r p i ≡ false
   unfolding heardWay
@@ -231,14 +230,14 @@ module _ (P : Plan) (G : Good P) where
   replies-far t r s p i log h =
       rw (
         none-up t (λ u. replyFrom P log t r u s p i) (λ u l.
-            rw (ne-eqb (u + P .delay u i (P .n + r .reader)) s (λ e. omega (arith, G .delay-hi u i (P .n + r .reader))), and-none (any (sameRead r) (sentIn log u i .replyTo)))),
+            rw (ne-eqb (u + P .delay u i (P .n + r .reader)) s (λ e. omega (arith, G .delay-hi u i (P .n + r .reader))), and-false (any (sameRead r) (sentIn log u i .replyTo)))),
         none-any (λ x. leb (r .begun) (x .at) && (ltb (x .at) t && forgedAs P s (P .n + r .reader) p i x)) (P .forged) late,
       )
-      (and-none (leb s (readEnd P r)))
+      (and-false (leb s (readEnd P r)))
     where
       late : (x : Forgery) → leb (r .begun) (x .at) && (ltb (x .at) t && forgedAs P s (P .n + r .reader) p i x) ≡ false
       late x = rw (never (ltb (x .at) t && forgedAs P s (P .n + r .reader) p i x) (λ y.
           let a = and-l (ltb (x .at) t) (forgedAs P s (P .n + r .reader) p i x) y in
           let f = and-r (ltb (x .at) t) (forgedAs P s (P .n + r .reader) p i x) y in
           omega (arith, ltb→lt (x .at) t a, arrives s (P .n + r .reader) p i x f, G .delay-hi (x .at) (x .from) (x .to))))
-          (and-none (leb (r .begun) (x .at)))
+          (and-false (leb (r .begun) (x .at)))

@@ -1,6 +1,6 @@
 -- The reads of one reader, and the readers' rows: where they stand, and what a server sends to them.
 use mathlib.Core.Path.{_≡_, refl, sym}
-use mathlib.Core.Bool.{Bool, true, false, not, _&&_}
+use mathlib.Core.Bool.{Bool, true, false, not, _&&_, and-false}
 use mathlib.Core.Logic.{_⊎_, inl, inr}
 use mathlib.Core.List.{List}
 use Prim.Native.Nat.{ℕ, _+_, _-_, _/_, _%_, _≤_, _<_}
@@ -16,7 +16,6 @@ use Rattle.register.proofs.Lists.{any-in, in-any}
 use Rattle.calendar.specs.Bits.{bit}
 use Rattle.calendar.specs.Layout.{receivers, rows, rowOf}
 use Rattle.calendar.specs.Posts.{among}
-use Rattle.calendar.proofs.Laws.{and-none}
 use Rattle.cluster.specs.declared.Reader.{Reader}
 use Rattle.serving.specs.declared.Links.{Links}
 use Rattle.serving.specs.declared.Row.{Row}
@@ -96,8 +95,8 @@ module _ (s y : ℕ) (lo : 1 ≤ y) (hi : y ≤ 4) where
         turn false false h = refl
 
         none : (r e e' : Bool) → r && (e && false) ≡ e' && ((r && false) && among (row .kept) j)
-        none true e e' = rw (and-none e, and-none e')
-        none false e e' = sym (and-none e')
+        none true e e' = rw (and-false e, and-false e')
+        none false e e' = sym (and-false e')
 
         go : (b : Bool) → eqb (t + d) s ≡ b → bit y (row .readers) && (leb (t + d) (getD ends (y - 1) 0) && (b && among (row .kept) j))
             ≡ leb s (getD ends (y - 1) 0) && ((bit y (row .readers) && b) && among (row .kept) j)

@@ -2,7 +2,7 @@
 -- and with the forged votes of the tick the calendar has the votes under way. It stands on RepLaws, MoveLaws, WayLaws and register's safety; the
 -- bound on n is not used.
 use mathlib.Core.Path.{_≡_, refl, sym, ap, _∙_}
-use mathlib.Core.Bool.{Bool, true, false, not, _&&_, _||_, cond}
+use mathlib.Core.Bool.{Bool, true, false, not, _&&_, _||_, cond, or-false}
 use mathlib.Core.Logic.{inl, inr}
 use mathlib.Core.List.{List, [], _∷_, _++_}
 use Prim.Native.Nat.{ℕ, zero, suc, _+_, _-_, _/_, _%_, _≤_, _<_}
@@ -27,7 +27,6 @@ use Rattle.calendar.specs.declared.Stamped.{Stamped}
 use Rattle.calendar.specs.Bits.{bit}
 use Rattle.calendar.specs.Layout.{receivers, rows, depth, rowOf, sender}
 use Rattle.calendar.specs.Posts.{vacant, amongFirst, among}
-use Rattle.calendar.proofs.Laws.{or-none}
 use Rattle.cluster.specs.declared.Cluster.{Cluster}
 use Rattle.serving.specs.declared.Rules.{Rules}
 use Rattle.serving.specs.Links.{delayAt}
@@ -224,7 +223,7 @@ module _ (P : Plan) (G : Good P) (F : Feed) (fit : Fits P (F .t) (F .plan) (F .r
     unfolding sendsVote sendsReply
     sent-is i li =
         rw (row-receiver s b few, row-slot s b few, fit .n, lt-ltb b (P .n) lb, lt-leb 16 b (omega (arith, K .servers)), voted-is i li j h)
-        (sym (or-none _) ∙ go (ℕ-discrete i b))
+        (or-false _ ∙ go (ℕ-discrete i b))
       where
         go : Dec (i ≡ b) → not (eqb b i) && (eqb ((t + delayAt (F .plan) (F .links) t i b) % 16) (s % 16) && member (g j) (end P t i .sent .votes))
             ≡ (not (eqb i b) && eqb (t + P .delay t i b) s) && member (g j) (end P t i .sent .votes)

@@ -1,7 +1,7 @@
 -- Votes under way by the step rules: those for the present tick are all that arrive, a tick adds what is sent in it, and none is under way for
 -- longer than the slowest delay. It stands on register's laws of claims and of the log.
 use mathlib.Core.Path.{_≡_, refl, sym, ap, _∙_}
-use mathlib.Core.Bool.{Bool, true, false, not, _&&_, _||_, cond}
+use mathlib.Core.Bool.{Bool, true, false, not, _&&_, _||_, cond, and-false, or-false}
 use mathlib.Core.List.{List, [], _∷_, map}
 use Prim.Native.Nat.{ℕ, zero, suc, _+_, _/_, _%_, _≤_, _<_}
 use native.Mathlib.Omega.{arith}
@@ -18,7 +18,6 @@ use Rattle.register.proofs.Good.{Good}
 use Rattle.register.proofs.Claims.{has-nil, has-append, has-claims, has-flat}
 use Rattle.register.proofs.Trace.{end, sent-row}
 use Rattle.calendar.specs.Layout.{receivers, rowOf}
-use Rattle.calendar.proofs.Laws.{and-none, or-none}
 use Rattle.states.specs.Way.{forgedAs, voteFrom, voteWay}
 
 -- ---- tests over lists and numbers
@@ -68,7 +67,7 @@ before-next a t b = go (decLe a t) (ℕ-discrete a t)
   where
     go : Dec (a ≤ t) → Dec (a ≡ t) → ltb a (suc t) && b ≡ (ltb a t && b) || (eqb a t && b)
     go (yes l) (yes e) = rw (lt-ltb a (suc t) (omega arith), le-ltb a t (omega arith), eq-eqb a t e)
-    go (yes l) (no d) = rw (lt-ltb a (suc t) (omega arith), lt-ltb a t (omega arith), ne-eqb a t d) (or-none b)
+    go (yes l) (no d) = rw (lt-ltb a (suc t) (omega arith), lt-ltb a t (omega arith), ne-eqb a t d) (sym (or-false b))
     go (no l) e = rw (le-ltb a (suc t) (omega arith), le-ltb a t (omega arith), ne-eqb a t (λ q. omega arith))
 
 -- ---- slots of the calendar
@@ -117,7 +116,7 @@ module _ (P : Plan) (G : Good P) where
     where
       go : Dec (x .at + P .delay (x .at) (x .from) (x .to) ≡ t) → forgedAs P t b p i x ≡ ltb (x .at) t && forgedAs P t b p i x
       go (yes e) = rw (lt-ltb (x .at) t (omega (arith, G .delay-lo (x .at) (x .from) (x .to))))
-      go (no d) = rw (ne-eqb (x .at + P .delay (x .at) (x .from) (x .to)) t d, and-none (eqb (x .to) b)) (sym (and-none (ltb (x .at) t)))
+      go (no d) = rw (ne-eqb (x .at + P .delay (x .at) (x .from) (x .to)) t d, and-false (eqb (x .to) b)) (sym (and-false (ltb (x .at) t)))
 
   module _ (t b p i : ℕ) where
     abbrev named : Claim → Bool
@@ -184,11 +183,11 @@ module _ (P : Plan) (G : Good P) where
   pub votes-far : (t s b p i : ℕ) (log : Log) → t + P .delta ≤ s → voteWay P log t s b p i ≡ false
   unfolding voteWay
   votes-far t s b p i log h =
-      rw (none-up t (λ u. voteFrom P log t u s b p i) (λ u l. rw (ne-eqb (u + P .delay u i b) s (λ e. omega (arith, G .delay-hi u i b)), and-none (not (eqb i b)))))
+      rw (none-up t (λ u. voteFrom P log t u s b p i) (λ u l. rw (ne-eqb (u + P .delay u i b) s (λ e. omega (arith, G .delay-hi u i b)), and-false (not (eqb i b)))))
       (none-any (λ x. ltb (x .at) t && forgedAs P s b p i x) (P .forged) late)
     where
       late : (x : Forgery) → ltb (x .at) t && forgedAs P s b p i x ≡ false
       late x = elim (decLe t (x .at)) [
         | yes q ↦ rw (le-ltb (x .at) t q)
-        | no q ↦ rw (lt-ltb (x .at) t (omega arith), ne-eqb (x .at + P .delay (x .at) (x .from) (x .to)) s (λ e. omega (arith, G .delay-hi (x .at) (x .from) (x .to)))) (and-none (eqb (x .to) b))
+        | no q ↦ rw (lt-ltb (x .at) t (omega arith), ne-eqb (x .at + P .delay (x .at) (x .from) (x .to)) s (λ e. omega (arith, G .delay-hi (x .at) (x .from) (x .to)))) (and-false (eqb (x .to) b))
       ]

@@ -1,10 +1,9 @@
 -- `post` meets its contract: a pair that is not a known one is in no cell.
-use mathlib.Core.Path.{_≡_}
+use mathlib.Core.Bool.{and-false}
 use native.Mathlib.Omega.{arith}
 use lib.Dec.{eqb}
 use borrow.Author.Needs.{needs}
 use borrow.Author.Tests.{ne-eqb}
-use Rattle.calendar.proofs.Laws.{and-none}
 use Rattle.calendar.proofs.Posting.{added, posted-one, posted-none}
 use Rattle.calendar.proofs.post.Statement.{statement}
 use Rattle.calendar.proofs.post.Tie as tie
@@ -12,7 +11,7 @@ use Rattle.calendar.proofs.post.Tie as tie
 returns : tie.Need-returns
 returns c =
     let a = c .before .before .args in
-    posted-none (a .work .now) _ (λ x y k l h. rw (ne-eqb y (a .j) (λ e. omega (arith, c .if1 .taken)), and-none (eqb k (a .i))) (and-none (eqb x (a .row))))
+    posted-none (a .work .now) _ (λ x y k l h. rw (ne-eqb y (a .j) (λ e. omega (arith, c .if1 .taken)), and-false (eqb k (a .i))) (and-false (eqb x (a .row))))
 
 cell-requires : tie.Need-cell-requires
 cell-requires c κs = search needs

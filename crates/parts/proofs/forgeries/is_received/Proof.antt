@@ -1,12 +1,11 @@
 -- `forgeries::is_received` meets its contract: past the table no read is open.
-use mathlib.Core.Bool.{false, not}
+use mathlib.Core.Bool.{false, not, or-false}
 use mathlib.Core.Path.{sym}
 use native.Mathlib.Omega.{arith}
 use lib.Dec.{eqb}
 use lib.ListN.{List·getD-eq-default}
 use borrow.Author.Tests.{lt-ltb, le-ltb, lt-leb, le-leb}
 use denote.Ref.{now}
-use Rattle.plan.proofs.Laws.{or-false}
 use Rattle.parts.proofs.forgeries.is_received.Statement.{statement}
 use Rattle.parts.proofs.forgeries.is_received.Tie as tie
 

@@ -1,6 +1,5 @@
 -- `Server::vote` meets its contract.
-use mathlib.Core.Path.{_≡_, refl, sym, _∙_}
-use mathlib.Core.Bool.{true, false}
+use mathlib.Core.Path.{refl, sym, _∙_}
 use borrow.Author.Needs.{needs}
 use Rattle.serving.proofs.StageLaws.{votes-lost, votes-noted}
 use Rattle.serving.proofs.Server.vote.Statement.{statement}

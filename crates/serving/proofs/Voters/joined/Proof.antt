@@ -4,7 +4,7 @@ use Prim.Native.Nat.{_≤_, _<_, _-_}
 use native.Mathlib.Omega.{arith}
 use lib.ListN.{length}
 use borrow.Author.Needs.{needs}
-use Rattle.calendar.specs.Layout.{rows, places, calendarSize, lowOf, highOf}
+use Rattle.calendar.specs.Layout.{rows, calendarSize, lowOf, highOf}
 use Rattle.serving.proofs.Sizes.{most-length}
 use Rattle.serving.proofs.SetLaws.{Joining, joining-none, joining-more, voters-more, voters-same}
 use Rattle.serving.proofs.Voters.joined.Statement.{statement}

@@ -1,8 +1,6 @@
 -- `delays::delay` meets its contract: the four bits lie in the plan, and their place is small.
 use borrow.Author.Needs.{needs}
-use mathlib.Core.Path.{sym, _∙_, ap}
 use native.Mathlib.Omega.{arith}
-use Rattle.bits.specs.Field.{fieldOf}
 use Rattle.serving.proofs.delays.delay.Statement.{statement}
 use Rattle.serving.proofs.delays.delay.Tie as tie
 use Rattle.serving.proofs.SendLaws.{parties-few, link-at, link-small, link-inside}

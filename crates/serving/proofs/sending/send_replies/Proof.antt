@@ -3,7 +3,7 @@ use borrow.Author.Needs.{needs}
 use native.Mathlib.Omega.{arith}
 use mathlib.Core.Path.{_≡_}
 use mathlib.Core.Logic.{inl, inr}
-use Prim.Native.Nat.{_-_, _≤_, _<_}
+use Prim.Native.Nat.{_-_, _≤_}
 use Rattle.calendar.specs.View.{Posted}
 use Rattle.serving.proofs.SendLaws.{repliesBelow, replying, replies-first, replies-unasked, replies-absent, replies-late, replies-sent, replies-last}
 use Rattle.serving.proofs.sending.send_replies.Statement.{statement}

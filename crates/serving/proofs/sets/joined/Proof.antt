@@ -3,10 +3,8 @@ use mathlib.Core.Path.{_≡_}
 use Prim.Native.Nat.{_≤_, _<_, _-_}
 use native.Mathlib.Omega.{arith}
 use lib.ListN.{length}
-use denote.Ref.{now}
 use borrow.Author.Needs.{needs}
 use Rattle.calendar.specs.Layout.{rows, places, calendarSize, lowOf, highOf}
-use Rattle.calendar.specs.View.{Spanned}
 use Rattle.serving.proofs.SetLaws.{Joining, joining-none, joining-more, joined-all}
 use Rattle.serving.proofs.sets.joined.Statement.{statement}
 use Rattle.serving.proofs.sets.joined.Tie as tie

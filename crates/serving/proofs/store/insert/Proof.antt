@@ -1,5 +1,5 @@
 -- `store::insert` meets its contract. The loop's invariant: every place before i is higher than the pair's.
-use mathlib.Core.Path.{_≡_, sym, _∙_}
+use mathlib.Core.Path.{_≡_}
 use Prim.Native.Nat.{_≤_, _<_, _-_}
 use native.Mathlib.Omega.{arith}
 use lib.ListN.{length}

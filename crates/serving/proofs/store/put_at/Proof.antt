@@ -1,5 +1,5 @@
 -- `store::put_at` meets its contract. The loop's invariant: with what is carried put before place i the places are what they have to be.
-use mathlib.Core.Path.{_≡_, refl, sym, _∙_}
+use mathlib.Core.Path.{_≡_, refl, _∙_}
 use Prim.Native.Nat.{_≤_, _-_}
 use native.Mathlib.Omega.{arith}
 use lib.ListN.{length, length-set}
