@@ -59,8 +59,8 @@ module _ (a r : List ℕ) (row m : ℕ) (h : m ≤ places) (C : Cleared a r row)
 pub row-small : (t b : ℕ) → b < receivers → rowOf t b < rows
 row-small t b h = omega arith
 
-pub row-tick : (t b : ℕ) → b < receivers → rowOf t b / receivers ≡ t % 16
-row-tick t b h = omega arith
+pub row-slot : (t b : ℕ) → b < receivers → rowOf t b / receivers ≡ t % 16
+row-slot t b h = omega arith
 
 pub row-receiver : (t b : ℕ) → b < receivers → rowOf t b % receivers ≡ b
 row-receiver t b h = omega arith

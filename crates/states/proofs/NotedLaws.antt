@@ -13,11 +13,11 @@ use Rattle.register.specs.Cluster.{Log, sentIn, cluster}
 use Rattle.register.specs.Reading.{sameRead, replyFrom as repliesFrom, forgedTo, noted, notedBy}
 use Rattle.register.proofs.Logic.{and-l, and-r, and-i, or-e, or-l, or-r, T-iff}
 use Rattle.register.proofs.Lists.{in-filter, filter-in, in-map, map-in, any-in, in-any}
-use Rattle.register.proofs.Counting.{anyUpTo-e, anyUpTo-i}
+use Rattle.register.proofs.Counting.{anyUpTo-e, anyUpTo-i, any-cong}
 use Rattle.register.proofs.Good.{Good}
 use Rattle.register.proofs.Claims.{has-in, in-has, has-nil, has-append, has-claims, has-flat}
 use Rattle.states.specs.Way.{forgedAs, replyFrom, replyWay, heardWay}
-use Rattle.states.proofs.WayLaws.{any-cong, any-one}
+use Rattle.states.proofs.WayLaws.{any-one}
 
 module _ (P : Plan) (r : Read) (log : Log) where
   -- server i's reply of tick u arrives by the read's end

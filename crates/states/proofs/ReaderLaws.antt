@@ -1,7 +1,7 @@
 -- The readers' part of State over one tick: what a reader has noted, what is under way to it after stages 1 to 4, and both after the reads of the
 -- tick have begun and its forged replies are posted. It stands on ReplyLaws.
-use mathlib.Core.Path.{_≡_, refl, sym, _∙_}
-use mathlib.Core.Bool.{Bool, true, false, not, _&&_, _||_, and-false}
+use mathlib.Core.Path.{_≡_, sym, _∙_}
+use mathlib.Core.Bool.{Bool, true, false, not, _&&_, _||_, and-false, and-or-distrib-left}
 use mathlib.Core.Logic.{_⊎_, inl, inr}
 use mathlib.Core.List.{List}
 use Prim.Native.Nat.{ℕ, suc, _+_, _-_, _%_, _≤_, _<_}
@@ -82,10 +82,6 @@ module _ (P : Plan) (G : Good P) (F : Feed) (fit : Fits P (F .t) (F .plan) (F .r
   abbrev new : ℕ → Reader
   new x = getD (r .readers) (x - 1) noReader
 
-  join : (l a b : Bool) → (l && a) || (l && b) ≡ l && (a || b)
-  join true a b = refl
-  join false a b = refl
-
   module _ (x : ℕ) (lo : 1 ≤ x) (hi : x ≤ 4) where
     pub end-same : new x .end ≡ old x .end
     end-same = D .heard .each (x - 1) (omega arith) .end
@@ -102,7 +98,7 @@ module _ (P : Plan) (G : Good P) (F : Feed) (fit : Fits P (F .t) (F .plan) (F .r
       let k = K .readers q (o .listed) in
       named-more (q .reader) (k .0) (k .1) j i h
       ∙ rw (S .readers .named q o j i h, S .calendar .replies q o t j i (omega arith) (omega arith) h)
-      (join (ltb i (P .n)) (heardWay P L t q (g j) i) (replyWay P L t q t (g j) i))
+      (sym (and-or-distrib-left (ltb i (P .n)) (heardWay P L t q (g j) i) (replyWay P L t q t (g j) i)))
 
   -- at its end, all that it has noted
   pub noted-end : (q : Read) → In q (P .reads) → t ≡ readEnd P q → (j i : ℕ) → j < m → sets (new (q .reader) .named) j i ≡ (ltb i (P .n) && has (notedBy P q) (g j) i)
@@ -276,7 +272,7 @@ module _ (P : Plan) (G : Good P) (F : Feed) (fit : Fits P (F .t) (F .plan) (F .r
 
         later : q .begun < t → Dec (P .n ≤ i) → (ltb i (P .n) && (replyWay P L t q s (g j) i || sent)) || (ltb i (P .n) && forged) ≡ (ltb i (P .n) && replyWay P M (suc t) q s (g j) i)
         later b (yes l) = rw (le-ltb i (P .n) l)
-        later b (no l) = rw (replies-next P G t q s (g j) i (omega arith) (omega arith)) (join (ltb i (P .n)) (replyWay P L t q s (g j) i || sent) forged)
+        later b (no l) = rw (replies-next P G t q s (g j) i (omega arith) (omega arith)) (sym (and-or-distrib-left (ltb i (P .n)) (replyWay P L t q s (g j) i || sent) forged))
 
     pub none-next : (q : Read) → In q (P .reads) → Idle P (suc t) (q .reader) → (s j i : ℕ) → suc t ≤ s → s < suc t + 16 → j < m → sender then (rowOf s (15 + q .reader)) j i ≡ false
     none-next q l o s j i a b h =

@@ -1,7 +1,7 @@
 -- Stages 1 and 2 of the engine keep the relation with the step rules: what they make of a server that stands for the definitions' server
 -- stands for what the definitions make of it. Every quorate pair is genuine, and so a known one. It stands on Order, Settled and register's safety.
 use mathlib.Core.Path.{_≡_, refl, sym, ap, _∙_, fun-ext}
-use mathlib.Core.Bool.{Bool, true, false, not, _&&_, _||_, cond, and-false, or-false}
+use mathlib.Core.Bool.{Bool, true, false, not, _&&_, _||_, cond, and-false, or-false, and-true, and-or-distrib-left}
 use mathlib.Core.Logic.{inl, inr}
 use mathlib.Core.List.{List, [], _++_}
 use Prim.Native.Nat.{ℕ, zero, suc, _+_, _≤_, _<_}
@@ -48,10 +48,6 @@ count-cut p n (suc k) h = go (decLe n k) (λ l. count-cut p n k l)
     go (yes l) ih = rw (le-ltb k n l) (omega (arith, ih l))
     go (no l) ih = let e : n ≡ suc k = omega arith in rw e (count-in p (suc k) (suc k) (omega arith))
 
-both-in : (a b c : Bool) → (a && b) || (a && c) ≡ a && (b || c)
-both-in true b c = refl
-both-in false b c = refl
-
 module _ (P : Plan) (G : Good P) (g : ℕ → ℕ) (m : ℕ) (K : Knows P g m) where
   -- a genuine pair has a number
   pub genuine-known : (t p : ℕ) → Genuine P t p → (j : ℕ) × (j < m) × (p ≡ g j)
@@ -67,7 +63,7 @@ module _ (P : Plan) (G : Good P) (g : ℕ → ℕ) (m : ℕ) (K : Knows P g m) w
   quorate-is fresh old f o p hf ho =
       let a : count f 16 ≡ count (λ i. has fresh p i) (P .n) = ap (λ (q : ℕ → Bool). count q 16) (fun-ext hf) ∙ count-cut (λ i. has fresh p i) (P .n) 16 (K .servers) in
       let b : count (λ i. f i || o i) 16 ≡ count (λ i. has fresh p i || has old p i) (P .n) =
-      ap (λ (q : ℕ → Bool). count q 16) (fun-ext (λ i. rw (hf i, ho i) (both-in (ltb i (P .n)) (has fresh p i) (has old p i)))) ∙ count-cut (λ i. has fresh p i || has old p i) (P .n) 16 (K .servers) in
+      ap (λ (q : ℕ → Bool). count q 16) (fun-ext (λ i. rw (hf i, ho i) (sym (and-or-distrib-left (ltb i (P .n)) (has fresh p i) (has old p i))))) ∙ count-cut (λ i. has fresh p i || has old p i) (P .n) 16 (K .servers) in
       rw (a, b)
 
   -- what is taken in
@@ -132,13 +128,9 @@ module _ (P : Plan) (G : Good P) (g : ℕ → ℕ) (m : ℕ) (K : Knows P g m) w
         → any (sameRead r) (x .pending ++ rs) ≡ (s .pending (r .reader) && live (r .reader)) || asks (r .reader)
     list-rep r i l u = any-append (sameRead r) (x .pending) rs ∙ rw (I .asking r i l u) (go (ℕ-discrete (suc (r .begun)) t))
       where
-        and-true : (a : Bool) → a ≡ a && true
-        and-true true = refl
-        and-true false = refl
-
         go : Dec (suc (r .begun) ≡ t) → any (sameRead r) (x .pending) || asks (r .reader) ≡ (s .pending (r .reader) && live (r .reader)) || asks (r .reader)
         go (yes e) = rw (I .began r i e, R .unheard r i (omega arith), and-false (s .pending (r .reader)))
-        go (no d) = rw (I .lasting r i (omega arith) u, R .heard r i (omega arith) (omega arith)) (ap (λ (b : Bool). b || asks (r .reader)) (and-true (s .pending (r .reader))))
+        go (no d) = rw (I .lasting r i (omega arith) u, R .heard r i (omega arith) (omega arith)) (ap (λ (b : Bool). b || asks (r .reader)) (sym (and-true (s .pending (r .reader)))))
 
     unlisted : (r : Read) → In r (P .reads) → t ≤ r .begun → any (sameRead r) (x .pending ++ rs) ≡ false
     unlisted r i a = any-append (sameRead r) (x .pending) rs ∙ rw (R .unheard r i (omega arith)) (I .later r i a)

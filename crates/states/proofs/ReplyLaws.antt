@@ -1,7 +1,7 @@
 -- Replies under way by the step rules: none before the read's begin, and a tick adds what is sent in it. It stands on WayLaws' general laws and on
 -- register's laws of the log.
-use mathlib.Core.Path.{_≡_, refl, sym, _∙_}
-use mathlib.Core.Bool.{Bool, true, false, _&&_, _||_, cond, and-false, or-comm}
+use mathlib.Core.Path.{_≡_, refl}
+use mathlib.Core.Bool.{Bool, true, false, _&&_, _||_, cond, and-false, or-comm, false≢true}
 use mathlib.Core.Logic.{inl, inr}
 use mathlib.Core.List.{List, [], _++_}
 use Prim.Native.Nat.{ℕ, zero, suc, _+_, _/_, _≤_, _<_}
@@ -17,10 +17,11 @@ use Rattle.register.specs.Reading.{sameRead}
 use Rattle.register.proofs.Logic.{and-l, and-r, cond-e}
 use Rattle.register.proofs.Lists.{in-append, in-filter, any-in}
 use Rattle.register.proofs.Good.{Good}
-use Rattle.register.proofs.Trace.{before, delivered, mid, end, before-zero, before-suc, sent-row}
+use Rattle.register.proofs.Trace.{before, delivered, mid, end, before-zero, before-suc, sent-row, row-kept}
 use Rattle.register.proofs.Stages.{end-server, end-replies}
+use Rattle.register.proofs.Counting.{any-cong}
 use Rattle.states.specs.Way.{forgedAs, replyFrom, replyWay, heardWay}
-use Rattle.states.proofs.WayLaws.{any-cong, none-up, none-any, any-or, before-next}
+use Rattle.states.proofs.WayLaws.{none-up, none-any, any-or, before-next}
 
 never : (b : Bool) → (T b → ⊥) → b ≡ false
 never true f = absurd (f tt)
@@ -117,20 +118,14 @@ module _ (P : Plan) (G : Good P) where
         any-or (λ x. leb (r .begun) (x .at) && (ltb (x .at) (suc t) && forgedAs P s (P .n + r .reader) p i x))
             (λ x. leb (r .begun) (x .at) && (ltb (x .at) t && forgedAs P s (P .n + r .reader) p i x))
             (λ x. eqb (x .at) t && forgedAs P s (P .n + r .reader) p i x) (P .forged) forged,
-        any-cong t (λ u. replyFrom P (cluster P (suc t) .log) (suc t) r u s p i) (λ u. replyFrom P (cluster P t .log) t r u s p i) (λ u a. rw (same u a)),
+        any-cong t (λ u. replyFrom P (cluster P (suc t) .log) (suc t) r u s p i) (λ u. replyFrom P (cluster P t .log) t r u s p i) (λ u a. rw (row-kept P t u i a)),
         sent-row P (suc t) t i l (omega arith),
       )
       (turn (leb s (readEnd P r)) _ (anyUpTo t (λ u. replyFrom P (cluster P t .log) t r u s p i)) _ _)
     where
-      same : (u : ℕ) → u < t → sentIn (cluster P (suc t) .log) u i ≡ sentIn (cluster P t .log) u i
-      same u a = sent-row P (suc t) u i l (omega arith) ∙ sym (sent-row P t u i l a)
-
       both : (a b c d : Bool) → (T c → a ≡ true) → a && (b || c && d) ≡ (a && b) || (c && d)
       both true b c d e = refl
-      both false b true d e = absurd (eq-no (e tt))
-        where
-          eq-no : false ≡ true → ⊥
-          eq-no q = let z : _≡_ {A = ℕ} 0 1 = cc in omega arith
+      both false b true d e = absurd (false≢true (e tt))
       both false b false d e = refl
 
       forged : (x : Forgery) → leb (r .begun) (x .at) && (ltb (x .at) (suc t) && forgedAs P s (P .n + r .reader) p i x)

@@ -6,7 +6,7 @@ use mathlib.Core.List.{List}
 use Prim.Native.Nat.{ℕ, _+_, _-_, _/_, _%_, _≤_, _<_}
 use native.Mathlib.Omega.{arith}
 use native.Mathlib.Decide.{decLe}
-use lib.Dec.{T, eqb, leb, ltb, eqb→eq, eqb-refl, leb→le, le→leb, ltb→lt, lt→ltb}
+use lib.Dec.{T, eqb, leb, ltb, eqb→eq, eqb-refl, leb→le, le→leb, ltb→lt, lt→ltb, T-not}
 use lib.ListN.{getD, List·getD-map}
 use borrow.Author.Tests.{lt-ltb, le-ltb, le-leb, eqb-true}
 use Rattle.register.specs.Lists.{any}
@@ -16,6 +16,7 @@ use Rattle.register.proofs.Lists.{any-in, in-any}
 use Rattle.calendar.specs.Bits.{bit}
 use Rattle.calendar.specs.Layout.{receivers, rows, rowOf}
 use Rattle.calendar.specs.Posts.{among}
+use Rattle.calendar.proofs.Spans.{row-receiver, row-slot}
 use Rattle.cluster.specs.declared.Reader.{Reader}
 use Rattle.serving.specs.declared.Links.{Links}
 use Rattle.serving.specs.declared.Row.{Row}
@@ -23,7 +24,7 @@ use Rattle.serving.specs.Links.{delayAt}
 use Rattle.serving.specs.Sends.{sendsVote, sendsReply}
 use Rattle.cluster.specs.Tick.{noReader, endsOf}
 use Rattle.states.specs.State.{Open, Idle}
-use Rattle.states.proofs.WayLaws.{slot-is, row-receiver, row-slot}
+use Rattle.states.proofs.WayLaws.{slot-is}
 
 -- ---- reads of one reader
 
@@ -51,14 +52,10 @@ module _ (P : Plan) (t : ℕ) where
           )
       go (inr h) = inr (λ r i e b. elim (decLe t (readEnd P r)) [
         | no l ↦ omega arith
-        | yes l ↦ absurd (no-test (any isOpen (P .reads)) h (in-any isOpen r (P .reads) i
+        | yes l ↦ absurd (T-not (any isOpen (P .reads)) h (in-any isOpen r (P .reads) i
             (and-i (eqb (r .reader) x) (ltb (r .begun) t && leb t (readEnd P r)) (rw e (eqb-refl x))
             (and-i (ltb (r .begun) t) (leb t (readEnd P r)) (lt→ltb (r .begun) t b) (le→leb t (readEnd P r) l)))))
       ])
-        where
-          no-test : (b : Bool) → T (not b) → T b → ⊥
-          no-test true f h = f
-          no-test false f h = h
 
 -- ---- rows of the readers
 

@@ -1,7 +1,7 @@
 -- A tick of the engine is a tick of the cluster: State before tick t and what the tick is fed give State before tick t + 1, and at the start State
 -- holds. It stands on VoteLaws and ReaderLaws; the bound on n is not used.
 use mathlib.Core.Path.{_≡_, refl, sym, ap, _∙_, subst}
-use mathlib.Core.Bool.{Bool, true, false, _&&_, _||_, and-false}
+use mathlib.Core.Bool.{Bool, false, _&&_, _||_, and-false}
 use mathlib.Core.List.{List, [], _∷_}
 use Prim.Native.Nat.{ℕ, suc, _+_, _-_, _≤_, _<_}
 use native.Mathlib.Omega.{arith}
@@ -17,6 +17,7 @@ use Rattle.register.proofs.Good.{Good}
 use Rattle.register.proofs.Trace.{before, before-zero}
 use Rattle.calendar.specs.Layout.{rows, places, rowOf, sender}
 use Rattle.calendar.specs.View.{Spanned, Empty}
+use Rattle.calendar.proofs.Spans.{empty-spanned}
 use Rattle.cluster.specs.declared.Cluster.{Cluster}
 use Rattle.cluster.specs.declared.Reader.{Reader}
 use Rattle.serving.specs.Bits.{sets}
@@ -110,7 +111,7 @@ first-state P g m v K e c work S E = record {
         ∙ rw (none-any (λ x. ltb (x .at) 0 && forgedAs P s b (g j) i x) (P .forged) (λ x. rw (le-ltb (x .at) 0 (omega arith)))) (nobody i);
     replies = λ r o. absurd (omega (arith, o .begun));
     none = λ r l o s j i a z h. let k = K .readers r l in E .cells (rowOf s (15 + r .reader)) j i (omega arith) (omega (arith, K .few));
-    spans = record { top = λ x l. rw (E .high x l) (omega arith); within = λ x j i l h y. absurd (never (sym (E .cells x j i l h) ∙ y)) };
+    spans = empty-spanned work places E;
   };
   readers = record {
     size = S .readers;
@@ -122,6 +123,3 @@ first-state P g m v K e c work S E = record {
   where
     nobody : (i : ℕ) → false ≡ (ltb i (P .n) && false)
     nobody i = sym (and-false (ltb i (P .n)))
-
-    never : false ≡ true → ⊥
-    never q = let z : _≡_ {A = ℕ} 0 1 = cc in omega arith

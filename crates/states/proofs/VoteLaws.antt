@@ -2,7 +2,7 @@
 -- and with the forged votes of the tick the calendar has the votes under way. It stands on RepLaws, MoveLaws, WayLaws and register's safety; the
 -- bound on n is not used.
 use mathlib.Core.Path.{_≡_, refl, sym, ap, _∙_}
-use mathlib.Core.Bool.{Bool, true, false, not, _&&_, _||_, cond, or-false}
+use mathlib.Core.Bool.{Bool, true, false, not, _&&_, _||_, cond, or-false, and-or-distrib-left}
 use mathlib.Core.Logic.{inl, inr}
 use mathlib.Core.List.{List, [], _∷_, _++_}
 use Prim.Native.Nat.{ℕ, zero, suc, _+_, _-_, _/_, _%_, _≤_, _<_}
@@ -27,6 +27,7 @@ use Rattle.calendar.specs.declared.Stamped.{Stamped}
 use Rattle.calendar.specs.Bits.{bit}
 use Rattle.calendar.specs.Layout.{receivers, rows, depth, rowOf, sender}
 use Rattle.calendar.specs.Posts.{vacant, amongFirst, among}
+use Rattle.calendar.proofs.Spans.{row-receiver, row-slot}
 use Rattle.cluster.specs.declared.Cluster.{Cluster}
 use Rattle.serving.specs.declared.Rules.{Rules}
 use Rattle.serving.specs.Links.{delayAt}
@@ -40,7 +41,7 @@ use Rattle.states.specs.State.{Votes, Rep, State}
 use Rattle.states.proofs.Told.{Mid, End, Came}
 use Rattle.states.proofs.RepLaws.{genuine-known, one-rep, two-rep}
 use Rattle.states.proofs.MoveLaws.{four-rep, still-rep}
-use Rattle.states.proofs.WayLaws.{votes-arrive, votes-next, votes-far, slot-is, slot-past, row-receiver, row-slot}
+use Rattle.states.proofs.WayLaws.{votes-arrive, votes-next, votes-far, slot-is, slot-past}
 
 -- ---- a store's numbers
 
@@ -149,11 +150,7 @@ module _ (P : Plan) (G : Good P) (F : Feed) (fit : Fits P (F .t) (F .plan) (F .r
     tally : isFaulty (x .status) ≡ false → Votes P g m (x .kept) (x .fresh ++ vs) (step .votes)
     tally y j i h n =
         step .came (sym (ap isFaulty (R .status)) ∙ y) j i (omega (arith, K .few)) (sym (ap (isNew (g j)) (R .kept)) ∙ n) ∙ rw (R .fresh j i h n, arrived j i h, has-append (x .fresh) vs (g j) i)
-        (both-in (ltb i (P .n)) (has (x .fresh) (g j) i) (has vs (g j) i))
-      where
-        both-in : (a b c : Bool) → (a && b) || (a && c) ≡ a && (b || c)
-        both-in true b c = refl
-        both-in false b c = refl
+        (sym (and-or-distrib-left (ltb i (P .n)) (has (x .fresh) (g j) i) (has vs (g j) i)))
 
     came : Came P g m t x (writesIn P t b) vs (readsIn P t b) wrote (step .votes) asks live
     came = record {
@@ -247,9 +244,6 @@ module _ (P : Plan) (G : Good P) (F : Feed) (fit : Fits P (F .t) (F .plan) (F .r
         old : s < t + 16 → sender (F .work) row j i ≡ ltb i (P .n) && voteWay P (cluster P t .log) t s b (g j) i
         old q = S .calendar .votes s b j i (omega arith) q lb h
 
-        sends-new : Bool
-        sends-new = sends (F .plan) (F .links) (F .rules .n) t (endsOf (c .readers)) i (D .outs i .row) row j
-
         go : Dec (P .n ≤ i) → Dec (s ≡ t + 16)
             → (not (eqb (s % 16) (t % 16) && true) && sender (F .work) row j i) || (ltb i (P .n) && sends (F .plan) (F .links) (F .rules .n) t (endsOf (c .readers)) i (D .outs i .row) row j)
             ≡ ltb i (P .n) && (voteWay P (cluster P t .log) t s b (g j) i || ((not (eqb i b) && eqb (t + P .delay t i b) s) && member (g j) (end P t i .sent .votes)))
@@ -269,12 +263,6 @@ module _ (P : Plan) (G : Good P) (F : Feed) (fit : Fits P (F .t) (F .plan) (F .r
         → v ≡ ltb i (P .n) && voteWay P (cluster P (suc t) .log) (suc t) s b (g j) i
     new-votes i v e = e ∙ rw (votes-after i) (go (decLe (P .n) i))
       where
-        forged : Bool
-        forged = any (λ (x : Forgery). eqb (x .at) t && forgedAs P s b (g j) i x) (P .forged)
-
-        way : Bool
-        way = voteWay P (cluster P t .log) t s b (g j) i || ((not (eqb i b) && eqb (t + P .delay t i b) s) && member (g j) (end P t i .sent .votes))
-
         go : Dec (P .n ≤ i)
             → (ltb i (P .n) && (voteWay P (cluster P t .log) t s b (g j) i || ((not (eqb i b) && eqb (t + P .delay t i b) s) && member (g j) (end P t i .sent .votes))))
             || (ltb i (P .n) && any (λ (x : Forgery). eqb (x .at) t && forgedAs P s b (g j) i x) (P .forged))

@@ -3,7 +3,7 @@
 use mathlib.Core.Path.{_≡_, refl, sym, ap, _∙_}
 use mathlib.Core.Bool.{Bool, true, false, not, _&&_, _||_, cond, and-false, or-false}
 use mathlib.Core.List.{List, [], _∷_, map}
-use Prim.Native.Nat.{ℕ, zero, suc, _+_, _/_, _%_, _≤_, _<_}
+use Prim.Native.Nat.{ℕ, zero, suc, _+_, _%_, _≤_, _<_}
 use native.Mathlib.Omega.{arith}
 use native.Mathlib.Decide.{decLe, ℕ-discrete}
 use lib.Dec.{T, eqb, ltb, eqb→eq, eqb-refl}
@@ -13,19 +13,14 @@ use Rattle.register.specs.Plan.{Plan, Forgery}
 use Rattle.register.specs.Server.{Claim, claimOf, has}
 use Rattle.register.specs.Cluster.{Log, sentIn, votesFrom, votesIn, forgedIn, cluster}
 use Rattle.register.proofs.Logic.{and-l, and-r, and-i, T-iff}
-use Rattle.register.proofs.Counting.{anyUpTo-e, anyUpTo-i}
+use Rattle.register.proofs.Counting.{anyUpTo-e, anyUpTo-i, any-cong}
 use Rattle.register.proofs.Good.{Good}
 use Rattle.register.proofs.Claims.{has-nil, has-append, has-claims, has-flat}
-use Rattle.register.proofs.Trace.{end, sent-row}
-use Rattle.calendar.specs.Layout.{receivers, rowOf}
+use Rattle.register.proofs.Trace.{end, sent-row, row-kept}
+use Rattle.calendar.proofs.Spans.{own-rows}
 use Rattle.states.specs.Way.{forgedAs, voteFrom, voteWay}
 
 -- ---- tests over lists and numbers
-
-pub any-cong : (n : ℕ) (f h : ℕ → Bool) → ((u : ℕ) → u < n → f u ≡ h u) → anyUpTo n f ≡ anyUpTo n h
-unfolding anyUpTo
-any-cong zero f h e = refl
-any-cong (suc n) f h e = rw (e n (omega arith), any-cong n f h (λ u l. e u (omega arith)))
 
 -- one i below n passes what only i can pass
 pub any-one : (n i : ℕ) (f : ℕ → Bool) → i < n → anyUpTo n (λ k. f k && eqb k i) ≡ f i
@@ -73,17 +68,7 @@ before-next a t b = go (decLe a t) (ℕ-discrete a t)
 -- ---- slots of the calendar
 
 pub slot-is : (t d s : ℕ) → 1 ≤ d → d ≤ 15 → t < s → s ≤ t + 16 → eqb ((t + d) % 16) (s % 16) ≡ eqb (t + d) s
-slot-is t d s l h a b = go (ℕ-discrete (t + d) s)
-  where
-    go : Dec (t + d ≡ s) → eqb ((t + d) % 16) (s % 16) ≡ eqb (t + d) s
-    go (yes e) = rw (eq-eqb (t + d) s e, eq-eqb ((t + d) % 16) (s % 16) (ap (λ (x : ℕ). x % 16) e))
-    go (no n) = rw (ne-eqb (t + d) s n, ne-eqb ((t + d) % 16) (s % 16) (λ e. n (omega arith)))
-
-pub row-receiver : (s r : ℕ) → r < receivers → rowOf s r % receivers ≡ r
-row-receiver s r h = omega arith
-
-pub row-slot : (s r : ℕ) → r < receivers → rowOf s r / receivers ≡ s % 16
-row-slot s r h = omega arith
+slot-is t d s l h a b = own-rows (suc t) (t + d) s (omega arith) (omega arith) a (omega arith)
 
 -- the slot of a later tick is not the present one
 pub slot-past : (t s : ℕ) → t < s → s < t + 16 → eqb (s % 16) (t % 16) ≡ false
@@ -162,14 +147,11 @@ module _ (P : Plan) (G : Good P) where
       rw (
         any-or (λ x. ltb (x .at) (suc t) && forgedAs P s b p i x) (λ x. ltb (x .at) t && forgedAs P s b p i x) (λ x. eqb (x .at) t && forgedAs P s b p i x) (P .forged)
             (λ x. before-next (x .at) t (forgedAs P s b p i x)),
-        any-cong t (λ u. voteFrom P (cluster P (suc t) .log) (suc t) u s b p i) (λ u. voteFrom P (cluster P t .log) t u s b p i) (λ u h. rw (same u h)),
+        any-cong t (λ u. voteFrom P (cluster P (suc t) .log) (suc t) u s b p i) (λ u. voteFrom P (cluster P t .log) t u s b p i) (λ u h. rw (row-kept P t u i h)),
         sent-row P (suc t) t i l (omega arith),
       )
       (turn ((not (eqb i b) && eqb (t + P .delay t i b) s) && member p (end P t i .sent .votes)) (anyUpTo t (λ u. voteFrom P (cluster P t .log) t u s b p i)) _ _)
     where
-      same : (u : ℕ) → u < t → sentIn (cluster P (suc t) .log) u i ≡ sentIn (cluster P t .log) u i
-      same u h = sent-row P (suc t) u i l (omega arith) ∙ sym (sent-row P t u i l h)
-
       turn : (f a c d : Bool) → (f || a) || (c || d) ≡ ((a || c) || f) || d
       turn true true true d = refl
       turn true true false d = refl
