@@ -3,9 +3,8 @@ use mathlib.Core.Path.{_≡_, refl, sym, _∙_}
 use mathlib.Core.Bool.{Bool, true, false, not, _&&_, _||_, or-false}
 use mathlib.Core.List.{List}
 use Prim.Native.Nat.{ℕ, zero, suc, _+_, _*_, _/_, _%_, _^_, _≤_, _<_}
-use native.Mathlib.Nat.{one-mul, pow-suc, mod-eq-of-lt}
+use native.Mathlib.Nat.{pow-suc}
 use native.Mathlib.Omega.{arith}
-use lib.Pow.{pow-lt}
 use lib.Dec.{eqb, ltb, eqb·zero-suc, eqb·suc-zero, eqb·suc-suc}
 use lib.ListN.{length, getD, set, length-set}
 use lib.Seq.{getD-set-same, getD-set-other, lt-length-set}
@@ -62,10 +61,6 @@ bit-pow zero zero = refl
 bit-pow zero (suc i) = let e : 2 ^ suc i % 2 ≡ 0 = omega (arith, pow-suc 2 i) in rw (e, eqb·zero-suc i)
 bit-pow (suc k) zero = bit-zero k ∙ sym (eqb·suc-zero k)
 bit-pow (suc k) (suc i) = let e : 2 ^ suc i / 2 ≡ 2 ^ i = omega (arith, pow-suc 2 i) in rw (e, eqb·suc-suc k i) (bit-pow k i)
-
--- `1 << i` at w bits
-pub shifted : (i w : ℕ) → i < w → 1 * 2 ^ i % 2 ^ w ≡ 2 ^ i
-shifted i w h = rw (one-mul (2 ^ i)) (mod-eq-of-lt (pow-lt h))
 
 -- ---- two bytes stored, one after the other
 

@@ -10,12 +10,13 @@ use lib.Bits.{bitOr}
 use lib.Dec.{eqb, ltb}
 use lib.ListN.{getD}
 use borrow.Author.Tests.{lt-ltb, le-ltb, eq-eqb, ne-eqb}
+use Rattle.bits.proofs.Laws.{one-shl}
 use Rattle.register.specs.Lists.{anyUpTo}
 use Rattle.register.proofs.Logic.{T-eq}
 use Rattle.register.proofs.Counting.{anyUpTo-i}
 use Rattle.calendar.specs.Bits.{bit}
 use Rattle.calendar.specs.Layout.{places}
-use Rattle.calendar.proofs.Laws.{bit-or, bit-pow, bit-zero, shifted}
+use Rattle.calendar.proofs.Laws.{bit-or, bit-pow, bit-zero}
 use Rattle.cluster.specs.Inputs.{requesters, isAsked, wroteAt, asksAt}
 
 -- ---- a set gathered in a loop
@@ -23,7 +24,7 @@ use Rattle.cluster.specs.Inputs.{requesters, isAsked, wroteAt, asksAt}
 -- a set of the numbers below x that pass a test, and x
 module _ (g : ℕ → Bool) (r x : ℕ) (S : (k : ℕ) → bit k r ≡ ltb k x && g k) where
   pub set-more : x < 8 → g x ≡ true → (k : ℕ) → bit k (bitOr r (1 * 2 ^ x % 256)) ≡ ltb k (x + 1) && g k
-  set-more h e k = rw (shifted x 8 h, bit-or k r (2 ^ x), bit-pow k x, S k) (go (ℕ-discrete k x) (decLe k x))
+  set-more h e k = rw (one-shl x 8 h, bit-or k r (2 ^ x), bit-pow k x, S k) (go (ℕ-discrete k x) (decLe k x))
     where
       go : Dec (k ≡ x) → Dec (k ≤ x) → (ltb k x && g k) || eqb k x ≡ ltb k (x + 1) && g k
       go (yes z) d = rw (z, le-ltb x x (omega arith), eq-eqb x x refl, lt-ltb x (x + 1) (omega arith), e)

@@ -16,6 +16,7 @@ use lib.Arith.{digits-div, digits-mod}
 use Rattle.bits.proofs.Laws.{field-byte, bytes-more, field-cut, field-first, field-last}
 use Rattle.bits.specs.Field.{fieldOf}
 use Rattle.register.specs.Lists.{one-if, allUpTo}
+use Rattle.register.proofs.Counting.{one-if-le}
 use Rattle.plan.specs.Header.{Header, parties}
 use Rattle.plan.proofs.Laws.{all-same}
 use Rattle.plan.specs.Parts.{isLink}
@@ -58,13 +59,9 @@ byte-stands need delta x n m h =
     )
     (and-swap (eqb a (need / 16)) (eqb b (need % 16)) (leb (x % 16) delta) (leb (x / 16) delta))
 
-one-if-few : (b : Bool) → one-if b ≤ 1
-one-if-few true = omega arith
-one-if-few false = omega arith
-
 pub link-bit-few : (n p q : ℕ) → linkBit n p q ≤ 1
 unfolding linkBit
-link-bit-few n p q = one-if-few (isLink n (q / p) (q % p))
+link-bit-few n p q = one-if-le (isLink n (q / p) (q % p))
 
 one-if-cond : (b x y : Bool) → cond (eqb (one-if b) 1) x y ≡ cond b x y
 one-if-cond true x y = refl

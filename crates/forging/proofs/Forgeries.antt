@@ -1,10 +1,10 @@
 -- Where a forged message goes, and what the forged messages of a tick post: what the plan's list says of this tick.
 -- It stands on the calendar's laws of posting.
-use mathlib.Core.Path.{_≡_, refl, sym}
-use mathlib.Core.Bool.{Bool, false, _&&_, or-comm, or-false}
+use mathlib.Core.Path.{_≡_}
+use mathlib.Core.Bool.{false, _&&_, or-comm, or-false}
 use mathlib.Core.Logic.{inl, inr}
 use mathlib.Core.List.{List}
-use Prim.Native.Nat.{ℕ, zero, suc, _+_, _*_, _-_, _%_, _≤_, _<_}
+use Prim.Native.Nat.{ℕ, _+_, _*_, _-_, _%_, _≤_, _<_}
 use native.Mathlib.Omega.{arith}
 use native.Mathlib.Numerals.{add-one}
 use lib.Dec.{T, eqb, leb, ltb, eqb→eq, eqb-refl, leb→le, ltb→lt}
@@ -12,6 +12,7 @@ use lib.ListN.{getD}
 use borrow.Author.Tests.{lt-ltb, le-ltb, le-leb, lt-leb}
 use Rattle.register.specs.Lists.{anyUpTo}
 use Rattle.register.proofs.Logic.{and-l, and-r, or-e}
+use Rattle.register.proofs.Counting.{none-up}
 use Rattle.calendar.specs.Layout.{rowOf}
 use Rattle.calendar.specs.View.{SamePast, Posted}
 use Rattle.calendar.specs.Posts.{inRow}
@@ -51,17 +52,12 @@ module _ (ends : List ℕ) (n : ℕ) (work : List ℕ) (e : ℕ) where
   pub entry-none : (q a : ℕ) → q ≡ entryAt work e 2 → a ≡ entryAt work e 1 → ((x : ℕ) → goesTo ends n q a x ≡ false) → Posted work work (forgedEntry ends n work e)
   entry-none q a eq ea goes = posted-none work (forgedEntry ends n work e) (λ x j k l m. rw (← eq, ← ea, goes x))
 
-none-from : (f : ℕ → Bool) (to m : ℕ) → m ≤ to → anyUpTo m (λ e. leb to e && f e) ≡ false
-unfolding anyUpTo
-none-from f to zero h = refl
-none-from f to (suc m) h = rw (lt-leb to m (omega arith), none-from f to m (omega arith))
-
 pub entry-still : (a r : List ℕ) (e k : ℕ) → SamePast a r → entryAt r e k ≡ entryAt a e k
 entry-still a r e k P = P .past (entriesAt + 8 * e + k) (omega arith)
 
 module _ (ends : List ℕ) (n : ℕ) (a : List ℕ) (from : ℕ) where
   pub forges-none : Posted a a (forges ends n a from from)
-  forges-none = posted-none a (forges ends n a from from) (λ x j k l m. none-from (λ e. forgedEntry ends n a e x j k) from from (omega arith))
+  forges-none = posted-none a (forges ends n a from from) (λ x j k l m. none-up from _ (λ e b. rw (lt-leb from e b)))
 
   pub forges-more : (r w : List ℕ) (e : ℕ) → from ≤ e → Posted a r (forges ends n a from e) → Posted r w (forgedEntry ends n r e)
       → Posted a w (forges ends n a from (e + 1))

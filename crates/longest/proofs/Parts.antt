@@ -1,7 +1,6 @@
 -- The fields of the longest plan: those of its parts.
 -- It stands on the laws of bit fields.
 use mathlib.Core.Path.{_≡_, refl, ap, _∙_}
-use mathlib.Core.Bool.{Bool, true, false}
 use mathlib.Core.List.{List, _++_}
 use Prim.Native.Nat.{ℕ, zero, suc, _+_, _*_, _/_, _%_, _≤_, _<_}
 use native.Mathlib.Decide.{ℕ-discrete}
@@ -10,8 +9,9 @@ use lib.ListN.{length, length-append}
 use Rattle.bits.specs.Field.{fieldOf}
 use Rattle.bits.proofs.Laws.{field-byte, field-first, field-last}
 use Rattle.bits.proofs.Joined.{field-left, field-right}
-use Rattle.register.specs.Lists.{one-if, flat}
+use Rattle.register.specs.Lists.{flat}
 use Rattle.register.proofs.Lists.{length-tabFrom}
+use Rattle.register.proofs.Counting.{one-if-le}
 use Rattle.plan.specs.Limits.{mostBytes}
 use Rattle.plan.specs.Parts.{isLink}
 use Rattle.plan.proofs.Laws.{row-inside}
@@ -152,11 +152,7 @@ in-delay k at w l h = from-delays (8 * k + at) w ∙ field-flat delayByte 1 even
 -- the two delays of a byte
 delay-few : (q : ℕ) → delayIn q ≤ 1
 unfolding delayIn
-delay-few q = few (isLink 16 (q / 21 % 21) (q % 21))
-  where
-    few : (b : Bool) → one-if b ≤ 1
-    few true = omega arith
-    few false = omega arith
+delay-few q = one-if-le (isLink 16 (q / 21 % 21) (q % 21))
 
 byte-is : (k : ℕ) → fieldOf (delayByte k) 0 8 ≡ 16 * delayIn (2 * k) + delayIn (2 * k + 1)
 unfolding delayByte

@@ -3,7 +3,7 @@
 use mathlib.Core.Path.{_≡_, refl, sym, ap, _∙_, fun-ext}
 use mathlib.Core.Bool.{Bool, true, false, not, _&&_, _||_, and-false}
 use mathlib.Core.List.{List}
-use Prim.Native.Nat.{ℕ, zero, suc, _+_, _*_, _-_, _/_, _%_, _^_, _<_, _≤_}
+use Prim.Native.Nat.{ℕ, suc, _+_, _*_, _-_, _/_, _%_, _^_, _<_, _≤_}
 use native.Mathlib.Nat.{le-div-iff-mul-le, div-mul-le-self}
 use native.Mathlib.Decide.{ℕ-discrete, decLe}
 use native.Mathlib.Omega.{arith}
@@ -13,6 +13,7 @@ use Rattle.bits.specs.Field.{fieldOf}
 use Rattle.bits.proofs.Laws.{field-first, field-inner, field-last, field-part}
 use Rattle.register.specs.Lists.{anyUpTo}
 use Rattle.register.specs.Plan.{Forgery}
+use Rattle.register.proofs.Counting.{none-up}
 use Rattle.plan.specs.Header.{Header, headerOf, operationAt, forgeryAt}
 use Rattle.plan.specs.Parts as Parts
 use Rattle.plan.specs.Parts.{inPlacement, operationOf, operationsOf, forgeryOf}
@@ -57,11 +58,6 @@ eqb-add n p x = elim (ℕ-discrete p x) [
   | no d ↦ rw (ne-eqb p x d, ne-eqb (n + p) (n + x) (λ e. d (omega arith)))
 ]
 
-none : (g : ℕ → Bool) (n : ℕ) → ((j : ℕ) → g j ≡ false) → anyUpTo n g ≡ false
-unfolding anyUpTo
-none g zero f = refl
-none g (suc n) f = rw (f n) (none g n f)
-
 module _ (s : List ℕ) where
   -- the reads of a packed plan
   open-any : (g : Forgery) → readOpen 16 s (headerOf 16 s) g
@@ -83,7 +79,7 @@ module _ (s : List ℕ) where
   open-server g l =
       let party : ℕ → ℕ = λ j. operationOf 16 s (headerOf 16 s) j .party in
       let other : (j : ℕ) → eqb (headerOf 16 s .n + party j) (g .to) ≡ false = λ j. ne-eqb (headerOf 16 s .n + party j) (g .to) (λ e. omega arith) in
-      open-any g ∙ none _ _ (λ j. rw (other j) (and-false (isRead (operationOf 16 s (headerOf 16 s) j))))
+      open-any g ∙ none-up _ _ (λ j l. rw (other j) (and-false (isRead (operationOf 16 s (headerOf 16 s) j))))
 
   received-plan : (table : List Bool) (g : Forgery) → Opened s (headerOf 16 s) (headerOf 16 s .operations) table → g .at < 128
       → isReceived (headerOf 16 s .n) table (g .at) (g .from) (g .to)

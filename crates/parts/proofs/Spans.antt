@@ -12,11 +12,11 @@ use lib.ListN.{length, set, replicate}
 use lib.Seq.{getD-set-same, getD-set-other}
 use borrow.Author.Tests.{eqb-true, eq-eqb, ne-eqb, lt-ltb, le-ltb, le-leb, lt-leb}
 use Rattle.register.specs.Lists.{anyUpTo}
+use Rattle.register.proofs.Lists.{getD-replicate-same}
 use Rattle.plan.specs.Header.{Header, operationAt}
 use Rattle.plan.specs.declared.operations.Operation.{Operation}
 use Rattle.plan.specs.Steps.{IsOperation}
 use Rattle.parts.specs.Steps.{spans, Marked, openAmong, Opened}
-use Rattle.plan.proofs.Laws.{getD-replicate-same}
 use Rattle.operations.proofs.Passed.{operation-is}
 
 pub spans-none : (from x y u : ℕ) → spans from from x y u ≡ false

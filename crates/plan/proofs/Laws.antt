@@ -7,7 +7,6 @@ use native.Mathlib.Nat.{mul-le-mul, mul-le-mul-right, div-lt-iff-lt-mul, not-suc
 use native.Mathlib.Decide.{ℕ-discrete}
 use native.Mathlib.Numerals.{add-one}
 use native.Mathlib.Omega.{arith}
-use lib.ListN.{getD, replicate}
 use Rattle.register.specs.Lists.{allUpTo}
 use Rattle.register.proofs.Logic.{and-both}
 
@@ -82,9 +81,3 @@ pub all-same : (f g : ℕ → Bool) (n : ℕ) → ((i : ℕ) → i < n → f i �
 unfolding allUpTo
 all-same f g zero e = refl
 all-same f g (suc n) e = rw (e n (omega arith), all-same f g n (λ i l. e i (omega arith)))
-
--- a table of one value has it at every place
-pub getD-replicate-same : {A : Type 0} (k j : ℕ) (d : A) → getD (replicate k d) j d ≡ d
-getD-replicate-same zero j d = refl
-getD-replicate-same (suc k) zero d = refl
-getD-replicate-same (suc k) (suc j) d = getD-replicate-same k j d

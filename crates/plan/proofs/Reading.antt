@@ -4,14 +4,14 @@ use mathlib.Core.Path.{_≡_, refl, ap, _∙_}
 use mathlib.Core.Bool.{Bool, true, false, not, _&&_, _||_, cond, or-comm}
 use mathlib.Core.List.{List, [], _∷_, _++_, map}
 use Prim.Native.Nat.{ℕ, zero, suc, _+_}
-use native.Mathlib.Nat.{add-zero, zero-add}
+use native.Mathlib.Nat.{zero-add}
 use native.Mathlib.Numerals.{add-one}
 use native.Mathlib.Omega.{arith}
 use lib.Dec.{eqb}
 use lib.ListN.{length, length-append}
 use Rattle.register.specs.Lists.{count, one-if, anyUpTo, any, filter, tab, tabFrom}
 use Rattle.register.specs.Plan.{Read}
-use Rattle.register.proofs.Lists.{any-append}
+use Rattle.register.proofs.Lists.{any-append, tab-last}
 use Rattle.plan.specs.Parts.{Operation, readsFrom}
 
 abbrev pub isRead : Operation → Bool
@@ -19,12 +19,6 @@ isRead o = not (eqb (o .party) 0)
 
 abbrev pub readOf : Operation → Read
 readOf o = record { begun = o .at; reader = o .party }
-
--- a table grows at its end
-tab-last : {A : Type 0} (a n : ℕ) (g : ℕ → A) → tabFrom a (suc n) g ≡ tabFrom a n g ++ (g (a + n) ∷ [])
-unfolding tabFrom
-tab-last a zero g = rw add-zero
-tab-last a (suc n) g = ap (λ l. g a ∷ l) (tab-last (suc a) n g ∙ ap (λ k. tabFrom (suc a) n g ++ (g k ∷ [])) (omega arith))
 
 reads-append : (l m : List Operation) → readsFrom (l ++ m) ≡ readsFrom l ++ readsFrom m
 unfolding readsFrom filter

@@ -13,7 +13,7 @@ use lib.ListN.{length, getD, set, replicate}
 use lib.Seq.{getD-set-same, getD-set-other}
 use borrow.Author.Tests.{eqb-true, eqb-false, lt-ltb, le-ltb, le-leb}
 use Rattle.register.specs.Lists.{allUpTo}
-use Rattle.plan.proofs.Laws.{getD-replicate-same}
+use Rattle.register.proofs.Lists.{getD-replicate-same}
 
 -- the least key that may follow the first i
 unfoldable pub follows : (ℕ → ℕ) → ℕ → ℕ

@@ -101,7 +101,13 @@ anyUpTo-i (suc n) g d l t = go (ℕ-discrete d n) (λ m. anyUpTo-i n g d m t)
     go (yes e) ih = or-l (g n) (anyUpTo n g) (rw e at t)
     go (no m) ih = or-r (g n) (anyUpTo n g) (ih (omega arith))
 
+-- the same tests, and tests that all fail
 pub any-cong : (n : ℕ) (f h : ℕ → Bool) → ((u : ℕ) → u < n → f u ≡ h u) → anyUpTo n f ≡ anyUpTo n h
 unfolding anyUpTo
 any-cong zero f h e = refl
 any-cong (suc n) f h e = rw (e n (omega arith), any-cong n f h (λ u l. e u (omega arith)))
+
+pub none-up : (n : ℕ) (f : ℕ → Bool) → ((u : ℕ) → u < n → f u ≡ false) → anyUpTo n f ≡ false
+unfolding anyUpTo
+none-up zero f e = refl
+none-up (suc n) f e = rw (e n (omega arith), none-up n f (λ u l. e u (omega arith)))

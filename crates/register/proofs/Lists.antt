@@ -9,7 +9,7 @@ use native.Mathlib.Nat.{add-zero}
 use native.Mathlib.Omega.{arith}
 use native.Mathlib.Decide.{ℕ-discrete}
 use lib.Dec.{T, eqb, eqb→eq, T-not}
-use lib.ListN.{getD, take, length}
+use lib.ListN.{getD, take, length, replicate}
 use Rattle.register.specs.Lists.{tabFrom, tab, flat, any, filter, In, member, distinct, highest, sameList}
 use Rattle.register.proofs.Logic.{and-l, and-r, or-e, or-l, or-r, cond-e, max-cases}
 
@@ -115,6 +115,18 @@ module _ {A : Type 0} where
   in-tabFrom x a (suc n) g (inl e) = (a, omega arith, e)
   in-tabFrom x a (suc n) g (inr h) = let r = in-tabFrom x (suc a) n g h in (r .0, omega arith, r .2)
 
+  -- a table grows at its end
+  pub tab-last : (a n : ℕ) (g : ℕ → A) → tabFrom a (suc n) g ≡ tabFrom a n g ++ (g (a + n) ∷ [])
+  unfolding tabFrom
+  tab-last a zero g = rw add-zero
+  tab-last a (suc n) g = let e : suc a + n ≡ a + suc n = omega arith in ap (λ (l : List A). g a ∷ l) (rw e at (tab-last (suc a) n g))
+
+  -- a table of one value has it at every place
+  pub getD-replicate-same : (k j : ℕ) (d : A) → getD (replicate k d) j d ≡ d
+  getD-replicate-same zero j d = refl
+  getD-replicate-same (suc k) zero d = refl
+  getD-replicate-same (suc k) (suc j) d = getD-replicate-same k j d
+
   -- what holds of all elements and of the default holds at every index
   pub getD-all : (Q : A → Type 0) (l : List A) (d : A) → ((x : A) → In x l → Q x) → Q d → (i : ℕ) → Q (getD l i d)
   getD-all Q [] d f q i = q
@@ -127,11 +139,6 @@ module _ {A : Type 0} where
   getD-append-all Q [] m d f g i = g i
   getD-append-all Q (y ∷ l) m d f g zero = f zero
   getD-append-all Q (y ∷ l) m d f g (suc i) = getD-append-all Q l m d (λ j. f (suc j)) g i
-
-  -- the element added last
-  pub getD-last : (l : List A) (x d : A) → getD (l ++ (x ∷ [])) (length l) d ≡ x
-  getD-last [] x d = refl
-  getD-last (y ∷ l) x d = getD-last l x d
 
 module _ {A B : Type 0} where
   pub in-map : (f : A → B) (y : B) (l : List A) → In y (map f l) → (x : A) × In x l × (y ≡ f x)

@@ -6,11 +6,12 @@ use Prim.Native.Nat.{ℕ, zero, suc, _<_}
 use native.Mathlib.Omega.{arith}
 use native.Mathlib.Decide.{ℕ-discrete}
 use lib.ListN.{getD, length, length-append, List·getD-map, List·getD-append}
+use lib.Seq.{getD-append-seam}
 use Rattle.register.specs.Lists.{tab}
 use Rattle.register.specs.Plan.{Plan}
 use Rattle.register.specs.Server.{faulty, Claim, Server, Sent, nothing, Out, stage1, stage2, blank, stage3, stage4}
 use Rattle.register.specs.Cluster.{sentIn, writesIn, readsIn, votesIn, step, first, serverOf, tick, cluster}
-use Rattle.register.proofs.Lists.{getD-tab, getD-last}
+use Rattle.register.proofs.Lists.{getD-tab}
 
 -- server b before tick t; after stage 1 of tick t; after stage 2; after the whole tick, each with what it sent
 unfoldable pub before : Plan → ℕ → ℕ → Server
@@ -83,7 +84,7 @@ row-new P t b l =
     row = map (λ (o : Out). o .sent) (outs P t)
 
     last : getD (cluster P t .log ++ (row ∷ [])) t [] ≡ row
-    last = rw (log-length P t) at (getD-last (cluster P t .log) row [])
+    last = rw (log-length P t) at (getD-append-seam (cluster P t .log) row [] [])
 
     row-is : getD (cluster P (suc t) .log) t [] ≡ row
     row-is = rw (log-suc P t) last

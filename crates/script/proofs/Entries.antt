@@ -26,9 +26,6 @@ module _ (work : List ℕ) (at a b c d e : ℕ) where
   abbrev s3 : List ℕ
   s3 = set s2 (at + 3) d
 
-  miss : (l : List ℕ) (i p v : ℕ) → p ≢ i → getD (set l i v) p 0 ≡ getD l p 0
-  miss l i p v h = getD-set-other l i p v 0 h
-
   pub bytes-size : length (entryBytes work at a b c d e) ≡ length work
   unfolding entryBytes
   bytes-size = simp length-set
@@ -36,8 +33,8 @@ module _ (work : List ℕ) (at a b c d e : ℕ) where
   pub bytes-other : (p : ℕ) → (p < at) ⊎ (at + 5 ≤ p) → getD (entryBytes work at a b c d e) p 0 ≡ getD work p 0
   unfolding entryBytes
   bytes-other p h =
-      miss s3 (at + 4) p e (ne 4 (omega arith) h) ∙ miss s2 (at + 3) p d (ne 3 (omega arith) h) ∙ miss s1 (at + 2) p c (ne 2 (omega arith) h)
-      ∙ miss s0 (at + 1) p b (ne 1 (omega arith) h) ∙ miss work at p a (first h)
+      getD-set-other s3 (at + 4) p e 0 (ne 4 (omega arith) h) ∙ getD-set-other s2 (at + 3) p d 0 (ne 3 (omega arith) h) ∙ getD-set-other s1 (at + 2) p c 0 (ne 2 (omega arith) h)
+      ∙ getD-set-other s0 (at + 1) p b 0 (ne 1 (omega arith) h) ∙ getD-set-other work at p a 0 (first h)
     where
       ne : (k : ℕ) → k < 5 → (p < at) ⊎ (at + 5 ≤ p) → p ≢ at + k
       ne k l (inl x) z = omega arith
@@ -52,24 +49,24 @@ module _ (work : List ℕ) (at a b c d e : ℕ) where
     unfolding entryBytes
     byte-0 =
         let z : at + 0 ≡ at = omega arith in
-        rw (z, miss s3 (at + 4) at e (λ y. omega arith), miss s2 (at + 3) at d (λ y. omega arith), miss s1 (at + 2) at c (λ y. omega arith), miss s0 (at + 1) at b (λ y. omega arith))
+        rw (z, getD-set-other s3 (at + 4) at e 0 (λ y. omega arith), getD-set-other s2 (at + 3) at d 0 (λ y. omega arith), getD-set-other s1 (at + 2) at c 0 (λ y. omega arith), getD-set-other s0 (at + 1) at b 0 (λ y. omega arith))
         (getD-set-same work at a 0 (omega arith))
 
     pub byte-1 : getD (entryBytes work at a b c d e) (at + 1) 0 ≡ b
     unfolding entryBytes
     byte-1 =
-        rw (miss s3 (at + 4) (at + 1) e (λ y. omega arith), miss s2 (at + 3) (at + 1) d (λ y. omega arith), miss s1 (at + 2) (at + 1) c (λ y. omega arith))
+        rw (getD-set-other s3 (at + 4) (at + 1) e 0 (λ y. omega arith), getD-set-other s2 (at + 3) (at + 1) d 0 (λ y. omega arith), getD-set-other s1 (at + 2) (at + 1) c 0 (λ y. omega arith))
         (getD-set-same s0 (at + 1) b 0 (simp length-set (omega arith)))
 
     pub byte-2 : getD (entryBytes work at a b c d e) (at + 2) 0 ≡ c
     unfolding entryBytes
     byte-2 =
-        rw (miss s3 (at + 4) (at + 2) e (λ y. omega arith), miss s2 (at + 3) (at + 2) d (λ y. omega arith))
+        rw (getD-set-other s3 (at + 4) (at + 2) e 0 (λ y. omega arith), getD-set-other s2 (at + 3) (at + 2) d 0 (λ y. omega arith))
         (getD-set-same s1 (at + 2) c 0 (simp length-set (omega arith)))
 
     pub byte-3 : getD (entryBytes work at a b c d e) (at + 3) 0 ≡ d
     unfolding entryBytes
-    byte-3 = rw (miss s3 (at + 4) (at + 3) e (λ y. omega arith)) (getD-set-same s2 (at + 3) d 0 (simp length-set (omega arith)))
+    byte-3 = rw (getD-set-other s3 (at + 4) (at + 3) e 0 (λ y. omega arith)) (getD-set-same s2 (at + 3) d 0 (simp length-set (omega arith)))
 
     pub byte-4 : getD (entryBytes work at a b c d e) (at + 4) 0 ≡ e
     unfolding entryBytes

@@ -3,7 +3,7 @@
 use mathlib.Core.Path.{_≡_, refl, _∙_}
 use mathlib.Core.Bool.{Bool, true, false, _&&_, cond}
 use mathlib.Core.List.{List}
-use Prim.Native.Nat.{ℕ, zero, suc, _+_, _≤_, _<_}
+use Prim.Native.Nat.{ℕ, _+_, _≤_, _<_}
 use native.Mathlib.Omega.{arith}
 use lib.Dec.{T, eqb, ltb, eqb→eq, eqb-refl}
 use lib.ListN.{getD}
@@ -12,7 +12,7 @@ use Rattle.register.specs.Lists.{tab, any, anyUpTo}
 use Rattle.register.specs.Plan.{Forgery, stamped, valueOf, numberOf}
 use Rattle.register.proofs.Logic.{T-iff, and-r}
 use Rattle.register.proofs.Lists.{any-in, in-any, in-tabFrom}
-use Rattle.register.proofs.Counting.{anyUpTo-e, anyUpTo-i}
+use Rattle.register.proofs.Counting.{anyUpTo-e, anyUpTo-i, any-cong}
 use Rattle.plan.specs.Header.{headerOf}
 use Rattle.plan.specs.Packed.{planOf}
 use Rattle.plan.proofs.Stamped.{value-stamped, number-stamped, stamped-back}
@@ -38,11 +38,6 @@ any-tab n G F = T-iff _ _ to from
         let (e, l, t) = anyUpTo-e n (λ e. F (G e)) y in
         let z : 0 + e ≡ e = omega arith in
         in-any F (G e) (tab n G) (rw z at (tabFrom-in 0 n G e l)) t
-
-any-same : (n : ℕ) (f g : ℕ → Bool) → ((e : ℕ) → e < n → f e ≡ g e) → anyUpTo n f ≡ anyUpTo n g
-unfolding anyUpTo
-any-same zero f g h = refl
-any-same (suc n) f g h = rw (h n (omega arith), any-same n f g (λ e l. h e (omega arith)))
 
 eqb-turn : (a b : ℕ) → eqb a b ≡ eqb b a
 eqb-turn a b = T-iff (eqb a b) (eqb b a) (λ t. rw (eqb→eq a b t) (eqb-refl b)) (λ t. rw (eqb→eq b a t) (eqb-refl a))
@@ -97,4 +92,4 @@ module _ (s : List ℕ) (known : Known) (few : known .m ≤ 65) (small : (j : �
 
     pub messages-named : any says (planOf 16 s .forged) ≡ anyUpTo (headerOf 16 s .forgeries) (entryAs t u q j i)
     unfolding planOf
-    messages-named = any-tab nf (messageOf s) says ∙ any-same nf _ (entryAs t u q j i) says-entry
+    messages-named = any-tab nf (messageOf s) says ∙ any-cong nf _ (entryAs t u q j i) says-entry

@@ -1,20 +1,15 @@
--- Laws of lists as tables: a list with one element more, a table of zeros, and a table after a store.
+-- Laws of lists as tables: a list with one element more, and a table after a store.
 -- It stands on the register's laws of lists.
-use mathlib.Core.Path.{_≡_, refl, ap, _∙_}
+use mathlib.Core.Path.{_≡_, _∙_}
 use mathlib.Core.List.{List, [], _∷_, _++_}
 use Prim.Native.Nat.{ℕ, zero, suc, _+_, _<_}
-use native.Mathlib.Nat.{add-zero}
 use native.Mathlib.Numerals.{add-one}
 use native.Mathlib.Omega.{arith}
 use native.Mathlib.Decide.{ℕ-discrete}
-use lib.ListN.{length, getD, set, replicate, length-append}
+use lib.ListN.{length, getD, set, length-append}
 use lib.Seq.{getD-set-same, getD-set-other}
-use Rattle.register.specs.Lists.{tabFrom, tab}
-
-pub zeros-at : (n j : ℕ) → getD {A = ℕ} (replicate n 0) j 0 ≡ 0
-zeros-at zero j = refl
-zeros-at (suc n) zero = refl
-zeros-at (suc n) (suc j) = zeros-at n j
+use Rattle.register.specs.Lists.{tab}
+use Rattle.register.proofs.Lists.{tab-last}
 
 -- a bound on all elements, after a store of one below it
 pub set-below : (l : List ℕ) (i v b : ℕ) → v < b → ((j : ℕ) → getD l j 0 < b) → (j : ℕ) → getD (set l i v) j 0 < b
@@ -28,14 +23,9 @@ module _ {A : Type 0} where
   pub length-more : (l : List A) (x : A) → length (l ++ (x ∷ [])) ≡ suc (length l)
   length-more l x = length-append l (x ∷ []) ∙ add-one (length l)
 
-  tabFrom-more : (a n : ℕ) (g : ℕ → A) → tabFrom a (suc n) g ≡ tabFrom a n g ++ (g (a + n) ∷ [])
-  unfolding tabFrom
-  tabFrom-more a zero g = rw (add-zero)
-  tabFrom-more a (suc n) g = let e : suc a + n ≡ a + suc n = omega arith in ap (λ (l : List A). g a ∷ l) (rw e at (tabFrom-more (suc a) n g))
-
   -- a table with one row more
   pub tab-more : (n : ℕ) (g : ℕ → A) → tab (n + 1) g ≡ tab n g ++ (g n ∷ [])
-  tab-more n g = let e : 0 + n ≡ n = omega arith in rw add-one (rw e at (tabFrom-more 0 n g))
+  tab-more n g = let e : 0 + n ≡ n = omega arith in rw add-one (rw e at (tab-last 0 n g))
 
 -- what holds at each index passed and of the element stored next holds at one index more
 pub each-more : (Q : ℕ → ℕ → Type 0) (r : List ℕ) (b v : ℕ) → b < length r → Q b v → ((k : ℕ) → k < b → Q k (getD r k 0))

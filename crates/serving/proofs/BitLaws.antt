@@ -10,6 +10,7 @@ use lib.Bits.{bitOr, bitAnd, or-lt, and-shr, and-mod}
 use lib.Count.{ones, ones-step}
 use Rattle.register.specs.Lists.{count, one-if}
 use Rattle.register.proofs.Counting.{digit-one}
+use Rattle.register.proofs.Lists.{getD-replicate-same}
 use Rattle.calendar.specs.Bits.{bit}
 use Rattle.calendar.proofs.Laws.{bit-or, bit-zero}
 
@@ -59,6 +60,4 @@ ones-either k a b h g = ones-count k (bitOr a b) (or-lt k a b h g) ∙ ap (λ (p
 
 -- an empty table
 pub unmarked : (n j k : ℕ) → bit k (getD (replicate n 0) j 0) ≡ false
-unmarked zero j k = bit-zero k
-unmarked (suc n) zero k = bit-zero k
-unmarked (suc n) (suc j) k = unmarked n j k
+unmarked n j k = rw (getD-replicate-same {A = ℕ} n j 0) (bit-zero k)

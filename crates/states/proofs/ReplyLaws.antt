@@ -19,9 +19,9 @@ use Rattle.register.proofs.Lists.{in-append, in-filter, any-in}
 use Rattle.register.proofs.Good.{Good}
 use Rattle.register.proofs.Trace.{before, delivered, mid, end, before-zero, before-suc, sent-row, row-kept}
 use Rattle.register.proofs.Stages.{end-server, end-replies}
-use Rattle.register.proofs.Counting.{any-cong}
+use Rattle.register.proofs.Counting.{any-cong, none-up}
 use Rattle.states.specs.Way.{forgedAs, replyFrom, replyWay, heardWay}
-use Rattle.states.proofs.WayLaws.{none-up, none-any, any-or, before-next}
+use Rattle.states.proofs.WayLaws.{none-any, any-or, before-next}
 
 never : (b : Bool) → (T b → ⊥) → b ≡ false
 never true f = absurd (f tt)

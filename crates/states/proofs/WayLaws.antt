@@ -1,23 +1,25 @@
 -- Votes under way by the step rules: those for the present tick are all that arrive, a tick adds what is sent in it, and none is under way for
 -- longer than the slowest delay. It stands on register's laws of claims and of the log.
 use mathlib.Core.Path.{_≡_, refl, sym, ap, _∙_}
-use mathlib.Core.Bool.{Bool, true, false, not, _&&_, _||_, cond, and-false, or-false}
+use mathlib.Core.Bool.{Bool, true, false, not, _&&_, _||_, cond, and-false}
 use mathlib.Core.List.{List, [], _∷_, map}
-use Prim.Native.Nat.{ℕ, zero, suc, _+_, _%_, _≤_, _<_}
+use Prim.Native.Nat.{ℕ, suc, _+_, _%_, _≤_, _<_}
+use native.Mathlib.Numerals.{add-one}
 use native.Mathlib.Omega.{arith}
 use native.Mathlib.Decide.{decLe, ℕ-discrete}
 use lib.Dec.{T, eqb, ltb, eqb→eq, eqb-refl}
-use borrow.Author.Tests.{lt-ltb, le-ltb, eq-eqb, ne-eqb, eqb-true}
+use borrow.Author.Tests.{lt-ltb, le-ltb, ne-eqb, eqb-true}
 use Rattle.register.specs.Lists.{any, anyUpTo, filter, flat, member}
 use Rattle.register.specs.Plan.{Plan, Forgery}
 use Rattle.register.specs.Server.{Claim, claimOf, has}
 use Rattle.register.specs.Cluster.{Log, sentIn, votesFrom, votesIn, forgedIn, cluster}
 use Rattle.register.proofs.Logic.{and-l, and-r, and-i, T-iff}
-use Rattle.register.proofs.Counting.{anyUpTo-e, anyUpTo-i, any-cong}
+use Rattle.register.proofs.Counting.{anyUpTo-e, anyUpTo-i, any-cong, none-up}
 use Rattle.register.proofs.Good.{Good}
 use Rattle.register.proofs.Claims.{has-nil, has-append, has-claims, has-flat}
 use Rattle.register.proofs.Trace.{end, sent-row, row-kept}
 use Rattle.calendar.proofs.Spans.{own-rows}
+use Rattle.calendar.proofs.Laws.{ltb-more}
 use Rattle.states.specs.Way.{forgedAs, voteFrom, voteWay}
 
 -- ---- tests over lists and numbers
@@ -34,11 +36,6 @@ any-one n i f l = T-iff (anyUpTo n (λ k. f k && eqb k i)) (f i) to from
 
     from : T (f i) → T (anyUpTo n (λ k. f k && eqb k i))
     from h = anyUpTo-i n (λ k. f k && eqb k i) i l (and-i (f i) (eqb i i) h (eqb-refl i))
-
-pub none-up : (n : ℕ) (f : ℕ → Bool) → ((u : ℕ) → u < n → f u ≡ false) → anyUpTo n f ≡ false
-unfolding anyUpTo
-none-up zero f e = refl
-none-up (suc n) f e = rw (e n (omega arith), none-up n f (λ u l. e u (omega arith)))
 
 pub none-any : {A : Type 0} (f : A → Bool) (l : List A) → ((x : A) → f x ≡ false) → any f l ≡ false
 unfolding any
@@ -58,12 +55,7 @@ any-or f h k (x ∷ l) e = rw (e x, any-or f h k l e) (turn (h x) (k x) (any h l
 
 -- sent before the next tick: before this one, or in it
 pub before-next : (a t : ℕ) (b : Bool) → ltb a (suc t) && b ≡ (ltb a t && b) || (eqb a t && b)
-before-next a t b = go (decLe a t) (ℕ-discrete a t)
-  where
-    go : Dec (a ≤ t) → Dec (a ≡ t) → ltb a (suc t) && b ≡ (ltb a t && b) || (eqb a t && b)
-    go (yes l) (yes e) = rw (lt-ltb a (suc t) (omega arith), le-ltb a t (omega arith), eq-eqb a t e)
-    go (yes l) (no d) = rw (lt-ltb a (suc t) (omega arith), lt-ltb a t (omega arith), ne-eqb a t d) (sym (or-false b))
-    go (no l) e = rw (le-ltb a (suc t) (omega arith), le-ltb a t (omega arith), ne-eqb a t (λ q. omega arith))
+before-next a t b = sym (rw add-one at (ltb-more a t b))
 
 -- ---- slots of the calendar
 

@@ -8,9 +8,10 @@ use borrow.Author.Tests.{ne-eqb}
 use borrow.Author.Needs.{needs}
 use Rattle.bits.proofs.Laws.{field-lt}
 use Rattle.register.specs.Lists.{tab}
+use Rattle.register.proofs.Lists.{getD-replicate-same}
 use Rattle.plan.specs.Parts.{writesFrom}
 use Rattle.script.specs.Operations.{opAt, Written}
-use Rattle.script.proofs.Tables.{zeros-at, set-below}
+use Rattle.script.proofs.Tables.{set-below}
 use Rattle.script.proofs.Storing.{number-left, write-stored, write-left, written-none}
 use Rattle.script.proofs.operations.writes_of.Statement.{statement}
 use Rattle.script.proofs.operations.writes_of.Tie as tie
@@ -36,7 +37,7 @@ loop-holds c = (
   search needs,
   search needs,
   written-none (opAt (c .before .args .plan .now) (c .before .args .at)) _ (set (replicate 65 0) 0 (c .before .args .initial)) (replicate 65 0) refl
-      (set-below (replicate 65 0) 0 (c .before .args .initial) 65536 (search needs) (λ j. rw (zeros-at 65 j) (omega arith))),
+      (set-below (replicate 65 0) 0 (c .before .args .initial) 65536 (search needs) (λ j. rw (getD-replicate-same {A = ℕ} 65 j 0) (omega arith))),
 )
 
 mul-read : tie.Need-mul-read Inv-loop μ-loop
