@@ -2,3 +2,4 @@ pub mod Sizes
 pub mod Chosen
 pub mod Answered
 pub mod Stored
+pub mod Lengths

@@ -11,7 +11,7 @@ use Rattle.plan.specs.declared.header.Shape.{Shape}
 use Rattle.plan.specs.Header.{Header, headerOf, moves}
 use Rattle.plan.specs.Parts.{writesFrom, readsFrom}
 use Rattle.plan.specs.Packed.{planOf}
-use Rattle.plan.specs.Shape.{shape, Ranged}
+use Rattle.plan.specs.Shape.{shape}
 use Rattle.plan.specs.Check.{checkOf, result}
 use Rattle.plan.specs.Playable.{Playable}
 use Rattle.plan.proofs.Laws.{all-same}
@@ -19,7 +19,7 @@ use Rattle.plan.proofs.Accept.{playable, reads-counted, in-range}
 use Rattle.plan.proofs.AcceptReads.{few-reads}
 use Rattle.plan.proofs.AcceptWrites.{writes-apart}
 use Rattle.script.specs.Operations.{opAt, noWrite, Written, ReadIn}
-use Rattle.script.proofs.Placing.{writes-there, reads-there}
+use Rattle.script.proofs.Scripting.{writes-same, reads-same}
 use Rattle.simulator.specs.Judge.{readOf, answerFits}
 use Rattle.regular.specs.Tables.{Tables}
 use Rattle.judge.specs.Fitting.{fitsRead}
@@ -33,26 +33,17 @@ module _ (s : List ℕ) (m : ℕ) (e : checkOf 16 s ≡ result m) where
 
   -- the header by value
   module _ (x : Shape) (same : shape x ≡ headerOf 16 s) where
-    pub shape-ranged : Ranged (shape x)
-    shape-ranged = rw same (in-range 16 s A)
-
     pub delta-same : planOf 16 s .delta ≡ x .delta
     unfolding planOf
     delta-same = sym (ap (λ (h : Header). h .delta) same)
 
     -- the bit where the operations start
     module _ (at : ℕ) (start : at ≡ 64 + 16 * moves (shape x)) where
-      writes-same : writesFrom 16 1 (tab (x .operations) (opAt s at)) ≡ planOf 16 s .writes
-      writes-same = rw (start, writes-there s A, ← same)
-
-      reads-same : readsFrom (tab (x .operations) (opAt s at)) ≡ planOf 16 s .reads
-      reads-same = rw (start, reads-there s A, ← same)
-
       pub write-tables : (values begun : List ℕ) (n : ℕ) → Written (writesFrom 16 1 (tab (x .operations) (opAt s at))) (x .initial) values begun n
           → Tables (planOf 16 s) values begun n
       unfolding planOf
       write-tables values begun n decoded =
-          let W = rw writes-same at decoded in
+          let W = rw (writes-same s A x same at start) at decoded in
           record {
             initial = rw (W .first, ← same);
             written = rw (W .first) W;
@@ -62,7 +53,7 @@ module _ (s : List ℕ) (m : ℕ) (e : checkOf 16 s ≡ result m) where
       module _ (begun reader : List ℕ) (q : ℕ) (R : ReadIn (readsFrom (tab (x .operations) (opAt s at))) begun reader q) where
         read-is : (i : ℕ) → i < m → readOf (planOf 16 s) i ≡ record { begun = getD begun i 0; reader = getD reader i 0 }
         read-is i l =
-            let Q = rw reads-same at R in
+            let Q = rw (reads-same s A x same at start) at R in
             Q .each i (omega (arith, reads-counted 16 s m e, Q .count))
 
         pub read-begins : (i : ℕ) → i < m → readOf (planOf 16 s) i .begun ≡ getD begun i 0

@@ -6,7 +6,7 @@ use mathlib.Core.List.{List, [], _∷_, _++_, append-assoc, append-nil}
 use Prim.Native.Nat.{ℕ, zero, suc, _*_, _/_, _≤_, _<_}
 use native.Mathlib.Nat.{le-refl}
 use native.Mathlib.Omega.{arith}
-use lib.Dec.{ltb, leb→le}
+use lib.Dec.{ltb}
 use lib.ListN.{length, take}
 use lib.Seq.{take-suc, take-all}
 use borrow.Author.Tests.{lt-ltb}
@@ -22,8 +22,9 @@ use Rattle.plan.specs.Check.{result, checkOf}
 use Rattle.plan.proofs.Tests.{getD-in}
 use Rattle.plan.proofs.Accept.{accepted, reads-counted, in-range}
 use Rattle.answers.specs.Answers.{answerSize, answerAt, beginIn, answersFor, answersOf}
+use Rattle.answers.proofs.Lengths.{answers-length}
 use Rattle.simulator.specs.Judge.{readOf}
-use Rattle.simulator.proofs.AnswerBytes.{Fits, begin-of, reader-of, pair-of, count-of, answers-length}
+use Rattle.simulator.proofs.AnswerBytes.{Fits, begin-of, reader-of, pair-of, count-of}
 use Rattle.simulator.proofs.Judged.{fits}
 use Rattle.simulator.proofs.PointThree.{pointThree}
 use Rattle.fields.specs.Fields.{answerFields, answerField}
@@ -89,10 +90,6 @@ module _ (s : List ℕ) (m : ℕ) (e : checkOf 16 s ≡ result m) where
 
   lines-are : linesIn (answersOf 16 s) (2 * P .delta) m ≡ linesFor 16 P (P .reads)
   lines-are = first-lines m (le-refl m) ∙ rw (take-all m (P .reads) (omega (arith, reads-counted 16 s m e)))
-
-  -- Sizes that the code meets.
-  pub header-there : 8 ≤ length s
-  header-there = leb→le 8 (length s) (accepted 16 s m e .playable .long)
 
   -- how long a read lasts, from the header
   module _ (x : Shape) (same : shape x ≡ headerOf 16 s) where

@@ -1,7 +1,7 @@
 -- The loop over the operations: what it knows of those it has passed, and what its three tests say of the next one.
 -- It stands on the laws of waiting.
 use mathlib.Core.Path.{_≡_, refl, sym, ap, _∙_}
-use mathlib.Core.Bool.{Bool, true, false, _&&_, _||_}
+use mathlib.Core.Bool.{Bool, true, _&&_, _||_, and-assoc}
 use mathlib.Core.List.{List}
 use Prim.Native.Nat.{ℕ, _+_, _*_, _≤_, _<_}
 use native.Mathlib.Omega.{arith}
@@ -23,9 +23,7 @@ use Rattle.plan.proofs.Laws.{all-none, all-more, all-at}
 use Rattle.plan.proofs.Waiting.{follows, follows-none, follows-more, follows-rises, ended, Free, free-none, free-more}
 
 and-regroup : (a b c d : Bool) → a && (b && (c && d)) ≡ (a && (b && c)) && d
-and-regroup true true c d = refl
-and-regroup true false c d = refl
-and-regroup false b c d = refl
+and-regroup a b c d = simp and-assoc
 
 module _ (s : List ℕ) (h : Header) where
   unfoldable pub keyOf : ℕ → ℕ

@@ -1,7 +1,7 @@
 -- One forgery: its fields out of 40 bits, the movement that decides on its sender, the open read that it may answer.
 -- It stands on the laws of bit fields and of reads among operations.
-use mathlib.Core.Path.{_≡_, refl, sym, ap, _∙_, fun-ext}
-use mathlib.Core.Bool.{Bool, true, false, not, _&&_, _||_, and-false}
+use mathlib.Core.Path.{_≡_, sym, ap, _∙_, fun-ext}
+use mathlib.Core.Bool.{Bool, false, not, _&&_, _||_, and-false, and-assoc}
 use mathlib.Core.List.{List}
 use Prim.Native.Nat.{ℕ, suc, _+_, _*_, _-_, _/_, _%_, _^_, _<_, _≤_}
 use native.Mathlib.Nat.{le-div-iff-mul-le, div-mul-le-self}
@@ -111,9 +111,7 @@ module _ (s : List ℕ) where
   placed-is h e = rw e placed-plan
 
 and-regroup : (a b c d : Bool) → a && (b && (c && d)) ≡ ((a && b) && c) && d
-and-regroup true true c d = refl
-and-regroup true false c d = refl
-and-regroup false b c d = refl
+and-regroup a b c d = simp and-assoc
 
 -- a forgery's test: by itself, and its place in the order
 pub forgery-as : (s : List ℕ) (h : Header) (i all next : ℕ) (g : Forged) → all ≡ fieldOf s (forgeryAt 16 h i) 40 → IsForged all g

@@ -3,7 +3,7 @@
 use mathlib.Core.Path.{_≡_}
 use mathlib.Core.Bool.{Bool, _&&_}
 use mathlib.Core.List.{List}
-use Prim.Native.Nat.{ℕ, _+_, _*_}
+use Prim.Native.Nat.{ℕ, _+_, _*_, _≤_}
 use native.Mathlib.Omega.{arith}
 use lib.Dec.{T, leb, eqb, leb→le, eqb→eq}
 use lib.ListN.{length}
@@ -98,6 +98,10 @@ unfolding enoughServers planOf
 enough w s A = leb→le ((kIn (headerOf w s) + 3) * headerOf w s .f + 1) (headerOf w s .n) (A .servers)
 
 module _ (w : ℕ) (s : List ℕ) (A : Playable w s) where
+  -- the header's bytes are there
+  pub header-there : bytesFor (headerBits w) ≤ length s
+  header-there = leb→le (bytesFor (headerBits w)) (length s) (A .long)
+
   -- '2 a header field outside its range'
   pub in-range : Ranged (headerOf w s)
   unfolding headerOf

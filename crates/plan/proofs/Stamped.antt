@@ -2,9 +2,9 @@
 -- It stands on the laws of powers of two.
 use mathlib.Core.Path.{_≡_}
 use Prim.Native.Nat.{ℕ, _^_, _<_}
-use native.Mathlib.Nat.{mul-le-mul-right}
+use native.Mathlib.Nat.{mul-le-mul-right, mod-lt}
 use native.Mathlib.Omega.{arith}
-use lib.Pow.{high, low, split}
+use lib.Pow.{high, low, split, pow-pos}
 use Rattle.register.specs.Plan.{stamped, valueOf, numberOf}
 
 module _ (w : ℕ) where
@@ -19,6 +19,10 @@ module _ (w : ℕ) where
   pub stamped-back : (p : ℕ) → stamped w (valueOf w p) (numberOf w p) ≡ p
   unfolding valueOf numberOf stamped
   stamped-back p = split p w
+
+  pub value-below : (p : ℕ) → valueOf w p < 2 ^ w
+  unfolding valueOf
+  value-below p = mod-lt p (pow-pos w)
 
   -- a higher number is a higher stamped value
   pub stamped-rises : (v x m n : ℕ) → v < 2 ^ w → m < n → stamped w v m < stamped w x n

@@ -1,33 +1,25 @@
 -- Laws of tests over all indices below a bound, of a chain of tests with refusals, and of list members by index.
--- It stands on the register's laws of tests.
+-- It stands on Laws and on the register's laws of tests.
 use mathlib.Core.Path.{_≡_, refl}
 use mathlib.Core.Bool.{Bool, true, false}
 use mathlib.Core.Logic.{inl, inr}
 use mathlib.Core.List.{List, [], _∷_}
 use Prim.Native.Nat.{ℕ, zero, suc, _<_}
 use native.Mathlib.Omega.{arith}
-use native.Mathlib.Decide.{ℕ-discrete}
 use lib.Dec.{T}
 use lib.ListN.{length, getD}
 use Rattle.register.specs.Lists.{In, allUpTo}
-use Rattle.register.proofs.Logic.{and-l, and-r, and-i}
+use Rattle.register.proofs.Logic.{T-eq}
 use Rattle.plan.specs.Check.{Outcome, result, unless}
+use Rattle.plan.proofs.Laws as laws
 
 -- a test of all below n holds of each
 pub all-at : (n : ℕ) (g : ℕ → Bool) → T (allUpTo n g) → (i : ℕ) → i < n → T (g i)
-unfolding allUpTo
-all-at zero g t i l = absurd (omega arith)
-all-at (suc n) g t i l = go (ℕ-discrete i n) (all-at n g (and-r (g n) (allUpTo n g) t) i)
-  where
-    go : Dec (i ≡ n) → (i < n → T (g i)) → T (g i)
-    go (yes e) ih = rw e (and-l (g n) (allUpTo n g) t)
-    go (no d) ih = ih (omega arith)
+all-at n g t i l = rw (laws.all-at g n i l (T-eq (allUpTo n g) t)) tt
 
 -- what holds of each holds of all below n
 pub all-from : (n : ℕ) (g : ℕ → Bool) → ((i : ℕ) → i < n → T (g i)) → T (allUpTo n g)
-unfolding allUpTo
-all-from zero g f = tt
-all-from (suc n) g f = and-i (g n) (allUpTo n g) (f n (omega arith)) (all-from n g (λ i l. f i (omega arith)))
+all-from n g f = rw (laws.all-from g n (λ i l. T-eq (g i) (f i l))) tt
 
 module _ {A : Type 0} where
   -- a chain with a result passed its first test

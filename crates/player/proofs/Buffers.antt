@@ -1,31 +1,23 @@
 -- The lent buffers: the loop's turn over the answer buffer, and the zeroed workspace.
--- It stands on the definitions alone.
+-- It stands on the lengths of the answers.
 use mathlib.Core.Path.{_≡_, refl, sym, ap, _∙_}
 use mathlib.Core.List.{List, [], _∷_, _++_, append-assoc, append-nil}
 use Prim.Native.Nat.{ℕ, _+_, _*_, _-_, _≤_, _<_}
 use native.Mathlib.Numerals.{add-one}
 use native.Mathlib.Omega.{arith}
-use lib.ListN.{length, getD, take, drop, length-append, length-drop, replicate}
+use lib.ListN.{length, getD, take, drop, length-drop, replicate}
 use lib.Seq.{take-all, take-suc, take-at, drop-drop, drop-append-add, length-take-le, ext-getD, getD-drop}
 use Rattle.register.specs.Plan.{Plan, Read}
-use Rattle.register.specs.Reading.{Answer, answerOf}
+use Rattle.register.specs.Reading.{answerOf}
 use Rattle.plan.specs.Packed.{planOf}
-use Rattle.answers.specs.Answers.{bytesOf, answerBytes, answersFor, answersOf}
+use Rattle.answers.specs.Answers.{answerBytes, answersFor, answersOf}
 use Rattle.answers.specs.Workspace.{workspaceSize, zeroed}
+use Rattle.answers.proofs.Lengths.{answers-length}
 
 drop-past : (p q : List ℕ) (n k : ℕ) → length p ≡ n → drop (n + k) (p ++ q) ≡ drop k q
 drop-past p q n k e = rw (← e) (drop-append-add p q k)
 
 module _ (P : Plan) where
-  length-one : (r : Read) (a : Answer) → length (answerBytes 16 r a) ≡ 5
-  unfolding answerBytes bytesOf
-  length-one r a = refl
-
-  length-all : (rs : List Read) → length (answersFor 16 P rs) ≡ 5 * length rs
-  unfolding answersFor
-  length-all [] = refl
-  length-all (r ∷ rs) = rw (length-append, length-one, length-all rs) (omega arith)
-
   all-append : (rs qs : List Read) → answersFor 16 P (rs ++ qs) ≡ answersFor 16 P rs ++ answersFor 16 P qs
   unfolding answersFor
   all-append [] qs = refl
@@ -46,7 +38,7 @@ module _ (P : Plan) where
   answers-more rs b buffer i d h is =
       let p = answersFor 16 P (take i rs) in
       let q = drop (5 * i) b in
-      let n : length p ≡ 5 * i = rw (length-all, length-take-le i rs (omega arith)) in
+      let n : length p ≡ 5 * i = rw (answers-length 16 P, length-take-le i rs (omega arith)) in
       let k : 5 * (i + 1) ≡ 5 * i + 5 = omega arith in
       let e : drop (5 * i + 5) (p ++ q) ≡ drop (5 * i + 5) b = drop-past p q (5 * i) 5 n ∙ drop-drop 5 (5 * i) b in
       rw (is, take-at p q (5 * i) n, drop-drop, e, k, add-one, take-suc rs i d h, all-append, all-one) (sym (append-assoc p _ _))

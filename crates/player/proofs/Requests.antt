@@ -23,7 +23,7 @@ use Rattle.calendar.proofs.Spans.{own-rows}
 use Rattle.serving.specs.Links.{delayAt}
 use Rattle.requests.specs.Requests.{reachedBy, Asked}
 use Rattle.states.specs.Requests.{readReaches, Requested, writeBegins, readBegins}
-use Rattle.states.proofs.RequestLaws.{requested-next}
+use Rattle.states.proofs.RequestLaws.{requested-next, same-arrival}
 use Rattle.script.specs.declared.Script.{Script}
 use Rattle.script.specs.Inputs.{LatestWrite}
 use Rattle.script.proofs.Placing.{link-delay}
@@ -33,9 +33,6 @@ use Rattle.reading.specs.Reading.{Until, readAt}
 use Rattle.player.specs.Run.{Decoded}
 use Rattle.player.proofs.Tables.{knows, servers-same, listed, in-table, reader-range, not-before}
 use Rattle.player.proofs.Feeding.{range, ticks-same}
-
-moved : (a b : Bool) → a ≡ b → T a → T b
-moved a b e h = rw e at h
 
 writer-link : (n i b : ℕ) → n ≤ i → b < n → T (isLink n i b)
 unfolding isLink
@@ -55,10 +52,6 @@ module _ (s : List ℕ) (r : Script) (R : Decoded s r) (t : ℕ) (below : t < r 
   reaches p u b h l lo hi q =
       let d = delay-range 16 s (R .playable) t (planOf 16 s .n + p) b in
       rw (lt-ltb b (r .rules .n) (omega (arith, servers-same s r R)), delay-same p b h l, own-rows (suc t) (t + planOf 16 s .delay t (planOf 16 s .n + p) b) u (omega (arith, d .0)) (omega (arith, d .1, range s r R .delta-hi)) lo (omega arith))
-
-  -- arrivals of the same message
-  same-arrival : (b w u v x y : ℕ) → u ≡ v → x ≡ y → T (eqb (v + planOf 16 s .delay v (planOf 16 s .n + y) b) w) → T (eqb (u + planOf 16 s .delay u (planOf 16 s .n + x) b) w)
-  same-arrival b w u v x y e f h = rw (e, f) h
 
   -- ---- the write
 
@@ -112,12 +105,12 @@ module _ (s : List ℕ) (r : Script) (R : Decoded s r) (t : ℕ) (below : t < r 
               let m : i < r .reads .m = omega (arith, N .few) in
               let after = leb→le k i (and-l (leb k i) _ z) in
               let now : getD (r .reads .begun) i 0 ≡ t = omega (arith, not-before s r R t k i U after m, N .below i (omega arith) li) in
-              let w = moved (askedBy s (r .links) (r .rules .n) t (getD (r .reads .reader) i 0) u x b) _ (reaches (getD (r .reads .reader) i 0) u b (reader-few i m) l lo hi x) (and-r (leb k i) _ z) in
+              let w = subst T (reaches (getD (r .reads .reader) i 0) u b (reader-few i m) l lo hi x) (and-r (leb k i) _ z) in
               let e : x ≡ getD (r .reads .reader) i 0 = eqb→eq x (getD (r .reads .reader) i 0) (and-l (eqb x (getD (r .reads .reader) i 0)) _ w) in
               in-any (λ (q : Read). eqb (q .begun) t && readReaches (planOf 16 s) x u b q) (readAt (r .reads) i) (planOf 16 s .reads) (listed s r R i m)
               (and-i (eqb (getD (r .reads .begun) i 0) t) _ (rw now (eqb-refl t))
               (and-i (eqb (getD (r .reads .reader) i 0) x) _ (subst (λ (y : ℕ). T (eqb (getD (r .reads .reader) i 0) y)) (sym e) (eqb-refl (getD (r .reads .reader) i 0)))
-              (same-arrival b u (getD (r .reads .begun) i 0) t x (getD (r .reads .reader) i 0) now e (and-r (eqb x (getD (r .reads .reader) i 0)) _ w))))
+              (same-arrival (planOf 16 s) b u (getD (r .reads .begun) i 0) t x (getD (r .reads .reader) i 0) now e (and-r (eqb x (getD (r .reads .reader) i 0)) _ w))))
 
           from : T (readBegins (planOf 16 s) t x u b) → T (asks u x b)
           from y =
@@ -130,9 +123,9 @@ module _ (s : List ℕ) (r : Script) (R : Decoded s r) (t : ℕ) (below : t < r 
               let er : getD (r .reads .reader) i 0 ≡ x = sym (ap (λ (y : Read). y .reader) same) ∙ e in
               let after : k ≤ i = elim (decLe k i) [ yes a ↦ a | no a ↦ absurd (omega (arith, U .below i (omega arith) (omega arith))) ] in
               let early : i < k′ = elim (decLe k′ i) [ yes a ↦ absurd (omega (arith, not-before s r R (t + 1) k′ i N a m)) | no a ↦ omega arith ] in
-              let hits = same-arrival b u t (q .begun) (getD (r .reads .reader) i 0) x (sym now) er (and-r (eqb (q .reader) x) _ w) in
+              let hits = same-arrival (planOf 16 s) b u t (q .begun) (getD (r .reads .reader) i 0) x (sym now) er (and-r (eqb (q .reader) x) _ w) in
               anyUpTo-i k′ (λ i. leb k i && askedBy s (r .links) (r .rules .n) t (getD (r .reads .reader) i 0) u x b) i early
-              (and-i (leb k i) _ (le→leb k i after) (moved _ (askedBy s (r .links) (r .rules .n) t (getD (r .reads .reader) i 0) u x b) (sym (reaches (getD (r .reads .reader) i 0) u b (reader-few i m) l lo hi x))
+              (and-i (leb k i) _ (le→leb k i after) (subst T (sym (reaches (getD (r .reads .reader) i 0) u b (reader-few i m) l lo hi x))
               (and-i (eqb x (getD (r .reads .reader) i 0)) _ (subst (λ (y : ℕ). T (eqb x y)) (sym er) (eqb-refl x)) hits)))
 
       -- ---- all together

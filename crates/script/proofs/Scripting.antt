@@ -2,9 +2,7 @@
 -- It stands on Placing and Forging.
 use mathlib.Core.Path.{_≡_, ap, sym, _∙_}
 use mathlib.Core.List.{List}
-use Prim.Native.Nat.{ℕ, _+_, _*_, _≤_}
-use lib.Dec.{leb→le}
-use lib.ListN.{length}
+use Prim.Native.Nat.{ℕ, _+_, _*_}
 use Rattle.register.specs.Lists.{tab}
 use Rattle.plan.specs.declared.header.Shape.{Shape}
 use Rattle.plan.specs.Header.{Header, headerOf, moves}
@@ -18,9 +16,6 @@ use Rattle.script.specs.Script.{RulesOf, LinksOf, Entered, Scripted}
 use Rattle.script.proofs.Placing.{writes-there, reads-there, room}
 
 module _ (s : List ℕ) (A : Playable 16 s) where
-  pub header-there : 8 ≤ length s
-  header-there = leb→le 8 (length s) (A .long)
-
   module _ (x : Shape) (same : shape x ≡ headerOf 16 s) (at : ℕ) (starts-at : at ≡ 64 + 16 * moves (shape x)) where
     first-bit : at ≡ 64 + 16 * moves (headerOf 16 s)
     first-bit = starts-at ∙ ap (λ (h : Header). 64 + 16 * moves h) same
@@ -31,10 +26,10 @@ module _ (s : List ℕ) (A : Playable 16 s) where
     pub operations-room : Room s at (x .operations)
     operations-room = rw (first-bit, counted) (room s A)
 
-    writes-same : writesFrom 16 1 (tab (x .operations) (opAt s at)) ≡ planOf 16 s .writes
+    pub writes-same : writesFrom 16 1 (tab (x .operations) (opAt s at)) ≡ planOf 16 s .writes
     writes-same = rw (first-bit, counted) (sym (writes-there s A))
 
-    reads-same : readsFrom (tab (x .operations) (opAt s at)) ≡ planOf 16 s .reads
+    pub reads-same : readsFrom (tab (x .operations) (opAt s at)) ≡ planOf 16 s .reads
     reads-same = rw (first-bit, counted) (sym (reads-there s A))
 
     pub scripted : (before after : List ℕ) (r : Script) → r .shape ≡ x → RulesOf (shape x) (r .rules) → LinksOf (shape x) (r .links)

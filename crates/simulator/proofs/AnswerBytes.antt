@@ -3,18 +3,18 @@
 use mathlib.Core.Path.{_≡_, refl, _∙_}
 use mathlib.Core.List.{List, [], _∷_}
 use Prim.Native.Nat.{ℕ, _+_, _*_, _%_, _^_, _≤_, _<_}
-use native.Mathlib.Nat.{mod-eq-of-lt, mod-lt}
+use native.Mathlib.Nat.{mod-eq-of-lt}
 use native.Mathlib.Omega.{arith}
 use lib.Dec.{lit<}
-use lib.Pow.{pow-pos}
 use lib.ListN.{length, getD}
 use Rattle.bits.specs.Field.{fieldOf}
 use Rattle.register.specs.Plan.{Plan, Read, valueOf, numberOf}
 use Rattle.register.specs.Reading.{Answer, answerOf}
 use Rattle.plan.specs.Packed.{planOf}
-use Rattle.plan.proofs.Stamped.{stamped-back}
+use Rattle.plan.proofs.Stamped.{stamped-back, value-below}
 use Rattle.answers.specs.Answers.{answerSize, packed, answerBytes, answersFor, answersOf, answerAt, beginIn, readerIn, pairIn, countIn, zeroIn}
-use Rattle.simulator.proofs.Bytes.{field-high, field-low, parts-lt, length-bytes, field-bytes, joined, length-joined, field-joined}
+use Rattle.answers.proofs.Lengths.{answer-length, answers-length}
+use Rattle.simulator.proofs.Bytes.{field-high, field-low, parts-lt, field-bytes, joined, field-joined}
 
 -- an answer whose parts fit their fields
 pub record Fits (w : ℕ) (r : Read) (a : Answer) : Type 0 where
@@ -31,10 +31,6 @@ pub record ReadsBack (w : ℕ) (b : List ℕ) (r : Read) (a : Answer) : Type 0 w
   pub number-back : fieldOf b (10 + w) 8 ≡ numberOf w (a .pair)
   pub count-back : fieldOf b (18 + w) 5 ≡ a .count
   pub zero-back : fieldOf b (23 + w) 1 ≡ 0
-
-pub answer-length : (w : ℕ) (r : Read) (a : Answer) → length (answerBytes w r a) ≡ answerSize w
-unfolding answerBytes
-answer-length w r a = length-bytes (answerSize w) (packed w r a)
 
 -- a field of the same bit, written otherwise
 same-bit : (b : List ℕ) (v z x y : ℕ) → x ≡ y → fieldOf b x v ≡ z → fieldOf b y v ≡ z
@@ -54,10 +50,6 @@ module _ (w : ℕ) (r : Read) (a : Answer) where
   with-count : ℕ
   with-count = with-number * 2 ^ 5 + a .count
 
-  value-lt : valueOf w (a .pair) < 2 ^ w
-  unfolding valueOf
-  value-lt = mod-lt (a .pair) (pow-pos w)
-
   packed-parts : packed w r a ≡ with-count * 2 ^ 1 + 0
   unfolding packed begin-reader with-value with-number with-count
   packed-parts = omega arith
@@ -69,7 +61,7 @@ module _ (w : ℕ) (r : Read) (a : Answer) where
       (parts-lt (10 + w + 8) 5
       (parts-lt (10 + w) 8
       (parts-lt 10 w
-      (parts-lt 7 3 (F .begun-fits) (F .reader-fits)) value-lt) (F .number-fits)) (F .count-fits)) (lit< tt)
+      (parts-lt 7 3 (F .begun-fits) (F .reader-fits)) (value-below w (a .pair))) (F .number-fits)) (F .count-fits)) (lit< tt)
 
   all-bits : w % 8 ≡ 0 → Fits w r a → fieldOf (answerBytes w r a) 0 (10 + w + 8 + 5 + 1) ≡ with-count * 2 ^ 1 + 0
   unfolding answerBytes
@@ -85,11 +77,11 @@ module _ (w : ℕ) (r : Read) (a : Answer) where
       let five = field-high b 0 (10 + w + 8 + 5) 1 with-count 0 all (lit< tt) in
       let four = field-high b 0 (10 + w + 8) 5 with-number (a .count) five (F .count-fits) in
       let three = field-high b 0 (10 + w) 8 with-value (numberOf w (a .pair)) four (F .number-fits) in
-      let two = field-high b 0 10 w begin-reader (valueOf w (a .pair)) three value-lt in
+      let two = field-high b 0 10 w begin-reader (valueOf w (a .pair)) three (value-below w (a .pair)) in
       record {
         begun-back = field-high b 0 7 3 (r .begun) (r .reader) two (F .reader-fits);
         reader-back = field-low b 0 7 3 (r .begun) (r .reader) two (F .reader-fits);
-        value-back = field-low b 0 10 w begin-reader (valueOf w (a .pair)) three value-lt;
+        value-back = field-low b 0 10 w begin-reader (valueOf w (a .pair)) three (value-below w (a .pair));
         number-back = same-bit b 8 _ _ _ (omega arith) (field-low b 0 (10 + w) 8 with-value (numberOf w (a .pair)) four (F .number-fits));
         count-back = same-bit b 5 _ _ _ (omega arith) (field-low b 0 (10 + w + 8) 5 with-number (a .count) five (F .count-fits));
         zero-back = same-bit b 1 _ _ _ (omega arith) (field-low b 0 (10 + w + 8 + 5) 1 with-count 0 all (lit< tt));
@@ -108,9 +100,6 @@ module _ (w : ℕ) (P : Plan) where
   bytes-even : (r : Read) → length (bytes-of r) ≡ answerSize w
   unfolding bytes-of
   bytes-even r = answer-length w r (answerOf P r)
-
-  pub answers-length : (rs : List Read) → length (answersFor w P rs) ≡ answerSize w * length rs
-  answers-length rs = rw answers-joined (length-joined bytes-of (answerSize w) bytes-even rs)
 
   -- the fields of answer i are those of its read
   module _ (whole : w % 8 ≡ 0) (rs : List Read) (d : Read) (i : ℕ) (l : i < length rs) (F : Fits w (getD rs i d) (answerOf P (getD rs i d))) where

@@ -1,12 +1,12 @@
 -- Fields of pieces in a row, of a number written as bytes, and of a number packed from parts; each for every width.
 -- It stands on the laws of bit fields.
-use mathlib.Core.Path.{_≡_, refl, sym, ap, _∙_}
+use mathlib.Core.Path.{_≡_, sym, ap, _∙_}
 use mathlib.Core.List.{List, [], _∷_, _++_}
 use Prim.Native.Nat.{ℕ, zero, suc, _+_, _*_, _/_, _%_, _^_, _≤_, _<_}
 use native.Mathlib.Nat.{mod-lt, mod-one, pow-zero, zero-add}
 use native.Mathlib.Omega.{arith}
 use lib.Dec.{lit<}
-use lib.ListN.{length, getD, length-append}
+use lib.ListN.{length, getD}
 use lib.Seq.{getD-at}
 use lib.Arith.{digits-lt}
 use lib.Pow.{high, low, mod-pow-add, pow-add}
@@ -14,6 +14,7 @@ use Rattle.bits.specs.Field.{fieldOf}
 use Rattle.bits.proofs.Laws.{field-zero, field-lt, field-split, bytes-more}
 use Rattle.bits.proofs.Joined.{field-left, field-right}
 use Rattle.answers.specs.Answers.{bytesOf}
+use Rattle.answers.proofs.Lengths.{length-bytes}
 
 -- a field made of two parts gives them back
 module _ (s : List ℕ) (at a b hi lo : ℕ) (e : fieldOf s at (a + b) ≡ hi * 2 ^ b + lo) (l : lo < 2 ^ b) where
@@ -26,11 +27,6 @@ module _ (s : List ℕ) (at a b hi lo : ℕ) (e : fieldOf s at (a + b) ≡ hi * 
 -- two parts below their bounds, as one number below its own
 pub parts-lt : (a b : ℕ) {hi lo : ℕ} → hi < 2 ^ a → lo < 2 ^ b → hi * 2 ^ b + lo < 2 ^ (a + b)
 parts-lt a b h l = rw pow-add (digits-lt h l)
-
-pub length-bytes : (n x : ℕ) → length (bytesOf n x) ≡ n
-unfolding bytesOf
-length-bytes zero x = refl
-length-bytes (suc n) x = rw (length-append, length-bytes n (x / 256)) (omega arith)
 
 -- the bytes of a number hold it, as far as they go
 pub field-bytes : (n x : ℕ) → fieldOf (bytesOf n x) 0 (8 * n) ≡ x % 2 ^ (8 * n)
@@ -56,11 +52,6 @@ module _ {A : Type 0} where
   joined g (x ∷ xs) = g x ++ joined g xs
 
   module _ (g : A → List ℕ) (n : ℕ) (even : (x : A) → length (g x) ≡ n) where
-    pub length-joined : (xs : List A) → length (joined g xs) ≡ n * length xs
-    unfolding joined
-    length-joined [] = omega arith
-    length-joined (x ∷ xs) = rw (length-append, even x, length-joined xs) (omega arith)
-
     -- a field of the i-th piece
     pub field-joined : (xs : List A) (i : ℕ) (d : A) (at w : ℕ) → i < length xs → at + w ≤ 8 * n
         → fieldOf (joined g xs) (8 * n * i + at) w ≡ fieldOf (g (getD xs i d)) at w

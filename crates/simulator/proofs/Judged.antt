@@ -3,21 +3,22 @@
 use mathlib.Core.Path.{_≡_, sym, ap, _∙_}
 use mathlib.Core.Bool.{Bool, true, _&&_}
 use mathlib.Core.Logic.{_⊎_, inl, inr}
-use mathlib.Core.List.{List, map}
+use mathlib.Core.List.{List}
 use Prim.Native.Nat.{ℕ, _*_, _%_, _<_}
 use native.Mathlib.Omega.{arith}
 use lib.Dec.{T, eqb, eqb→eq, eqb-refl}
 use lib.ListN.{length}
 use Rattle.bits.proofs.Laws.{field-lt}
-use Rattle.register.specs.Lists.{In, any, allUpTo, filter}
+use Rattle.register.specs.Lists.{In, any, allUpTo}
 use Rattle.register.specs.Plan.{Plan, Write, Read, numberOf}
 use Rattle.register.specs.Server.{has}
 use Rattle.register.specs.Reading.{countIn, notedBy, answerOf}
-use Rattle.register.specs.Regular.{finished, concurrent, lastFinished, allowed}
+use Rattle.register.specs.Regular.{concurrent, lastFinished, allowed}
 use Rattle.register.specs.Promise.{Served}
 use Rattle.register.proofs.Logic.{and-l, and-i, or-e, T-eq}
-use Rattle.register.proofs.Lists.{any-in, in-map, in-filter, highest-in}
+use Rattle.register.proofs.Lists.{any-in}
 use Rattle.register.proofs.Counting.{count-le}
+use Rattle.register.proofs.Regular.{last-cases}
 use Rattle.plan.specs.Header.{headerOf}
 use Rattle.plan.specs.Packed.{planOf}
 use Rattle.plan.specs.Check.{result}
@@ -32,26 +33,19 @@ use Rattle.simulator.proofs.AnswerBytes.{Fits, begin-of, reader-of, pai
 
 -- what the regular register allows is the initial pair or that of a write
 pub allowed-cases : (P : Plan) (r : Read) (p : ℕ) → allowed P r p ≡ true → (p ≡ P .initial) ⊎ ((u : Write) × In u (P .writes) × (u .pair ≡ p))
-unfolding allowed lastFinished
+unfolding allowed
 allowed-cases P r p e = go (or-e (eqb p (lastFinished P r)) (any written (P .writes)) (rw e tt))
   where
     written : Write → Bool
     written u = eqb (u .pair) p && concurrent P r u
 
-    ended : List Write
-    ended = filter (finished P r) (P .writes)
-
     Known : Type 0
     Known = (p ≡ P .initial) ⊎ ((u : Write) × In u (P .writes) × (u .pair ≡ p))
 
-    last : p ≡ lastFinished P r → (lastFinished P r ≡ P .initial) ⊎ In (lastFinished P r) (map (λ (u : Write). u .pair) ended) → Known
-    last q (inl h) = inl (q ∙ h)
-    last q (inr h) =
-        let (u, i, f) = in-map (λ (u : Write). u .pair) (lastFinished P r) ended h in
-        inr (u, in-filter (finished P r) u (P .writes) i .0, sym (q ∙ f))
-
     go : T (eqb p (lastFinished P r)) ⊎ T (any written (P .writes)) → Known
-    go (inl h) = last (eqb→eq p (lastFinished P r) h) (highest-in (P .initial) (map (λ (u : Write). u .pair) ended))
+    go (inl h) =
+        let q = eqb→eq p (lastFinished P r) h in
+        elim (last-cases P r) [ inl e ↦ inl (q ∙ e) | inr (u, i, e, t) ↦ inr (u, i, sym (q ∙ e)) ]
     go (inr h) =
         let (u, i, t) = any-in written (P .writes) h in
         inr (u, i, eqb→eq (u .pair) p (and-l (eqb (u .pair) p) (concurrent P r u) t))

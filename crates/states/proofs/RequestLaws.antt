@@ -100,6 +100,10 @@ module _ (P : Plan) where
 
 -- ---- the READ of an open read
 
+-- arrivals of the same message
+pub same-arrival : (P : Plan) (b t u v x y : ℕ) → u ≡ v → x ≡ y → T (eqb (v + P .delay v (P .n + y) b) t) → T (eqb (u + P .delay u (P .n + x) b) t)
+same-arrival P b t u v x y e f h = rw (e, f) h
+
 module _ (P : Plan) (G : Good P) (t b : ℕ) (r : Read) (listed : In r (P .reads)) (began : r .begun < t) (lasts : t ≤ readEnd P r) where
   -- another request of its reader that arrives now is the same
   only-one : (q : Read) → In q (P .reads) → q .begun < t → q .reader ≡ r .reader → q .begun + P .delay (q .begun) (P .n + r .reader) b ≡ t → q .begun ≡ r .begun
@@ -117,9 +121,6 @@ module _ (P : Plan) (G : Good P) (t b : ℕ) (r : Read) (listed : In r (P .reads
       hit : Read → Bool
       hit q = eqb (q .begun + P .delay (q .begun) (P .n + q .reader) b) t
 
-      same-arrival : (u v x y : ℕ) → u ≡ v → x ≡ y → T (eqb (v + P .delay v (P .n + y) b) t) → T (eqb (u + P .delay u (P .n + x) b) t)
-      same-arrival u v x y e f h = rw (e, f) h
-
       to : T (any (sameRead r) (readsIn P t b)) → T (readWay P t (r .reader) t b)
       to y =
           let (q, iq, eq) = any-in (sameRead r) (readsIn P t b) y in
@@ -127,7 +128,7 @@ module _ (P : Plan) (G : Good P) (t b : ℕ) (r : Read) (listed : In r (P .reads
           let er : r .reader ≡ q .reader = eqb→eq (r .reader) (q .reader) (and-r (eqb (r .begun) (q .begun)) _ eq) in
           in-any (λ (z : Read). ltb (z .begun) t && readReaches P (r .reader) t b z) r (P .reads) listed
           (and-i (ltb (r .begun) t) _ (lt→ltb (r .begun) t began)
-          (and-i (eqb (r .reader) (r .reader)) _ (eqb-refl (r .reader)) (same-arrival (r .begun) (q .begun) (r .reader) (q .reader) eb er (in-filter hit q (P .reads) iq .1))))
+          (and-i (eqb (r .reader) (r .reader)) _ (eqb-refl (r .reader)) (same-arrival P b t (r .begun) (q .begun) (r .reader) (q .reader) eb er (in-filter hit q (P .reads) iq .1))))
 
       from : T (readWay P t (r .reader) t b) → T (any (sameRead r) (readsIn P t b))
       from y =
@@ -137,5 +138,5 @@ module _ (P : Plan) (G : Good P) (t b : ℕ) (r : Read) (listed : In r (P .reads
           let er : q .reader ≡ r .reader = eqb→eq (q .reader) (r .reader) (and-l (eqb (q .reader) (r .reader)) _ w) in
           let hits = and-r (eqb (q .reader) (r .reader)) _ w in
           let eb = only-one q iq before er (eqb→eq _ t hits) in
-          in-any (sameRead r) r (readsIn P t b) (filter-in hit r (P .reads) listed (same-arrival (r .begun) (q .begun) (r .reader) (r .reader) (sym eb) refl hits))
+          in-any (sameRead r) r (readsIn P t b) (filter-in hit r (P .reads) listed (same-arrival P b t (r .begun) (q .begun) (r .reader) (r .reader) (sym eb) refl hits))
           (and-i (eqb (r .begun) (r .begun)) (eqb (r .reader) (r .reader)) (eqb-refl (r .begun)) (eqb-refl (r .reader)))

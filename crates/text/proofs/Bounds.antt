@@ -4,10 +4,9 @@ use mathlib.Core.Path.{_≡_, refl}
 use mathlib.Core.Logic.{inl, inr}
 use mathlib.Core.List.{List, [], _∷_}
 use Prim.Native.Nat.{ℕ, _*_, _^_, _≤_, _<_}
-use native.Mathlib.Nat.{lt-of-lt-of-le, mod-lt}
+use native.Mathlib.Nat.{lt-of-lt-of-le}
 use native.Mathlib.Omega.{arith}
 use lib.Dec.{lit≤}
-use lib.Pow.{pow-pos}
 use lib.ListN.{length, take, length-append}
 use Rattle.decimal.proofs.Laws.{decimal-length}
 use Rattle.register.specs.Lists.{In}
@@ -18,14 +17,11 @@ use Rattle.plan.specs.Check.{Outcome, refused, result, checkOf}
 use Rattle.plan.proofs.Accept.{playable, reads-counted, in-range}
 use Rattle.plan.proofs.AcceptReads.{read-stands}
 use Rattle.plan.proofs.Longest.{most-reads}
+use Rattle.plan.proofs.Stamped.{value-below}
 use Rattle.lines.specs.Text.{lineWith, lineOf, linesFor, textAfter, textOf, mostLine, mostText, writtenOver}
 use Rattle.lines.proofs.Lines.{answer-fits}
 use Rattle.text.proofs.Refusals.{refusal-low}
 use Rattle.text.proofs.Over.{whole}
-
-value-lt : (p : ℕ) → valueOf 16 p < 65536
-unfolding valueOf
-value-lt p = mod-lt p (pow-pos 16)
 
 module _ (s : List ℕ) (m : ℕ) (e : checkOf 16 s ≡ result m) where
   abbrev P : Plan
@@ -38,7 +34,7 @@ module _ (s : List ℕ) (m : ℕ) (e : checkOf 16 s ≡ result m) where
       let F = answer-fits s m e r i in
       let R = read-stands 16 s A r i in
       let a = answerOf P r in
-      let value : valueOf 16 (a .pair) < 10 ^ 5 = lt-of-lt-of-le (value-lt (a .pair)) (lit≤ tt) in
+      let value : valueOf 16 (a .pair) < 10 ^ 5 = lt-of-lt-of-le (value-below 16 (a .pair)) (lit≤ tt) in
       simp length-append (omega (
         arith,
         decimal-length 2 (r .begun) (omega (arith, F .begun-fits)),

@@ -10,9 +10,10 @@ use Rattle.register.specs.Lists.{allUpTo}
 use Rattle.plan.specs.Packed.{planOf}
 use Rattle.plan.specs.Check.{result}
 use Rattle.plan.specs.Playable.{Playable}
-use Rattle.plan.proofs.Accept.{playable}
+use Rattle.plan.proofs.Accept.{playable, header-there}
 use Rattle.script.specs.Operations.{Room}
-use Rattle.script.proofs.Scripting.{header-there, operations-room}
+use Rattle.script.proofs.Scripting.{operations-room}
+use Rattle.script.proofs.Forging.{shape-ranged}
 use Rattle.simulator.specs.Judge.{answerFits, answerAllowed, judgeAfter}
 use Rattle.judge.proofs.Laws as laws
 use Rattle.judge.proofs.judge_answers.Statement.{statement}
@@ -74,12 +75,12 @@ unfolding judgeAfter
 returns c = rw (ne-eqb _ _ (c .if1 .taken))
 
 read-requires : tie.Need-read-requires
-read-requires c κs = let x = c .before .before .before in header-there (now (x .args .plan)) (plays x)
+read-requires c κs = let x = c .before .before .before in header-there 16 (now (x .args .plan)) (plays x)
 
 operations-at-requires : tie.Need-operations-at-requires
 operations-at-requires c κs =
     let x = c .before .before .before .before in
-    laws.shape-ranged (now (x .args .plan)) (x .args .count) (x .pre) (c .read .result) (c .read .ensures)
+    shape-ranged (now (x .args .plan)) (plays x) (c .read .result) (c .read .ensures)
 
 cast-operations : tie.Need-cast-operations
 cast-operations c = search needs

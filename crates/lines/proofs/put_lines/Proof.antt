@@ -9,8 +9,9 @@ use Rattle.decimal.specs.Decimal.{mostDigits}
 use Rattle.decimal.specs.Stored.{Stored}
 use Rattle.decimal.proofs.Stores.{stored-as, stored-none, stored-then}
 use Rattle.plan.proofs.Longest.{most-reads}
+use Rattle.plan.proofs.Accept.{header-there, playable}
 use Rattle.lines.specs.Lines.{linesIn}
-use Rattle.lines.proofs.Lines.{header-there, span-few, all-lines}
+use Rattle.lines.proofs.Lines.{span-few, all-lines}
 use Rattle.lines.proofs.put_lines.Statement.{statement}
 use Rattle.lines.proofs.put_lines.Tie as tie
 
@@ -21,7 +22,7 @@ abbrev μ-loop : tie.MeasureT-loop
 μ-loop out₀ start plan answers count span at₀ i₀ out at i = count - i
 
 read-requires : tie.Need-read-requires Inv-loop μ-loop
-read-requires c κs = header-there _ _ (c .before .before .before .pre .1)
+read-requires c κs = header-there 16 _ (playable 16 _ _ (c .before .before .before .pre .1))
 
 cast-span : tie.Need-cast-span Inv-loop μ-loop
 cast-span c = search needs

@@ -1,13 +1,14 @@
 -- `script::read` meets its contract. An accepted plan is decoded: each part is read from where it stands, and Scripting puts them together.
 use mathlib.Core.Path.{refl}
 use borrow.Author.Needs.{needs}
-use Rattle.script.proofs.Scripting.{header-there, operations-room, scripted}
+use Rattle.plan.proofs.Accept.{header-there}
+use Rattle.script.proofs.Scripting.{operations-room, scripted}
 use Rattle.script.proofs.Forging.{shape-ranged}
 use Rattle.script.proofs.read.Statement.{statement}
 use Rattle.script.proofs.read.Tie as tie
 
 read-requires : tie.Need-read-requires
-read-requires c κs = header-there (c .before .before .args .plan .now) (c .before .before .pre .0)
+read-requires c κs = header-there 16 (c .before .before .args .plan .now) (c .before .before .pre .0)
 
 rules-of-requires : tie.Need-rules-of-requires
 rules-of-requires c κs = search needs

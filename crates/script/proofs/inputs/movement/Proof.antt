@@ -1,5 +1,5 @@
 -- `script::inputs::movement` meets its contract. A remainder tells a movement; the placement is a field of the plan.
-use mathlib.Core.Path.{sym}
+use mathlib.Core.Path.{_≡_, sym}
 use Prim.Native.Nat.{ℕ}
 use native.Mathlib.Omega.{arith}
 use native.Mathlib.Nat.{div-le-self}

@@ -1,7 +1,7 @@
 -- `script::operations::writes_of` meets its contract. The loop's invariant: the tables have the writes among the operations passed. A write more finds a number left.
 use mathlib.Core.Path.{_≡_, refl, sym, _∙_}
 use mathlib.Core.Logic.{inl, inr}
-use Prim.Native.Nat.{_+_, _*_, _-_, _≤_}
+use Prim.Native.Nat.{ℕ, _+_, _*_, _-_, _≤_}
 use native.Mathlib.Omega.{arith}
 use lib.ListN.{set, replicate, length}
 use borrow.Author.Tests.{ne-eqb}
