@@ -1,5 +1,5 @@
 -- `put` meets its contract: the digits of a tenth, then the last one. The measure is the number.
-use Prim.Native.Nat.{ℕ}
+use Prim.Native.Nat.{ℕ, _<_}
 use borrow.Author.Needs.{needs}
 use borrow.Fn.Kinds.{In}
 use borrow.Fn.PlainCycle.{Measures, is, falls, and}

@@ -4,8 +4,7 @@ use native.Mathlib.Omega.{arith}
 use borrow.Author.Needs.{needs}
 use Rattle.plan.specs.Header.{Header}
 use Rattle.plan.specs.Numbered.{numbered}
-use Rattle.plan.proofs.Accept.{playable}
-use Rattle.script.proofs.Scripting.{header-there}
+use Rattle.plan.proofs.Accept.{playable, header-there}
 use Rattle.look.proofs.Places.{places-fit}
 use Rattle.look.proofs.LookCases.{look-checked, look-ten, look-server, look-tick, look-done, shown}
 use Rattle.look.proofs.look.Statement.{statement}
@@ -30,7 +29,7 @@ returns : tie.Need-returns
 returns c = rw (c .refusal2 .ensures) (look-ten _ _ _ _ _ (sym (c .before .before .before .before .before .check .ensures) ∙ ap numbered (c .before .before .before .checked2 .given .1)) (c .before .if1 .taken))
 
 read-requires : tie.Need-read-requires
-read-requires c κs = header-there _ (playable 16 _ _ (sym (c .before .before .before .before .check .ensures) ∙ ap numbered (c .before .before .checked2 .given .1)))
+read-requires c κs = header-there 16 _ (playable 16 _ _ (sym (c .before .before .before .before .check .ensures) ∙ ap numbered (c .before .before .checked2 .given .1)))
 
 cast-if2 : tie.Need-cast-if2
 cast-if2 c = search needs
