@@ -56,9 +56,6 @@ module _ (a r : List ℕ) (row m : ℕ) (h : m ≤ places) (C : Cleared a r row)
 
 -- ---- by tick and receiver
 
-pub row-small : (t b : ℕ) → b < receivers → rowOf t b < rows
-row-small t b h = omega arith
-
 pub row-slot : (t b : ℕ) → b < receivers → rowOf t b / receivers ≡ t % 16
 row-slot t b h = omega arith
 

@@ -1,6 +1,6 @@
 -- Posting the pairs of a store, place by place, and posting to all other servers, one by one. It stands on Posting.
 use mathlib.Core.Path.{_≡_, refl, sym, _∙_}
-use mathlib.Core.Bool.{Bool, true, false, not, _&&_, _||_, and-false, or-assoc, or-false}
+use mathlib.Core.Bool.{Bool, true, false, not, _&&_, _||_, and-false, or-assoc, or-false, and-or-distrib-left}
 use mathlib.Core.List.{List, [], _∷_}
 use Prim.Native.Nat.{ℕ, zero, suc, _+_, _/_, _%_, _≤_, _<_}
 use native.Mathlib.Omega.{arith}
@@ -20,12 +20,7 @@ use Rattle.calendar.proofs.Posting.{posted-eq, posted-trans, posted-non
 -- ---- the pairs of a store
 
 join : (a b c d : Bool) → (a && (b && c)) || (a && (b && d)) ≡ a && (b && (c || d))
-join true true true true = refl
-join true true true false = refl
-join true true false true = refl
-join true true false false = refl
-join true false c d = refl
-join false b c d = refl
+join a b c d = simp and-or-distrib-left
 
 -- the first n places of a store are not empty
 abbrev pub Full : ℕ → List Stamped → Type 0

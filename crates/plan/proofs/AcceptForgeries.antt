@@ -7,18 +7,15 @@ use mathlib.Core.List.{List}
 use Prim.Native.Nat.{ℕ, _+_, _/_, _≤_, _<_}
 use native.Mathlib.Omega.{arith}
 use lib.Dec.{T, leb, ltb, eqb, leb→le, ltb→lt, eqb→eq, eqb-refl, T-not}
-use Rattle.bits.specs.Field.{fieldOf}
-use Rattle.bits.proofs.Laws.{field-lt}
 use Rattle.register.specs.Lists.{In}
-use Rattle.register.specs.Plan.{Plan, Read, Forgery, numberOf, readEnd}
+use Rattle.register.specs.Plan.{Plan, Read, Forgery, readEnd}
 use Rattle.register.proofs.Logic.{and-l, and-r, or-e}
 use Rattle.register.proofs.Lists.{in-tabFrom, any-in}
-use Rattle.plan.specs.Header.{Header, headerOf, forgeryAt}
+use Rattle.plan.specs.Header.{Header, headerOf}
 use Rattle.plan.specs.Parts.{forgeryOf}
 use Rattle.plan.specs.Packed.{planOf}
 use Rattle.plan.specs.Check.{readOpen, forgeryStands, forgeriesStand}
 use Rattle.plan.proofs.Tests.{all-at}
-use Rattle.plan.proofs.Stamped.{number-stamped}
 use Rattle.plan.specs.Playable.{Playable}
 
 -- who is placed is a server
@@ -60,16 +57,6 @@ module _ (w : ℕ) (s : List ℕ) (g : Forgery) where
         begun-before = leb→le (r .begun) (g .at) (search (and-l, and-r));
         ends-after = ltb→lt (g .at) (readEnd P r) (search (and-l, and-r));
       }
-
-  -- the fields' widths
-  pub forgery-below : In g (planOf w s .forged) → (g .from < 16) × (g .to < 32) × (numberOf w (g .pair) < 256)
-  unfolding planOf forgeryOf
-  forgery-below m =
-      let h : Header = headerOf w s in
-      let (i, l, e) = in-tabFrom g 0 (h .forgeries) (forgeryOf w s h) m in
-      let at : ℕ = forgeryAt w h i in
-      let number = number-stamped w (fieldOf s (at + 16) w) (fieldOf s (at + 16 + w) 8) (field-lt s (at + 16) w) in
-      rw e (field-lt s (at + 7) 4, field-lt s (at + 11) 5, rw number (field-lt s (at + 16 + w) 8))
 
 module _ (w : ℕ) (s : List ℕ) (A : Playable w s) where
   -- a forgery is one of the listed ones, and passed its test

@@ -19,10 +19,7 @@ use Rattle.plan.specs.Check.{endOf}
 use Rattle.plan.proofs.Tests.{getD-in}
 use Rattle.plan.proofs.Accept.{in-range}
 use Rattle.plan.proofs.AcceptOperations.{read-end, stands, waits, rises, at-lt}
-
--- the read that an operation says
-abbrev pub readBy : Operation → Read
-readBy o = record { begun = o .at; reader = o .party }
+use Rattle.plan.proofs.Reading.{readBy}
 
 -- the reads of an operation, where c says that it is a reader's, and of those behind it
 abbrev readsAfter : Bool → Operation → List Operation → List Read

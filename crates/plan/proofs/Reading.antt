@@ -17,8 +17,9 @@ use Rattle.plan.specs.Parts.{Operation, readsFrom}
 abbrev pub isRead : Operation → Bool
 isRead o = not (eqb (o .party) 0)
 
-abbrev pub readOf : Operation → Read
-readOf o = record { begun = o .at; reader = o .party }
+-- the read that an operation says
+abbrev pub readBy : Operation → Read
+readBy o = record { begun = o .at; reader = o .party }
 
 reads-append : (l m : List Operation) → readsFrom (l ++ m) ≡ readsFrom l ++ readsFrom m
 unfolding readsFrom filter
@@ -26,15 +27,16 @@ reads-append [] m = refl
 reads-append (o ∷ l) m = go (isRead o) (reads-append l m)
   where
     go : (b : Bool) → readsFrom (l ++ m) ≡ readsFrom l ++ readsFrom m
-        → map readOf (cond b (o ∷ filter isRead (l ++ m)) (filter isRead (l ++ m))) ≡ map readOf (cond b (o ∷ filter isRead l) (filter isRead l)) ++ readsFrom m
-    go true e = ap (λ r. readOf o ∷ r) e
+        → map readBy (cond b (o ∷ filter isRead (l ++ m)) (filter isRead (l ++ m))) ≡ map readBy (cond b (o ∷ filter isRead l) (filter isRead l)) ++ readsFrom m
+    go true e = ap (λ r. readBy o ∷ r) e
     go false e = e
 
-reads-last : (n : ℕ) (g : ℕ → Operation) → readsFrom (tab (suc n) g) ≡ readsFrom (tab n g) ++ cond (isRead (g n)) (readOf (g n) ∷ []) []
+-- one operation more
+pub reads-last : (n : ℕ) (g : ℕ → Operation) → readsFrom (tab (suc n) g) ≡ readsFrom (tab n g) ++ cond (isRead (g n)) (readBy (g n) ∷ []) []
 unfolding readsFrom filter
 reads-last n g = ap readsFrom (tab-last 0 n g) ∙ reads-append (tab n g) (g (0 + n) ∷ []) ∙ rw (zero-add n) (ap (λ r. readsFrom (tab n g) ++ r) (go (isRead (g n))))
   where
-    go : (b : Bool) → map readOf (cond b (g n ∷ []) []) ≡ cond b (readOf (g n) ∷ []) []
+    go : (b : Bool) → map readBy (cond b (g n ∷ []) []) ≡ cond b (readBy (g n) ∷ []) []
     go true = refl
     go false = refl
 
@@ -43,22 +45,22 @@ unfolding count readsFrom filter tabFrom
 length-reads zero g = refl
 length-reads (suc n) g = ap length (reads-last n g) ∙ length-append (readsFrom (tab n g)) _ ∙ rw (length-reads n g) (go (isRead (g n)))
   where
-    go : (b : Bool) → count (λ j. isRead (g j)) n + length (cond b (readOf (g n) ∷ []) []) ≡ one-if b + count (λ j. isRead (g j)) n
+    go : (b : Bool) → count (λ j. isRead (g j)) n + length (cond b (readBy (g n) ∷ []) []) ≡ one-if b + count (λ j. isRead (g j)) n
     go true = omega arith
     go false = omega arith
 
-pub any-reads : (p : Read → Bool) (n : ℕ) (g : ℕ → Operation) → any p (readsFrom (tab n g)) ≡ anyUpTo n (λ j. isRead (g j) && p (readOf (g j)))
+pub any-reads : (p : Read → Bool) (n : ℕ) (g : ℕ → Operation) → any p (readsFrom (tab n g)) ≡ anyUpTo n (λ j. isRead (g j) && p (readBy (g j)))
 unfolding anyUpTo any readsFrom filter tabFrom
 any-reads p zero g = refl
 any-reads p (suc n) g =
-    let rest : Bool = anyUpTo n (λ j. isRead (g j) && p (readOf (g j))) in
-    let here : List Read = cond (isRead (g n)) (readOf (g n) ∷ []) [] in
+    let rest : Bool = anyUpTo n (λ j. isRead (g j) && p (readBy (g j))) in
+    let here : List Read = cond (isRead (g n)) (readBy (g n) ∷ []) [] in
     ap (any p) (reads-last n g)
     ∙ any-append p (readsFrom (tab n g)) here
     ∙ rw (any-reads p n g) (or-comm rest (any p here) ∙ ap (λ b. b || rest) (go (isRead (g n))))
   where
-    go : (b : Bool) → any p (cond b (readOf (g n) ∷ []) []) ≡ b && p (readOf (g n))
-    go true = or-comm (p (readOf (g n))) false
+    go : (b : Bool) → any p (cond b (readBy (g n) ∷ []) []) ≡ b && p (readBy (g n))
+    go true = or-comm (p (readBy (g n))) false
     go false = refl
 
 -- one more index

@@ -267,14 +267,6 @@ module _ (s : List ℕ) (r : Script) (R : Decoded s r) where
               (and-i (goesTo (endsOf after) (r .rules .n) (entryAt between e 2) (entryAt between e 1) x) _ (rw (eq, eu) goes)
               (and-i (eqb i (entryAt between e 3)) (eqb j (entryAt between e 4)) ei ej)))
 
-          listed-below : T lists → i < planOf 16 s .n
-          listed-below y =
-              let (e, l, z) = anyUpTo-e nf entries (rw listed-is at y) in
-              let z1 = and-r (eqb (entryAt between e 0) t) _ z in
-              let z2 = and-r (eqb (entryAt between e 2) q) _ z1 in
-              let z3 = and-r (eqb (entryAt between e 1) u) _ z2 in
-              rw (eqb→eq i (entryAt between e 3) (and-r (eqb j (entryAt between e 4)) _ z3)) (from-below e l)
-
         pub forges-now : Forges (planOf 16 s) (r .writes .known .m) t (pairAt (r .writes .known)) posts
         forges-now = record {
           votes = λ u b j i a z lb lj. T-iff _ _

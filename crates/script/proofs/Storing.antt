@@ -1,10 +1,11 @@
 -- The writes and the reads of one operation more, and what the tables say after it is stored.
 -- It stands on the definitions of the plan's parts.
 use mathlib.Core.Path.{_≡_, refl, sym, ap, _∙_}
-use mathlib.Core.Bool.{Bool, true, false, not, cond}
-use mathlib.Core.List.{List, [], _∷_, _++_, map}
+use mathlib.Core.Bool.{Bool, true, false, cond}
+use mathlib.Core.List.{List, [], _∷_, _++_, append-nil}
 use Prim.Native.Nat.{ℕ, zero, suc, _+_, _-_, _≤_, _<_}
 use native.Mathlib.Nat.{add-zero}
+use native.Mathlib.Numerals.{add-one}
 use native.Mathlib.Omega.{arith}
 use native.Mathlib.Decide.{ℕ-discrete}
 use lib.Dec.{eqb}
@@ -13,15 +14,13 @@ use lib.Seq.{getD-set-same, getD-set-other, getD-append-seam}
 use Rattle.register.specs.Lists.{tabFrom, tab, filter}
 use Rattle.register.specs.Plan.{Write, Read, stamped}
 use Rattle.plan.specs.Parts.{Operation, writesFrom, readsFrom}
+use Rattle.plan.proofs.Reading.{readBy, reads-last}
 use Rattle.script.specs.Operations.{opAt, Room, noWrite, noRead, Written, ReadIn}
 use Rattle.script.proofs.Tables.{length-more, tab-more, set-below}
 
 -- the write that an operation says, under a number
 abbrev pub writeBy : ℕ → Operation → Write
 writeBy k o = record { begun = o .at; pair = stamped 16 (o .value) k }
-
-abbrev pub readBy : Operation → Read
-readBy o = record { begun = o .at; reader = o .party }
 
 writes-last : (k : ℕ) (os : List Operation) (o : Operation)
     → writesFrom 16 k (os ++ (o ∷ [])) ≡ cond (eqb (o .party) 0) (writesFrom 16 k os ++ (writeBy (k + length (writesFrom 16 k os)) o ∷ [])) (writesFrom 16 k os)
@@ -44,26 +43,6 @@ writes-last k (q ∷ os) o = go (eqb (q .party) 0) (eqb (o .party) 0) (writes-la
     go true false d e = ap (λ (l : List Write). writeBy k q ∷ l) d
     go false c d e = e
 
-reads-last : (os : List Operation) (o : Operation)
-    → readsFrom (os ++ (o ∷ [])) ≡ cond (not (eqb (o .party) 0)) (readsFrom os ++ (readBy o ∷ [])) (readsFrom os)
-unfolding readsFrom filter
-reads-last [] o = go (not (eqb (o .party) 0))
-  where
-    go : (b : Bool) → map readBy (cond b (o ∷ []) []) ≡ cond b (readBy o ∷ []) []
-    go true = refl
-    go false = refl
-reads-last (q ∷ os) o = go (not (eqb (q .party) 0)) (not (eqb (o .party) 0)) (reads-last os o)
-  where
-    is-read : Operation → Bool
-    is-read x = not (eqb (x .party) 0)
-
-    go : (b c : Bool) → map readBy (filter is-read (os ++ (o ∷ []))) ≡ cond c (map readBy (filter is-read os) ++ (readBy o ∷ [])) (map readBy (filter is-read os))
-        → map readBy (cond b (q ∷ filter is-read (os ++ (o ∷ []))) (filter is-read (os ++ (o ∷ []))))
-        ≡ cond c (map readBy (cond b (q ∷ filter is-read os) (filter is-read os)) ++ (readBy o ∷ [])) (map readBy (cond b (q ∷ filter is-read os) (filter is-read os)))
-    go true true e = ap (λ (l : List Read). readBy q ∷ l) e
-    go true false e = ap (λ (l : List Read). readBy q ∷ l) e
-    go false c e = e
-
 module _ (op : ℕ → Operation) (i : ℕ) where
   -- one operation more, by its party
   pub write-more : op i .party ≡ 0
@@ -76,10 +55,10 @@ module _ (op : ℕ → Operation) (i : ℕ) where
   write-same e = rw (tab-more i op, writes-last 1 (tab i op) (op i), e)
 
   pub read-more : eqb (op i .party) 0 ≡ false → readsFrom (tab (i + 1) op) ≡ readsFrom (tab i op) ++ (readBy (op i) ∷ [])
-  read-more e = rw (tab-more i op, reads-last (tab i op) (op i), e)
+  read-more e = rw (add-one i, reads-last i op, e)
 
   pub read-same : op i .party ≡ 0 → readsFrom (tab (i + 1) op) ≡ readsFrom (tab i op)
-  read-same e = rw (tab-more i op, reads-last (tab i op) (op i), e)
+  read-same e = rw (add-one i, reads-last i op, e) (append-nil _)
 
 -- the writes of some operations are no more than those of more operations
 pub writes-grow : (op : ℕ → Operation) (i d : ℕ) → length (writesFrom 16 1 (tab i op)) ≤ length (writesFrom 16 1 (tab (i + d) op))

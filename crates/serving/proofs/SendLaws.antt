@@ -99,11 +99,7 @@ module _ (plan : List ℕ) (links : Links) (n t : ℕ) (ends : List ℕ) (i : �
         (join (eqb k i) (ltb (x % receivers) n) (not (eqb (x % receivers) i)) (eqb (reaches plan links n t ends i row (x % receivers) % 16) (x / receivers)) (eqb j (row .wrote)) (among (row .kept) j)))
       where
         join : (a b c d e f : Bool) → (a && (b && (c && (d && e)))) || (a && (b && (c && (d && f)))) ≡ a && (b && (c && (d && (e || f))))
-        join true true true true e f = refl
-        join true true true false e f = refl
-        join true true false d e f = refl
-        join true false c d e f = refl
-        join false b c d e f = refl
+        join a b c d e f = simp and-or-distrib-left
 
   -- ---- its replies
 

@@ -1,7 +1,7 @@
 -- Replies under way by the step rules: none before the read's begin, and a tick adds what is sent in it. It stands on WayLaws' general laws and on
 -- register's laws of the log.
 use mathlib.Core.Path.{_≡_, refl}
-use mathlib.Core.Bool.{Bool, true, false, _&&_, _||_, cond, and-false, or-comm, false≢true}
+use mathlib.Core.Bool.{Bool, true, false, _&&_, _||_, cond, and-false, or-comm, false≢true, or-false}
 use mathlib.Core.Logic.{inl, inr}
 use mathlib.Core.List.{List, [], _++_}
 use Prim.Native.Nat.{ℕ, zero, suc, _+_, _/_, _≤_, _<_}
@@ -168,9 +168,7 @@ module _ (P : Plan) (G : Good P) where
       rw (replies-next t r s p i l h, replies-later t r s p i a, forged-later t r s p i a) (drop (replyWay P (cluster P t .log) t r s p i) (leb s (readEnd P r)))
     where
       drop : (a e : Bool) → (a || (e && false)) || (e && false) ≡ a
-      drop true e = refl
-      drop false true = refl
-      drop false false = refl
+      drop a e = simp (and-false, or-false)
 
   -- what arrives is noted
   pub heard-next : (t : ℕ) (r : Read) (p i : ℕ) → i < P .n → r .begun ≤ t
