@@ -1,18 +1,20 @@
 -- What is left of a row's cells while they are emptied, and when the row is cleared; that nothing is left when all is zeroed.
 use mathlib.Core.Path.{_≡_, refl, _∙_}
-use mathlib.Core.Bool.{Bool, true, false, not, _&&_, and-false}
+use mathlib.Core.Bool.{Bool, true, false, not, _&&_, and-false, and-comm}
 use mathlib.Core.List.{List}
-use Prim.Native.Nat.{ℕ, _+_, _*_, _≤_, _<_, max}
+use Prim.Native.Nat.{ℕ, _+_, _*_, _≤_, _<_, max, _/_, _%_}
 use native.Mathlib.Omega.{arith}
-use native.Mathlib.Decide.{ℕ-discrete}
+use native.Mathlib.Decide.{ℕ-discrete, decLe}
 use lib.Dec.{eqb, ltb, leb}
 use lib.ListN.{length, getD}
 use borrow.Author.Tests.{lt-ltb, le-ltb, le-leb, leb-true, ltb-true, ltb-false, eq-eqb, ne-eqb}
+use Rattle.register.proofs.Logic.{eqb-comm}
 use Rattle.calendar.specs.Bits.{putWord}
-use Rattle.calendar.specs.Layout.{calendarSize, cellsAt, places, rows, cellWord, lowOf, highOf, sender}
+use Rattle.calendar.specs.Layout.{calendarSize, cellsAt, places, rows, cellWord, lowOf, highOf, sender, receivers, rowOf}
 use Rattle.calendar.specs.View.{SamePast, Cleared, Empty, Zeroed}
 use Rattle.calendar.proofs.Laws.{bit-zero, put-length, put-byte, put-other, put-none, put-low, put-high, zeroed-word}
 use Rattle.calendar.proofs.Posting.{same-cell}
+use Rattle.calendar.proofs.Stores.{same-row}
 
 -- the cells of the row with the pairs from `from` to before `to` are emptied
 pub record Emptied (a r : List ℕ) (row from to : ℕ) : Type 0 where
@@ -41,22 +43,20 @@ out-more : (p : Bool) (from at y : ℕ) (s : Bool) → from ≤ at
 out-more false from at y s h = refl
 out-more true from at y s h = go (ℕ-discrete y at)
   where
-    same : (y ≡ at → ⊥) → ltb y (at + 1) ≡ ltb y at
-    same d = both (ltb y at) refl
-      where
-        less : y < at → y < at + 1
-        less l = omega arith
-
-        more : at ≤ y → (y ≡ at → ⊥) → at + 1 ≤ y
-        more l d = omega arith
-
-        both : (b : Bool) → ltb y at ≡ b → ltb y (at + 1) ≡ b
-        both true e = lt-ltb y (at + 1) (less (ltb-true y at e))
-        both false e = le-ltb y (at + 1) (more (ltb-false y at e) d)
-
     go : Dec (y ≡ at) → not (eqb y at) && (not (leb from y && ltb y at) && s) ≡ not (leb from y && ltb y (at + 1)) && s
     go (yes e) = rw (eq-eqb y at e, le-leb from y (omega arith), lt-ltb y (at + 1) (omega arith))
-    go (no d) = rw (ne-eqb y at d, same d)
+    go (no d) = rw (ne-eqb y at d) (elim (decLe y at) [
+      | yes l ↦ rw (lt-ltb y at (omega arith), lt-ltb y (at + 1) (omega arith))
+      | no l ↦ rw (le-ltb y at (omega arith), le-ltb y (at + 1) (omega arith))
+    ])
+
+-- of the rows of a tick, that of one receiver more is out
+pub row-more : (t from b x : ℕ) (s : Bool) → x < rows → from ≤ b → b < receivers
+    → not (eqb x (rowOf t b)) && (not (eqb (x / receivers) (t % 16) && (leb from (x % receivers) && ltb (x % receivers) b)) && s)
+    ≡ not (eqb (x / receivers) (t % 16) && (leb from (x % receivers) && ltb (x % receivers) (b + 1))) && s
+row-more t from b x s h l g =
+    rw (same-row x t b h g, and-comm (eqb (x % receivers) b) (eqb (t % 16) (x / receivers)), eqb-comm (t % 16) (x / receivers))
+    (out-more (eqb (x / receivers) (t % 16)) from b (x % receivers) s l)
 
 pub emptied-more : (a r : List ℕ) (row from at : ℕ) → row < rows → at < places → from ≤ at → calendarSize ≤ length r → Emptied a r row from at
     → Emptied a (putWord r (cellWord row at) 0) row from (at + 1)

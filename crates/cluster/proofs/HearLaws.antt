@@ -13,8 +13,8 @@ use Rattle.register.proofs.Logic.{T-eq}
 use Rattle.register.proofs.Counting.{anyUpTo-i}
 use Rattle.calendar.specs.Layout.{receivers, rows, places, rowOf, highOf, sender}
 use Rattle.calendar.specs.View.{SamePast, Spanned, Cleared}
-use Rattle.calendar.proofs.Stores.{same-row}
 use Rattle.calendar.proofs.Spans.{cleared-cells, cleared-spanned}
+use Rattle.calendar.proofs.Clearing.{row-more}
 use Rattle.cluster.specs.declared.Reader.{Reader}
 use Rattle.cluster.specs.Tick.{noReader, anyHeard, Noted, Hearing, Heard}
 
@@ -24,27 +24,7 @@ taken t n y = eqb (y / receivers) (t % 16) && (leb 16 (y % receivers) && ltb (y 
 
 taken-more : (t x y : ℕ) → y < rows → x < 4 → (b : Bool) → not (eqb y (rowOf t (16 + x))) && (not (taken t x y) && b) ≡ not (taken t (x + 1) y) && b
 unfolding taken
-taken-more t x y h l b = rw (same-row y t (16 + x) h (omega arith)) (go (ℕ-discrete (t % 16) (y / receivers)) (ℕ-discrete (y % receivers) (16 + x)))
-  where
-    go : Dec (t % 16 ≡ y / receivers) → Dec (y % receivers ≡ 16 + x)
-        → not (eqb (y % receivers) (16 + x) && eqb (t % 16) (y / receivers)) && (not (eqb (y / receivers) (t % 16) && (leb 16 (y % receivers) && ltb (y % receivers) (16 + x))) && b)
-        ≡ not (eqb (y / receivers) (t % 16) && (leb 16 (y % receivers) && ltb (y % receivers) (16 + (x + 1)))) && b
-    go (no d) e = rw (ne-eqb (t % 16) (y / receivers) d, ne-eqb (y / receivers) (t % 16) (λ q. d (sym q)), and-false (eqb (y % receivers) (16 + x)))
-    go (yes d) (yes e) =
-        rw (
-          eq-eqb (t % 16) (y / receivers) d,
-          eq-eqb (y / receivers) (t % 16) (sym d),
-          eq-eqb (y % receivers) (16 + x) e,
-          le-leb 16 (y % receivers) (omega arith),
-          lt-ltb (y % receivers) (16 + (x + 1)) (omega arith),
-        )
-    go (yes d) (no e) = rw (ne-eqb (y % receivers) (16 + x) e) (or (decLe (y % receivers) (16 + x)))
-      where
-        or : Dec (y % receivers ≤ 16 + x)
-            → not (eqb (y / receivers) (t % 16) && (leb 16 (y % receivers) && ltb (y % receivers) (16 + x))) && b
-            ≡ not (eqb (y / receivers) (t % 16) && (leb 16 (y % receivers) && ltb (y % receivers) (16 + (x + 1)))) && b
-        or (yes q) = rw (lt-ltb (y % receivers) (16 + x) (omega arith), lt-ltb (y % receivers) (16 + (x + 1)) (omega arith))
-        or (no q) = rw (le-ltb (y % receivers) (16 + x) (omega arith), le-ltb (y % receivers) (16 + (x + 1)) (omega arith))
+taken-more t x y h l b = let e : 16 + (x + 1) ≡ 16 + x + 1 = omega arith in rw e (row-more t 16 (16 + x) y b h (omega arith) (omega arith))
 
 -- the first n readers have noted what arrives, and their rows are taken
 pub record Hearing-to (work : List ℕ) (t : ℕ) (s r : List Reader) (after : List ℕ) (n : ℕ) : Type 0 where

@@ -5,8 +5,8 @@ use mathlib.Core.Bool.{Bool, true, false, not, _&&_, _||_, cond, and-false, or-a
 use mathlib.Core.List.{List, []}
 use Prim.Native.Nat.{ℕ, _+_, _-_, _/_, _%_, _≤_, _<_}
 use native.Mathlib.Omega.{arith}
-use native.Mathlib.Decide.{decLe, ℕ-discrete}
-use lib.Dec.{eqb, leb, ltb}
+use native.Mathlib.Decide.{ℕ-discrete}
+use lib.Dec.{eqb, leb, ltb, leb·zero}
 use lib.ListN.{length, getD, set, length-set}
 use lib.Seq.{getD-set-same, getD-set-other, set-getD}
 use borrow.Author.Tests.{lt-ltb, le-ltb, lt-leb, eq-eqb, ne-eqb, eqb-true, eqb-false, ltb-true, leb-true}
@@ -16,8 +16,8 @@ use Rattle.calendar.specs.Layout.{receivers, rows, places, rowOf, sender}
 use Rattle.calendar.specs.View.{SamePast, Spanned, Posted, Cleared}
 use Rattle.calendar.specs.Posts.{among}
 use Rattle.calendar.proofs.Laws.{ltb-more}
-use Rattle.calendar.proofs.Stores.{same-row}
 use Rattle.calendar.proofs.Spans.{posted-spanned, cleared-cells, cleared-spanned}
+use Rattle.calendar.proofs.Clearing.{row-more}
 use Rattle.serving.specs.declared.Server.{Server}
 use Rattle.cluster.specs.declared.Reader.{Reader}
 use Rattle.cluster.specs.declared.Cluster.{Cluster}
@@ -182,25 +182,7 @@ module _ (F : Feed) (ends : List ℕ) (c : List Server) where
     taken-more : (x : ℕ) → x < rows → (s : Bool)
         → not (eqb x (rowOf (F .t) b)) && (not (eqb (x / receivers) (F .t % 16) && ltb (x % receivers) b) && s)
         ≡ not (eqb (x / receivers) (F .t % 16) && ltb (x % receivers) (b + 1)) && s
-    taken-more x h s = rw (same-row x (F .t) b h (omega arith)) (go (ℕ-discrete (F .t % 16) (x / receivers)) (ℕ-discrete (x % receivers) b))
-      where
-        go : Dec (F .t % 16 ≡ x / receivers) → Dec (x % receivers ≡ b)
-            → not (eqb (x % receivers) b && eqb (F .t % 16) (x / receivers)) && (not (eqb (x / receivers) (F .t % 16) && ltb (x % receivers) b) && s)
-            ≡ not (eqb (x / receivers) (F .t % 16) && ltb (x % receivers) (b + 1)) && s
-        go (no d) e = rw (ne-eqb (F .t % 16) (x / receivers) d, ne-eqb (x / receivers) (F .t % 16) (λ q. d (sym q)), and-false (eqb (x % receivers) b))
-        go (yes d) (yes e) =
-            rw (
-              eq-eqb (F .t % 16) (x / receivers) d,
-              eq-eqb (x / receivers) (F .t % 16) (sym d),
-              eq-eqb (x % receivers) b e,
-              lt-ltb (x % receivers) (b + 1) (omega arith),
-            )
-        go (yes d) (no e) = rw (ne-eqb (x % receivers) b e) (or (decLe (x % receivers) b))
-          where
-            or : Dec (x % receivers ≤ b)
-                → not (eqb (x / receivers) (F .t % 16) && ltb (x % receivers) b) && s ≡ not (eqb (x / receivers) (F .t % 16) && ltb (x % receivers) (b + 1)) && s
-            or (yes q) = rw (lt-ltb (x % receivers) b (omega arith), lt-ltb (x % receivers) (b + 1) (omega arith))
-            or (no q) = rw (le-ltb (x % receivers) b (omega arith), le-ltb (x % receivers) (b + 1) (omega arith))
+    taken-more x h s = rw leb·zero at (row-more (F .t) 0 b x s h (omega arith) (omega arith))
 
     module _ (q : Server) (after : List ℕ) (T : Turned (feedAt F work) ends b (getD r b absent) q after) where
       outs : ℕ → Step

@@ -10,7 +10,7 @@ use lib.ListN.{getD}
 use borrow.Author.Tests.{lt-ltb, eq-eqb}
 use Rattle.register.specs.Lists.{tab, any, anyUpTo}
 use Rattle.register.specs.Plan.{Forgery, stamped, valueOf, numberOf}
-use Rattle.register.proofs.Logic.{T-iff, and-r}
+use Rattle.register.proofs.Logic.{T-iff, and-r, eqb-comm}
 use Rattle.register.proofs.Lists.{any-in, in-any, in-tabFrom}
 use Rattle.register.proofs.Counting.{anyUpTo-e, anyUpTo-i, any-cong}
 use Rattle.plan.specs.Header.{headerOf}
@@ -38,9 +38,6 @@ any-tab n G F = T-iff _ _ to from
         let (e, l, t) = anyUpTo-e n (λ e. F (G e)) y in
         let z : 0 + e ≡ e = omega arith in
         in-any F (G e) (tab n G) (rw z at (tabFrom-in 0 n G e l)) t
-
-eqb-turn : (a b : ℕ) → eqb a b ≡ eqb b a
-eqb-turn a b = T-iff (eqb a b) (eqb b a) (λ t. rw (eqb→eq a b t) (eqb-refl b)) (λ t. rw (eqb→eq b a t) (eqb-refl a))
 
 -- a pair is known by its number
 module _ (values : List ℕ) (m : ℕ) (few : m ≤ 65) (small : (j : ℕ) → getD values j 0 < 65536) where
@@ -73,7 +70,7 @@ module _ (s : List ℕ) (known : Known) (few : known .m ≤ 65) (small : (j : �
   number-turned e j l h = rw (E e l .known) (known-number (known .values) (known .m) few small (messageOf s e .pair) j h)
 
   sender-turned : (e i : ℕ) → e < headerOf 16 s .forgeries → eqb (messageOf s e .from) i ≡ eqb i (entryAt work e 3)
-  sender-turned e i l = rw (E e l .sender) (eqb-turn (messageOf s e .from) i)
+  sender-turned e i l = rw (E e l .sender) (eqb-comm (messageOf s e .from) i)
 
   abbrev nf : ℕ
   nf = headerOf 16 s .forgeries
