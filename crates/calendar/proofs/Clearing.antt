@@ -23,7 +23,7 @@ pub record Emptied (a r : List ℕ) (row from to : ℕ) : Type 0 where
   pub cells : (x j i : ℕ) → x < rows → j < places → sender r x j i ≡ not (eqb x row && (leb from j && ltb j to)) && sender a x j i
 
 -- no number is from b on and below b
-no-number : (b y : ℕ) → leb b y && ltb y b ≡ false
+pub no-number : (b y : ℕ) → leb b y && ltb y b ≡ false
 no-number b y = go (leb b y) refl
   where
     go : (c : Bool) → leb b y ≡ c → c && ltb y b ≡ false

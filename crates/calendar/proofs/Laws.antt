@@ -9,10 +9,10 @@ use lib.Dec.{eqb, ltb, eqb·zero-suc, eqb·suc-zero, eqb·suc-suc}
 use lib.ListN.{length, getD, set, length-set}
 use lib.Seq.{getD-set-same, getD-set-other, lt-length-set}
 use lib.Bits.{bitOr, or-shr, or-mod}
-use borrow.Author.Tests.{lt-ltb, le-ltb, eqb-true, eqb-false, ltb-true, ltb-false}
+use borrow.Author.Tests.{lt-ltb, le-ltb, eqb-true, eqb-false, eq-eqb, ne-eqb}
 use Rattle.calendar.specs.Bits.{bit, wordOf, putWord}
 use Rattle.calendar.specs.View.{Zeroed}
-use native.Mathlib.Decide.{ℕ-discrete}
+use native.Mathlib.Decide.{ℕ-discrete, decLe}
 
 -- ---- tests
 
@@ -22,16 +22,12 @@ or-either C false b e f g = g e
 
 -- one number more
 pub ltb-more : (k i : ℕ) (h : Bool) → (ltb k i && h) || (eqb k i && h) ≡ ltb k (i + 1) && h
-ltb-more k i h = go (ltb k i) (eqb k i) refl refl
+ltb-more k i h = go (decLe k i) (ℕ-discrete k i)
   where
-    go : (a b : Bool) → ltb k i ≡ a → eqb k i ≡ b → (a && h) || (b && h) ≡ ltb k (i + 1) && h
-    go true true p q = absurd (omega (arith, ltb-true k i p, eqb-true k i q))
-    go true false p q = rw (lt-ltb k (i + 1) (omega (arith, ltb-true k i p))) (or-false h)
-    go false true p q = rw (lt-ltb k (i + 1) (omega (arith, eqb-true k i q)))
-    go false false p q = rw (le-ltb k (i + 1) (more (ltb-false k i p) (eqb-false k i q)))
-      where
-        more : i ≤ k → (k ≡ i → ⊥) → i + 1 ≤ k
-        more l d = omega arith
+    go : Dec (k ≤ i) → Dec (k ≡ i) → (ltb k i && h) || (eqb k i && h) ≡ ltb k (i + 1) && h
+    go l (yes e) = rw (lt-ltb k (i + 1) (omega arith), le-ltb k i (omega arith), eq-eqb k i e)
+    go (yes l) (no d) = rw (lt-ltb k (i + 1) (omega arith), lt-ltb k i (omega arith), ne-eqb k i d) (or-false h)
+    go (no l) (no d) = rw (le-ltb k (i + 1) (omega arith), le-ltb k i (omega arith), ne-eqb k i d)
 
 -- ---- sets
 

@@ -9,13 +9,19 @@ use lib.Dec.{eqb, leb, ltb}
 use lib.ListN.{length, getD, set, length-set, List·getD-append}
 use lib.Seq.{getD-set-same, getD-set-other, getD-at}
 use lib.Bits.{bitOr}
-use borrow.Author.Tests.{eqb-true, eqb-false, lt-ltb, le-ltb, le-leb, lt-leb}
+use borrow.Author.Tests.{eqb-true, eqb-false, lt-ltb, le-ltb, le-leb}
 use Rattle.calendar.specs.Bits.{bit}
 use Rattle.calendar.specs.Layout.{rows, places, lowOf, highOf, sendersOf, sender}
 use Rattle.calendar.specs.View.{Spanned}
 use Rattle.calendar.proofs.Laws.{bit-or}
+use Rattle.calendar.proofs.Clearing.{no-number}
 use Rattle.serving.specs.declared.Voters.{Voters}
 use Rattle.serving.specs.Bits.{sets, listed, Joined}
+
+-- a test that holds only from low to before j
+inside-all : (low j y : ℕ) (b : Bool) → (b ≡ true → (low ≤ y) × (y < j)) → (leb low y && ltb y j) && b ≡ b
+inside-all low j y true f = let w = f refl in rw (le-leb low y (w .0), lt-ltb y j (w .1))
+inside-all low j y false f = and-false (leb low y && ltb y j)
 
 -- a set that gets the members of another one
 pub set-or : (xs : List ℕ) (j v : ℕ) → j < length xs → (y i : ℕ) → sets (set xs j (bitOr (getD xs j 0) v)) y i ≡ sets xs y i || (eqb y j && bit i v)
@@ -32,11 +38,7 @@ module _ (work : List ℕ) (row : ℕ) (a : List ℕ) where
     pub each : (y i : ℕ) → sets r y i ≡ sets a y i || ((leb low y && ltb y j) && sender work row y i)
 
   pub joining-none : (low : ℕ) → Joining a low low
-  joining-none low = record { size = refl; each = λ y i. go y i (decLe low y) }
-    where
-      go : (y i : ℕ) → Dec (low ≤ y) → sets a y i ≡ sets a y i || ((leb low y && ltb y low) && sender work row y i)
-      go y i (yes h) = rw (le-ltb y low h, and-false (leb low y)) (sym (or-false (sets a y i)))
-      go y i (no h) = rw (lt-leb low y (omega arith)) (sym (or-false (sets a y i)))
+  joining-none low = record { size = refl; each = λ y i. rw (no-number low y) (sym (or-false (sets a y i))) }
 
   -- one pair more
   pub joining-more : (r : List ℕ) (low j : ℕ) → low ≤ j → j < length r → Joining r low j → Joining (set r j (bitOr (getD r j 0) (sendersOf work row j))) low (j + 1)
@@ -57,11 +59,10 @@ module _ (work : List ℕ) (row : ℕ) (a : List ℕ) where
 
   -- all of the row's span is all that arrives
   pub joined-all : (r : List ℕ) (j : ℕ) → row < rows → Spanned work places → highOf work row ≤ j → Joining r (lowOf work row) j → Joined work row a r
-  joined-all r j h S e J = record { each = λ y i l. J .each y i ∙ ap (λ (b : Bool). sets a y i || b) (go y i l (sender work row y i) refl) }
+  joined-all r j h S e J = record { each = λ y i l. J .each y i ∙ ap (λ (b : Bool). sets a y i || b) (go y i l) }
     where
-      go : (y i : ℕ) → y < places → (b : Bool) → sender work row y i ≡ b → (leb (lowOf work row) y && ltb y j) && b ≡ b
-      go y i l true q = let w = S .within row y i h l q in rw (le-leb (lowOf work row) y (w .0), lt-ltb y j (omega (arith, w .1)))
-      go y i l false q = and-false (leb (lowOf work row) y && ltb y j)
+      go : (y i : ℕ) → y < places → (leb (lowOf work row) y && ltb y j) && sender work row y i ≡ sender work row y i
+      go y i l = inside-all (lowOf work row) j y (sender work row y i) (λ q. let w = S .within row y i h l q in (w .0, omega (arith, w .1)))
 
 -- ---- all but the last set stand together
 
@@ -79,9 +80,8 @@ module _ (work : List ℕ) (row : ℕ) (a : Voters) (size : length (a .most) ≡
       → ((i : ℕ) → bit i last ≡ bit i (a .last) || sender work row 64 i) → Joined work row (listed a) (listed (record { most = most; last = last }))
   voters-all most last j J past end = record { each = λ y i l. go y i (decLe 64 y) l }
     where
-      same : (y i : ℕ) → y < 64 → (b : Bool) → sender work row y i ≡ b → (leb (lowOf work row) y && ltb y j) && b ≡ b
-      same y i l true q = let w = S .within row y i h (omega arith) q in rw (le-leb (lowOf work row) y (w .0), lt-ltb y j (past y l (w .1)))
-      same y i l false q = and-false (leb (lowOf work row) y && ltb y j)
+      same : (y i : ℕ) → y < 64 → (leb (lowOf work row) y && ltb y j) && sender work row y i ≡ sender work row y i
+      same y i l = inside-all (lowOf work row) j y (sender work row y i) (λ q. let w = S .within row y i h (omega arith) q in (w .0, past y l (w .1)))
 
       go : (y i : ℕ) → Dec (64 ≤ y) → y < places → sets (most ++ (last ∷ [])) y i ≡ sets (a .most ++ (a .last ∷ [])) y i || sender work row y i
       go y i (yes d) l =
@@ -90,7 +90,7 @@ module _ (work : List ℕ) (row : ℕ) (a : Voters) (size : length (a .most) ≡
       go y i (no d) l =
           let k : y < 64 = omega arith in
           below-last most last y i (J .size ∙ size) k
-          ∙ (J .each y i ∙ rw (below-last (a .most) (a .last) y i size k) (ap (λ (b : Bool). sets (a .most) y i || b) (same y i k (sender work row y i) refl)))
+          ∙ (J .each y i ∙ rw (below-last (a .most) (a .last) y i size k) (ap (λ (b : Bool). sets (a .most) y i || b) (same y i k)))
 
   -- the last pair arrives, too
   pub voters-more : (most : List ℕ) (j : ℕ) → Joining work row (a .most) most (lowOf work row) j → 64 ≤ j
