@@ -1,14 +1,14 @@
 -- What is posted: a server's vote, or what it keeps, to one row or to all other servers.
 use mathlib.Core.Path.{_≡_}
-use mathlib.Core.Bool.{Bool, true, false, not, _&&_, _||_, cond}
+use mathlib.Core.Bool.{Bool, false, not, _&&_, _||_, cond}
 use mathlib.Core.List.{List, [], _∷_}
 use Prim.Native.Nat.{ℕ, zero, suc, _+_, _*_, _-_, _/_, _%_, _^_, _≤_, _<_}
 use lib.Dec.{eqb, ltb}
-use lib.ListN.{getD, set}
+use lib.ListN.{set}
 use Rattle.bits.specs.Field.{fieldOf}
 use Rattle.calendar.specs.declared.Stamped.{Stamped}
 use Rattle.calendar.specs.declared.Sending.{Sending}
-use Rattle.calendar.specs.Layout.{receivers, places, depth, lowOf, highOf}
+use Rattle.calendar.specs.Layout.{receivers, depth, lowOf, highOf}
 
 abbrev pub Messages : Type 0
 Messages = ℕ → ℕ → ℕ → Bool
