@@ -18,7 +18,7 @@ use Rattle.plan.specs.Parts.{forgeryOf}
 use Rattle.plan.specs.Packed.{planOf}
 use Rattle.plan.specs.Check.{readOpen, forgeryStands, forgeriesStand}
 use Rattle.plan.proofs.Tests.{all-at}
-use Rattle.plan.proofs.Stamped.{number-stamped}
+use Rattle.register.proofs.Stamped.{number-stamped}
 use Rattle.plan.specs.Playable.{Playable}
 
 -- who is placed is a server
