@@ -1,7 +1,7 @@
 // The answers of the reads: the pair that a reader chooses, and its bytes.
 ghost use mathlib.Core.Path.{_≡_};
 ghost use mathlib.Core.List.{_++_};
-ghost use Prim.Native.Nat.{_+_, _*_, _≤_};
+ghost use Prim.Native.Nat.{_+_, _*_, _^_, _≤_, _<_};
 ghost use lib.ListN.{length, drop};
 ghost use Rattle.register.specs.Plan.{stamped};
 ghost use Rattle.answers.specs.Answers.{answerSize, answerBytes};
@@ -18,7 +18,7 @@ pub struct Choice {
 }
 
 // The bits of an answer, as one number.
-fn packed(begun: u8, reader: u8, value: u16, number: u8, count: u32) -> u64
+fn packed(begun: u8, reader: u8, value: u32, number: u8, count: u32) -> u64
     ensures { λ r. ⌜ r ≡ ((((begun * 8 + reader) * 65536 + value) * 256 + number) * 32 + count) * 2 ⌝ }
 {
     let read = (begun as u64) * 8 + reader as u64;
@@ -26,8 +26,8 @@ fn packed(begun: u8, reader: u8, value: u16, number: u8, count: u32) -> u64
 }
 
 // Writes the answer of a read at the start of its part of the answer buffer, which is the part from ANSWER_BYTES times the read's index.
-pub fn write(out: &mut [u8], begun: u8, reader: u8, value: u16, number: u8, count: u32)
-    requires { ⌜ answerSize 16 ≤ length (now out) ⌝ }
+pub fn write(out: &mut [u8], begun: u8, reader: u8, value: u32, number: u8, count: u32)
+    requires { ⌜ (answerSize 16 ≤ length (now out)) × (value < 2 ^ 16) ⌝ }
     ensures { λ _. ⌜ now (out .exit) ≡ answerBytes 16 (record { begun = begun; reader = reader })
         (record { pair = stamped 16 value number; count = count }) ++ drop (answerSize 16) (now (out .entry)) ⌝ }
 {

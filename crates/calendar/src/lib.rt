@@ -34,7 +34,7 @@ pub const BYTES: usize = 2 * (CELLS + ROWS * PLACES);
 pub struct Stamped {
     pub kept: bool,
     pub number: u8,
-    pub value: u16,
+    pub value: u32,
 }
 
 // What one party sends in a tick to the n servers: the delays as nibbles, the last server's lowest.

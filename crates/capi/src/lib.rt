@@ -37,7 +37,7 @@ pub extern "C" fn register_look(
 ) -> usize
     ensures { λ r. ⌜ record { code = r; workspace = now (workspace .exit); pairs = now (pairs .exit) } ≡ lookCoded (now (plan .entry)) (now (workspace .entry)) server tick (now (pairs .entry)) ⌝ }
 {
-    pairs::of_look(look::look(plan, workspace, server, tick), pairs)
+    pairs::look(plan, workspace, server, tick, pairs)
 }
 
 // 1 for yes, 0 for no.

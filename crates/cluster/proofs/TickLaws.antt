@@ -14,7 +14,7 @@ use Rattle.cluster.specs.declared.Reader.{Reader}
 use Rattle.serving.specs.declared.Rules.{Rules}
 use Rattle.serving.specs.declared.Status.the-variants.{Correct}
 use Rattle.serving.specs.Bits.{sets, listed}
-use Rattle.serving.specs.Stored.{Plain, Both, server, keys, absent}
+use Rattle.serving.specs.Stored.{valueBits, Plain, Both, server, keys, absent}
 use Rattle.serving.specs.Stages.{noVotes, Voted, stageOne, delivered, deliveredOf, stageTwo, stageFour, stagesOf}
 use Rattle.cluster.specs.Tick.{noReader, endsOf, firstOf, Started}
 use Rattle.serving.proofs.StageLaws.{zero-set, write-kept}
@@ -68,7 +68,7 @@ four-ends (a ∷ b ∷ c ∷ d ∷ x ∷ rs) e = absurd (omega arith)
 
 -- ---- the start
 
-pub first-server : (v : ℕ) (ps : List Stamped) (z : Voters) → keys ps ≡ stamped 16 v 0 ∷ [] → sets (listed z) ≡ noVotes
+pub first-server : (v : ℕ) (ps : List Stamped) (z : Voters) → keys ps ≡ stamped valueBits v 0 ∷ [] → sets (listed z) ≡ noVotes
     → server (record { status = Correct; kept = ps; pending = 0; fresh = z; old = z }) ≡ firstOf v
 first-server v ps z k e = rw (k, e, zero-set)
 

@@ -22,7 +22,7 @@ use Rattle.cluster.specs.declared.Arrivals.{Arrivals}
 use Rattle.cluster.specs.declared.Movement.{Movement}
 use Rattle.cluster.specs.declared.Feed.{Feed as Fed}
 use Rattle.serving.specs.Bits.{sets}
-use Rattle.serving.specs.Stored.{Plain, Both, Step, Small, server, both, pairOf, absent}
+use Rattle.serving.specs.Stored.{valueBits, Plain, Both, Step, Small, server, both, pairOf, absent}
 use Rattle.serving.specs.Stages.{nobody, noVotes, isNew, stagesOf}
 use Rattle.serving.specs.Sends.{sends}
 use Rattle.cluster.specs.Inputs.{wroteAt, asksAt}
@@ -148,7 +148,7 @@ module _ (F : Feed) where
 -- ---- the start
 
 abbrev pub firstOf : ℕ → Plain
-firstOf v = record { status = correct; kept = stamped 16 v 0 ∷ []; pending = nobody; fresh = noVotes; old = noVotes }
+firstOf v = record { status = correct; kept = stamped valueBits v 0 ∷ []; pending = nobody; fresh = noVotes; old = noVotes }
 
 pub record Started (v : ℕ) (c : Cluster) : Type 0 where
   pub size : length (c .servers) ≡ 16

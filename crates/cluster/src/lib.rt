@@ -25,7 +25,7 @@ pub struct Cluster {
 
 // The values of the pairs 0 .. m - 1.
 pub struct Known {
-    pub values: [u16; PLACES],
+    pub values: [u32; PLACES],
     pub m: usize,
 }
 

@@ -144,7 +144,7 @@ pub fn is_reached(
     b: usize,
     feed: Feed,
     due: u16,
-    values: &[u16; PLACES],
+    values: &[u32; PLACES],
 ) -> bool
     requires { ⌜ (b < 16) × (calendarSize ≤ length (now work)) × Spanned (now work) places ⌝ }
     ensures { λ r. ⌜ r ≡ reached (called b due (feed .arrivals .live) (feed .movement .moving) (feed .t) (feed .rules .delta) (statusOf (s .status)) (s .pending)) (now (work .entry)) (rowOf (feed .t) b) (pairOf (now (values .entry))) (statusOf (s .status)) (keys (s .kept)) ⌝ }
@@ -195,7 +195,7 @@ pub fn turn(
     plan: &[u8],
     b: usize,
     feed: Feed,
-    values: &[u16; PLACES],
+    values: &[u32; PLACES],
     ends: [u8; READERS],
 ) -> Server
     requires { ⌜ (b < feed .rules .n) × (now values ≡ feed .known .values) × Tickable (now plan) (now work) (feed .t) (feed .rules) (feed .known) (feed .links) ⌝ }
@@ -253,7 +253,7 @@ pub fn ends_of(readers: [Reader; READERS]) -> [u8; READERS]
 }
 
 // 'At the start it is sound, with only pair 0.'
-pub fn start(value: u16) -> Cluster
+pub fn start(value: u32) -> Cluster
     ensures { λ r. ⌜ Started value r ⌝ }
 {
     let first = Stamped {

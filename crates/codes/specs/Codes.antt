@@ -1,10 +1,11 @@
 -- What the operations return, as one number each: a result below 256, or 256 and the refusal's number. Built on the operations' own definitions.
 use mathlib.Core.Bool.{Bool, true, false}
 use mathlib.Core.List.{List, [], _∷_, _++_}
-use Prim.Native.Nat.{ℕ, _+_, _*_, _/_, _%_}
-use lib.ListN.{length, take, drop}
+use Prim.Native.Nat.{ℕ, _+_, _*_, _/_, _%_, _^_, _<_}
+use lib.ListN.{length, take, drop, getD}
+use Rattle.calendar.specs.declared.Stamped.{Stamped as Place}
 use Rattle.plan.specs.Check.{Outcome, refused, result}
-use Rattle.simulator.specs.Look.{Condition, is-faulty, is-cured, is-correct, Stamped, Shown, Looked, lookOf}
+use Rattle.simulator.specs.Look.{Condition, is-faulty, is-cured, is-correct, Stamped, Shown, emptyPlace, Looked, lookOf}
 
 -- of a refusal: its published number, above every result
 abbrev pub refusalCode : ℕ → ℕ
@@ -38,6 +39,10 @@ shownCode (result shown) = conditionCode (shown .condition) + perPair * length (
 -- the bytes of a pair: the value's high and low byte, the number
 abbrev pub pairSize : ℕ
 pairSize = 3
+
+-- the values in the places of an array have two bytes
+abbrev pub TwoBytes : List Place → Type 0
+TwoBytes places = (q : ℕ) → getD places q emptyPlace .value < 2 ^ 16
 
 unfoldable pub pairBytes : List Stamped → List ℕ
 pairBytes [] = []

@@ -9,7 +9,7 @@ use lib.Seq.{take-all}
 use Rattle.bits.specs.Field.{fieldOf}
 use Rattle.bits.proofs.Laws.{field-lt, field-part}
 use Rattle.register.specs.Plan.{valueOf, numberOf}
-use Rattle.plan.proofs.Stamped.{value-stamped, number-stamped}
+use Rattle.register.proofs.Stamped.{value-stamped, number-stamped}
 use Rattle.answers.specs.Answers.{answerSize, answerAt, beginIn, readerIn, pairIn, countIn}
 use Rattle.fields.specs.Fields.{answerFields}
 

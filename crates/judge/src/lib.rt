@@ -21,7 +21,7 @@ ghost use Rattle.judge.specs.Fitting.{fitsRead};
 // Do all answers hold allowed pairs?
 fn all_allowed(
     answers: &[u8],
-    values: &[u16; 65],
+    values: &[u32; 65],
     begun: &[u8; 65],
     m: usize,
     delta: u8,
@@ -36,7 +36,7 @@ fn all_allowed(
     let mut i: usize = 0;
     while i < count {
         let at = Shape::ANSWER_BITS * i + 10;
-        let value = bits::field(answers, at, 16) as u16;
+        let value = bits::field(answers, at, 16) as u32;
         let number = bits::field(answers, at + 16, 8) as u8;
         if !is_allowed(values, begun, m, delta, reads[i], value, number) {
             return false;

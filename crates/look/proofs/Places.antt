@@ -1,4 +1,4 @@
--- What a function is told of a server that it is handed: the values in its places have 16 bits.
+-- What a function is told of a server that it is handed: the values in its places fit.
 use mathlib.Core.List.{List, [], _∷_, map}
 use mir.Val.{Val}
 use denote.Laws.{Is}

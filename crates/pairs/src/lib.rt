@@ -2,13 +2,13 @@
 ghost use mathlib.Core.Path.{_≡_};
 ghost use mathlib.Core.Bool.{cond};
 ghost use mathlib.Core.List.{[], _∷_};
-ghost use Prim.Native.Nat.{_+_, _*_, _/_, _%_, _<_, _≤_};
+ghost use Prim.Native.Nat.{_+_, _*_, _/_, _%_, _^_, _<_, _≤_};
 ghost use lib.Dec.{ltb};
 ghost use lib.ListN.{length};
 ghost use lib.Seq.{sets};
 ghost use Rattle.plan.specs.Packed.{storeDepth};
 ghost use Rattle.simulator.specs.Numbered.{looked, shownIn};
-ghost use Rattle.codes.specs.Codes.{shownCode, pairSize, pairBytes, pairsOf, pairsOver};
+ghost use Rattle.codes.specs.Codes.{shownCode, pairSize, TwoBytes, pairBytes, pairsOf, pairsOver, lookCoded};
 use calendar::DEPTH;
 use calendar::Stamped;
 use codes::REFUSED;
@@ -21,13 +21,14 @@ pub const PER_PAIR: usize = 4;
 // The bytes of a pair that Look shows.
 pub const PAIR_BYTES: usize = 3;
 
-fn high(value: u16) -> u8
+fn high(value: u32) -> u8
+    requires { ⌜ value < 2 ^ 16 ⌝ }
     ensures { λ r. ⌜ r ≡ value / 256 ⌝ }
 {
     (value / 256) as u8
 }
 
-fn low(value: u16) -> u8
+fn low(value: u32) -> u8
     ensures { λ r. ⌜ r ≡ value % 256 ⌝ }
 {
     (value % 256) as u8
@@ -35,7 +36,7 @@ fn low(value: u16) -> u8
 
 // Pair i at its own bytes, if there is room for all of them: the value's high and low byte, the number.
 fn put_pair(out: &mut [u8], i: usize, p: Stamped)
-    requires { ⌜ i < storeDepth ⌝ }
+    requires { ⌜ (i < storeDepth) × (p .value < 2 ^ 16) ⌝ }
     ensures { λ _. ⌜ (length (now (out .exit)) ≡ length (now (out .entry))) × (now (out .exit) ≡ cond (ltb (length (now (out .entry))) (pairSize * i + pairSize))
         (now (out .entry)) (sets (now (out .entry)) (pairSize * i) (pairBytes (record { value = p .value; number = p .number } ∷ [])))) ⌝ }
 {
@@ -50,6 +51,7 @@ fn put_pair(out: &mut [u8], i: usize, p: Stamped)
 
 // As many of the pairs before the first empty place as fit `out`, at its start; how many they are, those left out too.
 fn put_pairs(out: &mut [u8], places: [Stamped; DEPTH]) -> usize
+    requires { ⌜ TwoBytes places ⌝ }
     ensures { λ r. ⌜ (r ≤ storeDepth) × (r ≡ length (shownIn places)) × (now (out .exit) ≡ pairsOver (shownIn places) (now (out .entry))) ⌝ }
 {
     let mut i: usize = 0;
@@ -64,8 +66,9 @@ fn put_pairs(out: &mut [u8], places: [Stamped; DEPTH]) -> usize
     i
 }
 
-// Look: the condition and PER_PAIR for each pair. As many whole pairs as fit stand at the start of `pairs`; a refusal writes none.
-pub fn of_look(l: Looked, pairs: &mut [u8]) -> usize
+// What Look returned: the condition and PER_PAIR for each pair. As many whole pairs as fit stand at the start of `pairs`; a refusal writes none.
+fn of_look(l: Looked, pairs: &mut [u8]) -> usize
+    requires { ⌜ TwoBytes (l .places) ⌝ }
     ensures { λ r. ⌜ (r ≡ shownCode (looked l)) × (now (pairs .exit) ≡ pairsOver (pairsOf (looked l)) (now (pairs .entry))) ⌝ }
 {
     let seen = l.seen;
@@ -76,4 +79,11 @@ pub fn of_look(l: Looked, pairs: &mut [u8]) -> usize
     let places = l.places;
     let shown = put_pairs(pairs, places);
     code + PER_PAIR * shown
+}
+
+// Look at a server after a tick, as a number and the bytes of its pairs.
+pub fn look(plan: &[u8], work: &mut [u8], server: usize, tick: usize, pairs: &mut [u8]) -> usize
+    ensures { λ r. ⌜ record { code = r; workspace = now (work .exit); pairs = now (pairs .exit) } ≡ lookCoded (now (plan .entry)) (now (work .entry)) server tick (now (pairs .entry)) ⌝ }
+{
+    of_look(look::look(plan, work, server, tick), pairs)
 }

@@ -23,7 +23,7 @@ use Rattle.plan.specs.Playable.{Playable}
 use Rattle.plan.specs.Check.{placementStands, placementsStand, delayStands, delaysStand, finalBitsZero}
 use Rattle.plan.specs.Shape.{Ranged}
 use Rattle.plan.proofs.Tests.{all-at, in-getD}
-use Rattle.plan.proofs.Stamped.{stamped-rises}
+use Rattle.register.proofs.Stamped.{stamped-rises}
 use Rattle.plan.proofs.Accept.{in-range}
 use Rattle.plan.proofs.AcceptOperations.{value-lt}
 use Rattle.plan.proofs.AcceptForgeries.{placed-below, forger-placed}

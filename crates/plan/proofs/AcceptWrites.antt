@@ -14,7 +14,7 @@ use Rattle.plan.specs.Header.{headerOf}
 use Rattle.plan.specs.Parts.{Operation, operationOf, operationsOf, writesFrom}
 use Rattle.plan.specs.Packed.{planOf}
 use Rattle.plan.proofs.Tests.{in-getD}
-use Rattle.plan.proofs.Stamped.{number-stamped}
+use Rattle.register.proofs.Stamped.{number-stamped}
 use Rattle.plan.specs.Playable.{Playable}
 use Rattle.plan.proofs.Accept.{in-range}
 use Rattle.plan.proofs.AcceptOperations.{write-end, stands, waits, value-lt}

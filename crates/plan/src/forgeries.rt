@@ -7,7 +7,7 @@ pub struct Forged {
     pub at: u8,
     pub from: u8,
     pub to: u8,
-    pub value: u16,
+    pub value: u32,
     pub number: u8,
 }
 
@@ -21,7 +21,7 @@ impl Forged {
             at: (all >> 33) as u8,
             from: ((all >> 29) % 16) as u8,
             to: ((all >> 24) % 32) as u8,
-            value: ((all >> 8) % 65536) as u16,
+            value: ((all >> 8) % 65536) as u32,
             number: (all % 256) as u8,
         }
     }

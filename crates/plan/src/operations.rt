@@ -11,7 +11,7 @@ ghost use Rattle.plan.specs.Steps.{operation, IsOperation};
 pub struct Operation {
     pub at: u8,
     pub party: u8,
-    pub value: u16,
+    pub value: u32,
 }
 
 impl Operation {
@@ -24,7 +24,7 @@ impl Operation {
         Operation {
             at: (all >> 19) as u8,
             party: ((all >> 16) % 8) as u8,
-            value: (all % 65536) as u16,
+            value: (all % 65536) as u32,
         }
     }
 

@@ -70,6 +70,7 @@ module _ (s work : List ℕ) (r : Script) (t : ℕ) (servers : List Server) (p :
     table = there s r (Q .decoded) 0 (r .reads .m) (omega arith) (omega arith);
     parties = λ i l. readers-there s r (Q .decoded) i l;
     pairs = Q .decoded .scripted .writes .few;
+    narrow = Q .decoded .scripted .writes .small;
     begun = rw (H .begun) (L .begun .few);
     answered = rw (H .answered) (L .answered .few);
   }

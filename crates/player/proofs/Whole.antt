@@ -18,7 +18,8 @@ use Rattle.requests.specs.Requests.{SameBehind}
 use Rattle.requests.proofs.Requesting.{behind-trans}
 use Rattle.states.proofs.RequestLaws.{requested-none}
 use Rattle.cluster.specs.Inputs.{pairAt}
-use Rattle.serving.specs.Stored.{absent}
+use Rattle.serving.specs.Stored.{valueBits, absent}
+use Rattle.serving.proofs.Recoding.{narrow, recoded-stamped}
 use Rattle.states.proofs.StateLaws.{first-state}
 use Rattle.script.specs.declared.Script.{Script}
 use Rattle.script.specs.Operations.{noRead}
@@ -50,7 +51,7 @@ module _ (s : List ℕ) (r : Script) where
       rw (E .first) (record {
         size = E .started .size;
         state = first-state (planOf 16 s) (pairAt (r .writes .known)) (r .writes .known .m) (r .shape .initial)
-            (script-knows s (D .before) (D .after) (D .playable) r (D .scripted)) (ap (λ (v : ℕ). stamped 16 v 0) first) (p .cluster) work (E .started) (E .empty);
+            (script-knows s (D .before) (D .after) (D .playable) r (D .scripted)) (recoded-stamped 16 narrow (getD (r .writes .known .values) 0 0) 0 (D .scripted .writes .small 0) ∙ ap (λ (v : ℕ). stamped valueBits v 0) first) (p .cluster) work (E .started) (E .empty);
         requested = requested-none (planOf 16 s) work (E .unasked);
         written = record { below = omega (arith, D .scripted .writes .count); before = λ h. absurd (omega arith); last = λ j a b. omega arith };
         begun = until-none (r .reads .begun) (r .reads .m) 0 refl;

@@ -1,12 +1,12 @@
 -- What playing and looking leave, for a plan that can be played.
 use mathlib.Core.Path.{_≡_}
-use mathlib.Core.List.{List, _++_}
+use mathlib.Core.List.{List, _++_, map}
 use Prim.Native.Nat.{ℕ, suc, _*_}
 use lib.ListN.{length, drop}
 use Rattle.register.specs.Cluster.{cluster, serverOf}
 use Rattle.plan.specs.Packed.{planOf}
 use Rattle.serving.specs.declared.Server.{Server}
-use Rattle.serving.specs.Stored.{statusOf, keys}
+use Rattle.serving.specs.Stored.{statusOf, keys, recoded}
 use Rattle.answers.specs.Answers.{answerSize, answersOf}
 use Rattle.answers.specs.Workspace.{zeroed}
 
@@ -17,5 +17,5 @@ pub record AllAnswered (s answers₀ answers₁ work₀ work₁ : List ℕ) : Ty
 -- server b after tick t
 pub record Seen (s : List ℕ) (b t : ℕ) (x : Server) (work₀ work₁ : List ℕ) : Type 0 where
   pub status : serverOf (cluster (planOf 16 s) (suc t)) b .status ≡ statusOf (x .status)
-  pub kept : serverOf (cluster (planOf 16 s) (suc t)) b .kept ≡ keys (x .kept)
+  pub kept : map (recoded 16) (serverOf (cluster (planOf 16 s) (suc t)) b .kept) ≡ keys (x .kept)
   pub workspace : work₁ ≡ zeroed work₀

@@ -9,7 +9,7 @@ use Rattle.calendar.specs.Layout.{places}
 use Rattle.cluster.specs.declared.Known.{Known}
 use Rattle.cluster.specs.declared.Reader.{Reader}
 use Rattle.serving.specs.Bits.{sets}
-use Rattle.cluster.specs.Inputs.{pairAt}
+use Rattle.cluster.specs.Inputs.{pairAt, Narrow}
 use Rattle.cluster.specs.Tick.{noReader, endsOf}
 use Rattle.script.specs.declared.operations.Reads.{Reads}
 use Rattle.script.specs.declared.Script.{Script}
@@ -75,6 +75,7 @@ pub record Begun (r : Script) (p : Reading) : Type 0 where
   pub table : There (r .reads .reader) 0 (r .reads .m)
   pub parties : (i : ℕ) → i < r .reads .m → r .rules .n + getD (r .reads .reader) i 0 < r .links .parties
   pub pairs : r .writes .known .m ≤ places
+  pub narrow : Narrow (r .writes .known)
   pub begun : p .begun ≤ r .reads .m
   pub answered : p .answered ≤ r .reads .m
 

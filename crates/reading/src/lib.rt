@@ -6,7 +6,7 @@ ghost use Prim.Native.Nat.{_+_, _*_, _-_, _≤_, _<_};
 ghost use lib.ListN.{length, drop};
 ghost use Rattle.calendar.specs.Layout.{places};
 ghost use Rattle.serving.specs.Bits.{sets};
-ghost use Rattle.cluster.specs.Inputs.{pairAt};
+ghost use Rattle.cluster.specs.Inputs.{pairAt, Narrow};
 ghost use Rattle.cluster.specs.Tick.{endsOf};
 ghost use Rattle.answers.specs.Answers.{answerSize, answerBytes};
 ghost use Rattle.answers.specs.Choosing.{highestOf, answerBy};
@@ -67,7 +67,7 @@ pub fn first_from(begun: &[u8; TABLE_READS], m: usize, k: usize, u: usize) -> us
 
 // Writes the answer of a read at the start of its part of the answer buffer: its reader chooses of what it has noted.
 fn answer(out: &mut [u8], names: [u16; PLACES], known: Known, reply: u32, begun: u8, reader: u8)
-    requires { ⌜ (answerSize 16 ≤ length (now out)) × (known .m ≤ places) ⌝ }
+    requires { ⌜ (answerSize 16 ≤ length (now out)) × (known .m ≤ places) × Narrow known ⌝ }
     ensures { λ _. ⌜ now (out .exit) ≡ answerBytes 16 (record { begun = begun; reader = reader }) (answerBy (pairAt known) (highestOf (sets names) reply (known .m))) ++ drop (answerSize 16) (now (out .entry)) ⌝ }
 {
     let choice = answers::choose::chosen(names, known.m, reply);
@@ -94,7 +94,7 @@ pub fn end_all(
     from: usize,
     to: usize,
 )
-    requires { ⌜ There (script .reads .reader) from to × (script .writes .known .m ≤ places) × (answerSize 16 * to ≤ length (now answers)) ⌝ }
+    requires { ⌜ There (script .reads .reader) from to × (script .writes .known .m ≤ places) × Narrow (script .writes .known) × (answerSize 16 * to ≤ length (now answers)) ⌝ }
     ensures { λ _. ⌜ now (answers .exit) ≡ placed (chosenBytes readers (script .reads) (script .writes .known) (script .rules .reply)) from (to - from) (now (answers .entry)) ⌝ }
 {
     let reads = script.reads;

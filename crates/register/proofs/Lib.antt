@@ -1,5 +1,7 @@
 pub mod Logic
 pub mod Lists
+pub mod Stamped
+pub mod Rising
 pub mod Counting
 pub mod Good
 pub mod Placements

@@ -16,7 +16,7 @@ use Rattle.register.proofs.Logic.{and-l, and-r, and-i, or-e, or-l, or-r, T-eq, 
 use Rattle.register.proofs.Lists.{any-in, in-any}
 use Rattle.register.proofs.Regular.{finished-by, unfinished-from, last-cases, unfinished-above}
 use Rattle.plan.proofs.Tests.{getD-in, in-getD}
-use Rattle.plan.proofs.Stamped.{value-stamped, number-stamped, stamped-rises}
+use Rattle.register.proofs.Stamped.{value-stamped, number-stamped, stamped-rises}
 use Rattle.script.specs.Operations.{noWrite}
 use Rattle.regular.specs.Tables.{Tables, Last}
 

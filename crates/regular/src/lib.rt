@@ -1,6 +1,6 @@
 // What the regular register allows as an answer to one read.
 ghost use mathlib.Core.Path.{_≡_};
-ghost use Prim.Native.Nat.{ℕ, _+_, _*_, _≤_, _<_};
+ghost use Prim.Native.Nat.{ℕ, _+_, _*_, _^_, _≤_, _<_};
 ghost use lib.Dec.{leb};
 ghost use lib.ListN.{getD};
 ghost use Rattle.register.specs.Plan.{Plan, Read, Write, stamped};
@@ -40,15 +40,15 @@ fn last_finished(begun: &[u8; 65], m: usize, delta: u8, read: u8) -> usize
 
 // Does the regular register allow this value and number as an answer to the read?
 pub fn is_allowed(
-    values: &[u16; 65],
+    values: &[u32; 65],
     begun: &[u8; 65],
     m: usize,
     delta: u8,
     read: u8,
-    value: u16,
+    value: u32,
     number: u8,
 ) -> bool
-    requires { ⌜ (1 ≤ m) × (m ≤ 65) ⌝ }
+    requires { ⌜ (1 ≤ m) × (m ≤ 65) × (value < 2 ^ 16) ⌝ }
     ensures { λ r. ⌜ ((P : Plan) (x : Read) → Tables P (now (values .entry)) (now (begun .entry)) m → P .delta ≡ delta → x .begun ≡ read
         → r ≡ allowed P x (stamped 16 value number)) ⌝ }
 {

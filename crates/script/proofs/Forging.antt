@@ -12,7 +12,7 @@ use Rattle.register.specs.Plan.{Forgery, stamped}
 use Rattle.plan.specs.declared.header.Shape.{Shape}
 use Rattle.plan.specs.Header.{headerOf, operationAt}
 use Rattle.plan.specs.Shape.{Ranged, shape}
-use Rattle.plan.proofs.Stamped.{value-stamped, number-stamped}
+use Rattle.register.proofs.Stamped.{value-stamped, number-stamped}
 use Rattle.plan.specs.Playable.{Playable}
 use Rattle.plan.proofs.Accept.{in-range}
 use Rattle.serving.specs.declared.Links.{Links}

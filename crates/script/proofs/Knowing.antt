@@ -3,7 +3,7 @@
 use mathlib.Core.Path.{_≡_, refl, sym, ap, _∙_}
 use mathlib.Core.Bool.{Bool, true, false, _&&_, cond}
 use mathlib.Core.List.{List}
-use Prim.Native.Nat.{ℕ, zero, suc, _+_, _/_, _≤_, _<_}
+use Prim.Native.Nat.{ℕ, zero, suc, _+_, _≤_, _<_}
 use native.Mathlib.Omega.{arith}
 use native.Mathlib.Decide.{decLe, ℕ-discrete}
 use lib.Dec.{T, eqb, ltb, ltb→lt, lt→ltb, eqb→eq, eqb-refl}
@@ -17,7 +17,7 @@ use Rattle.register.proofs.Lists.{any-in, in-any, in-map, map-in, in-filter, fi
 use Rattle.plan.specs.Header.{headerOf}
 use Rattle.plan.specs.Packed.{planOf}
 use Rattle.plan.proofs.Tests.{getD-in, in-getD}
-use Rattle.plan.proofs.Stamped.{number-stamped}
+use Rattle.register.proofs.Stamped.{number-stamped}
 use Rattle.plan.specs.Playable.{Playable}
 use Rattle.plan.proofs.Accept.{in-range}
 use Rattle.plan.proofs.AcceptWrites.{writes-apart}
@@ -50,8 +50,7 @@ module _ (s : List ℕ) (A : Playable 16 s) (known : Known) (begun : List ℕ)
       let q = W .each i l in
       (getD (planOf 16 s .writes) i noWrite, getD-in (planOf 16 s .writes) i noWrite l, ap (λ (x : Write). x .pair) q, ap (λ (x : Write). x .begun) q)
 
-  pair-number : (j : ℕ) → pairAt known j / 65536 ≡ j
-  unfolding numberOf
+  pair-number : (j : ℕ) → numberOf 16 (pairAt known j) ≡ j
   pair-number j = number-stamped 16 (getD (known .values) j 0) j (W .small j)
 
   -- each begins after the last one ended
@@ -169,7 +168,7 @@ module _ (s : List ℕ) (A : Playable 16 s) (known : Known) (begun : List ℕ)
             let (w, iw, ew) = in-map (λ (w : Write). w .pair) p (filter hit (planOf 16 s .writes)) ip in
             let (wi, hw) = in-filter hit w (planOf 16 s .writes) iw in
             let (i, one, li, pi, bi) = write-numbered w wi in
-            let same : i ≡ j = sym (pair-number i) ∙ ap (λ (x : ℕ). x / 65536) (sym pi ∙ sym ew ∙ eqb→eq p (pairAt known j) ep) ∙ pair-number j in
+            let same : i ≡ j = sym (pair-number i) ∙ ap (numberOf 16) (sym pi ∙ sym ew ∙ eqb→eq p (pairAt known j) ep) ∙ pair-number j in
             let arrives : came j = rw (← same, ← bi) (eqb→eq _ t hw) in
             let is-last : j ≡ last = came-last j (omega arith) l arrives in
             let before : w .begun < t = omega (arith, eqb→eq _ t hw, delay-range 16 s A (w .begun) (planOf 16 s .n) b .0) in

@@ -15,7 +15,7 @@ use Rattle.register.proofs.Lists.{any-in, in-any, in-tabFrom}
 use Rattle.register.proofs.Counting.{anyUpTo-e, anyUpTo-i, any-cong}
 use Rattle.plan.specs.Header.{headerOf}
 use Rattle.plan.specs.Packed.{planOf}
-use Rattle.plan.proofs.Stamped.{value-stamped, number-stamped, stamped-back}
+use Rattle.register.proofs.Stamped.{value-stamped, number-stamped, stamped-back}
 use Rattle.cluster.specs.declared.Known.{Known}
 use Rattle.states.specs.Way.{forgedAs}
 use Rattle.cluster.specs.Inputs.{pairAt}

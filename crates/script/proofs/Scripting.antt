@@ -2,7 +2,8 @@
 -- It stands on Placing and Forging.
 use mathlib.Core.Path.{_≡_, ap, sym, _∙_}
 use mathlib.Core.List.{List}
-use Prim.Native.Nat.{ℕ, _+_, _*_}
+use Prim.Native.Nat.{ℕ, _+_, _*_, _^_, _<_}
+use Rattle.bits.proofs.Laws.{field-lt}
 use Rattle.register.specs.Lists.{tab}
 use Rattle.plan.specs.declared.header.Shape.{Shape}
 use Rattle.plan.specs.Header.{Header, headerOf, moves}
@@ -14,6 +15,11 @@ use Rattle.script.specs.declared.Script.{Script}
 use Rattle.script.specs.Operations.{opAt, Room, Written, ReadIn}
 use Rattle.script.specs.Script.{RulesOf, LinksOf, Entered, Scripted}
 use Rattle.script.proofs.Placing.{writes-there, reads-there, room}
+
+-- the initial value of a header has 16 bits
+pub initial-narrow : (s : List ℕ) (x : Shape) → shape x ≡ headerOf 16 s → x .initial < 2 ^ 16
+unfolding headerOf
+initial-narrow s x e = rw (ap (λ (h : Header). h .initial) e) (field-lt s 28 16)
 
 module _ (s : List ℕ) (A : Playable 16 s) where
   module _ (x : Shape) (same : shape x ≡ headerOf 16 s) (at : ℕ) (starts-at : at ≡ 64 + 16 * moves (shape x)) where

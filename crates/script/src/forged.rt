@@ -28,7 +28,7 @@ fn message_at(part: &[u8], at: usize) -> Forged
 }
 
 // The number, if it is that of a known pair with this value; else NO_PAIR.
-fn known_number(values: &[u16; PLACES], m: usize, value: u16, number: u8) -> u8
+fn known_number(values: &[u32; PLACES], m: usize, value: u32, number: u8) -> u8
     requires { ⌜ m ≤ places ⌝ }
     ensures { λ r. ⌜ r ≡ numberIn (now (values .entry)) m value number ⌝ }
 {
@@ -70,7 +70,7 @@ pub fn fill(
     plan: &[u8],
     links: Links,
     n: usize,
-    values: &[u16; PLACES],
+    values: &[u32; PLACES],
     m: usize,
 )
     requires { ⌜ Fillable (now work) (now part) offset count (now plan) links n m ⌝ }

@@ -1,4 +1,5 @@
 // The operations of a plan: its writes by number, and its reads in order.
+ghost use Prim.Native.Nat.{_^_, _<_};
 ghost use Rattle.register.specs.Lists.{tab};
 ghost use Rattle.plan.specs.Parts.{writesFrom, readsFrom};
 ghost use Rattle.script.specs.Operations.{opAt, Room, Written, ReadIn};
@@ -23,11 +24,11 @@ pub struct Reads {
 }
 
 // The writes among the operations that stand from bit `at` on.
-pub fn writes_of(plan: &[u8], at: usize, count: usize, initial: u16) -> Writes
-    requires { ⌜ Room (now plan) at count ⌝ }
+pub fn writes_of(plan: &[u8], at: usize, count: usize, initial: u32) -> Writes
+    requires { ⌜ Room (now plan) at count × (initial < 2 ^ 16) ⌝ }
     ensures { λ r. ⌜ Written (writesFrom 16 1 (tab count (opAt (now (plan .entry)) at))) initial (r .known .values) (r .begun) (r .known .m) ⌝ }
 {
-    let mut values = [0u16; PLACES];
+    let mut values = [0u32; PLACES];
     let mut begun = [0u8; PLACES];
     values[0] = initial;
     let mut m: usize = 1;

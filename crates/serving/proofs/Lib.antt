@@ -3,5 +3,6 @@ pub mod StoreLaws
 pub mod StageLaws
 pub mod TakenLaws
 pub mod Sizes
+pub mod Recoding
 pub mod SetLaws
 pub mod SendLaws

@@ -1,7 +1,7 @@
 -- The lengths of the arrays in the engine's structs, and the bounds of their numbers, from what a function is told of a struct it is passed.
 use mathlib.Core.Path.{_≡_, sym, _∙_}
 use mathlib.Core.List.{List, [], _∷_, map}
-use Prim.Native.Nat.{ℕ, zero, suc, _<_}
+use Prim.Native.Nat.{ℕ, zero, suc, _^_, _<_}
 use native.Mathlib.Omega.{arith}
 use lib.ListN.{length, length-map, getD}
 use mir.Val.{Val}
@@ -25,19 +25,19 @@ use Rattle.serving.proofs.Voters as TV
 use Rattle.serving.proofs.Voters.Laws as TV′
 use Rattle.serving.proofs.Server as TS
 use Rattle.serving.proofs.Server.Laws as TS′
-use Rattle.serving.specs.Stored.{Small, absent}
+use Rattle.serving.specs.Stored.{valueBits, Small, absent}
 use Rattle.serving.proofs.Row as TR
 use Rattle.serving.proofs.Row.Laws as TR′
 
 pub most-length : (v : Voters) {vs : List Val} → Is TV.the-row v vs → length (v .most) ≡ 64
 most-length v {vs} is = sym (length-map (v .most) _) ∙ LL.owed TV.the-type TV′.the-laws v vs is .0 .1 .0 .1
 
-pub value-fits : (p : Stamped) {vs : List Val} → Is TP.the-row p vs → p .value < 65536
+pub value-fits : (p : Stamped) {vs : List Val} → Is TP.the-row p vs → p .value < 2 ^ valueBits
 value-fits p {vs} is = LL.owed TP.the-type TP′.the-laws p vs is .1 .1 .0 .1
 
 -- the values in the places of a store
 all-fit : (ps : List Stamped) (us : List Val) → shadow (each (field TP.the-type .row .Denot) (field TP.the-type .row .own) (map (field TP.the-type .into) ps) us)
-    → (q : ℕ) → getD ps q vacant .value < 65536
+    → (q : ℕ) → getD ps q vacant .value < 2 ^ valueBits
 all-fit [] us e q = omega arith
 all-fit (p ∷ ps) [] e q = absurd e
 all-fit (p ∷ ps) (u ∷ us) e zero = value-fits p (e .0)

@@ -1,9 +1,9 @@
 -- A server and its row apart from how they are stored: sets as functions, a store as the list of its pairs.
 use mathlib.Core.Bool.{Bool, cond}
 use mathlib.Core.List.{List, [], _∷_, _++_}
-use Prim.Native.Nat.{ℕ, suc, _≤_, _<_}
+use Prim.Native.Nat.{ℕ, suc, _^_, _≤_, _<_}
 use lib.ListN.{length, getD, take, drop}
-use Rattle.register.specs.Plan.{stamped}
+use Rattle.register.specs.Plan.{stamped, valueOf, numberOf}
 use Rattle.register.specs.Server.{Status, faulty, cured, correct}
 use Rattle.calendar.specs.declared.Stamped.{Stamped}
 use Rattle.calendar.specs.Layout.{depth}
@@ -41,8 +41,16 @@ statusOf Faulty = faulty
 statusOf (Cured c) = cured c
 statusOf Correct = correct
 
+-- how many bits the engine has for a value, whatever its plan's values have
+abbrev pub valueBits : ℕ
+valueBits = 32
+
 abbrev pub keyOf : Stamped → ℕ
-keyOf p = stamped 16 (p .value) (p .number)
+keyOf p = stamped valueBits (p .value) (p .number)
+
+-- a plan's pair as the engine keeps it; the plan's values have w bits
+unfoldable pub recoded : ℕ → ℕ → ℕ
+recoded w p = stamped valueBits (valueOf w p) (numberOf w p)
 
 -- the pairs before the first empty place
 unfoldable pub keys : List Stamped → List ℕ
@@ -78,13 +86,13 @@ deliveredTo s d = record {
   said = saidBy (d .row);
 }
 
--- a store is no deeper than it may be, and its values have 16 bits
+-- a store is no deeper than it may be, and its values fit
 abbrev pub Small : List Stamped → Type 0
-Small kept = (length kept ≤ depth) × ((q : ℕ) → getD kept q vacant .value < 65536)
+Small kept = (length kept ≤ depth) × ((q : ℕ) → getD kept q vacant .value < 2 ^ valueBits)
 
 -- pair j, from the table of values
 abbrev pub pairOf : List ℕ → ℕ → ℕ
-pairOf values j = stamped 16 (getD values j 0) j
+pairOf values j = stamped valueBits (getD values j 0) j
 
 -- what is read past the end of an array of servers
 abbrev pub unset : Voters

@@ -52,7 +52,7 @@ fn take_in(
     kept: [Stamped; DEPTH],
     fresh: Voters,
     old: Voters,
-    values: &[u16; PLACES],
+    values: &[u32; PLACES],
     low: usize,
     high: usize,
     m: usize,
@@ -115,7 +115,7 @@ pub fn deliver(
     wrote: u8,
     asks: u8,
     live: u8,
-    values: &[u16; PLACES],
+    values: &[u32; PLACES],
     low: usize,
     high: usize,
     m: usize,
@@ -150,7 +150,7 @@ pub fn deliver(
 
 impl Server {
     // The WRITE's pair, if it is a known one.
-    fn take_write(self, wrote: u8, values: &[u16; PLACES], m: usize) -> Self
+    fn take_write(self, wrote: u8, values: &[u32; PLACES], m: usize) -> Self
         requires { ⌜ m ≤ places ⌝ }
         ensures { λ r. ⌜ server r ≡ withWrite (pairOf (now (values .entry))) m wrote (server self) ⌝ }
     {

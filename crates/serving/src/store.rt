@@ -13,15 +13,15 @@ use calendar::DEPTH;
 use calendar::PLACES;
 use calendar::Stamped;
 
-// How many values there are.
-const VALUES: u32 = 65536;
+// How many values a place has room for, whatever a plan's values have.
+const VALUES: u64 = 4294967296;
 
 // A place as a number, by which places are compared: 0 if it is empty, else one more than its pair, by number, then by value.
-fn place(p: Stamped) -> u32
+fn place(p: Stamped) -> u64
     ensures { λ r. ⌜ r ≡ placeOf p ⌝ }
 {
     if p.kept {
-        return 1 + (p.number as u32) * VALUES + (p.value as u32);
+        return 1 + (p.number as u64) * VALUES + p.value as u64;
     }
     0
 }
@@ -81,7 +81,7 @@ fn is_new(kept: [Stamped; DEPTH], p: Stamped) -> bool
 }
 
 // Would one of the known pairs low .. high - 1 change the store.
-pub fn is_any_new(kept: [Stamped; DEPTH], values: &[u16; PLACES], low: usize, high: usize) -> bool
+pub fn is_any_new(kept: [Stamped; DEPTH], values: &[u32; PLACES], low: usize, high: usize) -> bool
     requires { ⌜ high ≤ places ⌝ }
     ensures { λ r. ⌜ r ≡ anyNew (pairOf (now (values .entry))) (keys kept) low high ⌝ }
 {

@@ -11,7 +11,7 @@ use Rattle.bits.specs.Field.{fieldOf}
 use Rattle.register.specs.Plan.{Plan, Read, valueOf, numberOf}
 use Rattle.register.specs.Reading.{Answer, answerOf}
 use Rattle.plan.specs.Packed.{planOf}
-use Rattle.plan.proofs.Stamped.{stamped-back, value-below}
+use Rattle.register.proofs.Stamped.{stamped-back, value-below}
 use Rattle.answers.specs.Answers.{answerSize, packed, answerBytes, answersFor, answersOf, answerAt, beginIn, readerIn, pairIn, countIn, zeroIn}
 use Rattle.answers.proofs.Lengths.{answer-length, answers-length}
 use Rattle.simulator.proofs.Bytes.{field-high, field-low, parts-lt, field-bytes, joined, field-joined}

@@ -23,7 +23,7 @@ use Rattle.plan.specs.Header.{headerOf}
 use Rattle.plan.specs.Packed.{planOf}
 use Rattle.plan.specs.Check.{result}
 use Rattle.plan.proofs.Tests.{all-from, getD-in}
-use Rattle.plan.proofs.Stamped.{number-stamped}
+use Rattle.register.proofs.Stamped.{number-stamped}
 use Rattle.plan.proofs.Accept.{Accepted, in-range, accepts}
 use Rattle.plan.proofs.AcceptReads.{read-stands}
 use Rattle.plan.proofs.AcceptWrites.{number-hi}

@@ -1,7 +1,7 @@
 -- Stages 3 and 4 of the engine keep the relation with the step rules, at a movement and in any other tick. They stand on Told.
-use mathlib.Core.Path.{_≡_, refl, sym, _∙_}
+use mathlib.Core.Path.{_≡_, refl, sym, ap, _∙_}
 use mathlib.Core.Bool.{Bool, true, false, not, cond, and-false, or-false}
-use mathlib.Core.List.{List, [], _++_}
+use mathlib.Core.List.{List, [], _++_, map}
 use Prim.Native.Nat.{ℕ, suc, _/_, _<_}
 use native.Mathlib.Omega.{arith}
 use lib.Dec.{T, ltb, eqb}
@@ -10,7 +10,9 @@ use Rattle.register.specs.Plan.{Plan, kk, isMove}
 use Rattle.register.specs.Server.{cured, isFaulty, isCorrect, has, Server, Out, stage3, stage4, blank, moved}
 use Rattle.register.proofs.Logic.{T-eq, F-eq}
 use Rattle.register.proofs.Lists.{any-append}
-use Rattle.serving.specs.Stored.{Plain, Both}
+use Rattle.register.proofs.Rising.{member-map}
+use Rattle.serving.specs.Stored.{Plain, Both, recoded}
+use Rattle.serving.proofs.Recoding.{narrow, recoded-rising}
 use Rattle.serving.specs.Stages.{noVotes, blankAs, turned, movedOn, stageFour}
 use Rattle.states.specs.State.{Votes, Rep}
 use Rattle.states.proofs.Told.{Mid, End}
@@ -101,12 +103,12 @@ module _ (P : Plan) (g : ℕ → ℕ) (m : ℕ) where
           (record { server = ms; said = record { wrote = q .said .wrote; echoed = isCorrect (ms .status); readers = q .said .readers; pairs = q .said .pairs } })
       go true y =
           let w = correct-kept t h (o .server) (rw y tt) in
-          let k : mb .kept ≡ q .said .pairs = w .1 ∙ sym (M .whole (w .0)) ∙ M .sent .pairs in
+          let k : map (recoded 16) (mb .kept) ≡ q .said .pairs = ap (map (recoded 16)) (w .1 ∙ sym (M .whole (w .0))) ∙ M .sent .pairs in
           let z : isCorrect (ms .status) ≡ true = rw (R .status) at y in
           record {
             server = R;
             sent = record {
-              votes = λ j l. any-append (λ p. eqb p (g j)) (o .sent .votes) (mb .kept) ∙ rw (z, k, quiet-votes j l);
+              votes = λ j l. any-append (λ p. eqb p (g j)) (o .sent .votes) (mb .kept) ∙ rw (z, ← k, member-map (recoded 16) (recoded-rising 16 narrow) (g j) (mb .kept), quiet-votes j l);
               readers = M .sent .readers;
               pairs = M .sent .pairs;
               short = M .sent .short;

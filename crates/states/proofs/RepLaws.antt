@@ -3,12 +3,12 @@
 use mathlib.Core.Path.{_≡_, refl, sym, ap, _∙_, fun-ext}
 use mathlib.Core.Bool.{Bool, true, false, not, _&&_, _||_, cond, and-false, or-false, and-true, and-or-distrib-left}
 use mathlib.Core.Logic.{inl, inr}
-use mathlib.Core.List.{List, [], _++_}
+use mathlib.Core.List.{List, [], _++_, map}
 use Prim.Native.Nat.{ℕ, zero, suc, _+_, _≤_, _<_}
 use native.Mathlib.Omega.{arith}
 use native.Mathlib.Decide.{decLe, ℕ-discrete}
 use lib.Dec.{T, ltb, eqb, eqb→eq, eqb-refl, T-not}
-use lib.ListN.{length, take, length-take}
+use lib.ListN.{length, take, length-take, length-map}
 use borrow.Author.Tests.{lt-ltb, le-ltb, ne-eqb}
 use Rattle.register.specs.Lists.{count, one-if, any, filter, In, member, sameList}
 use Rattle.register.specs.Plan.{Plan, Read, echoQuorum, replyQuorum, readEnd}
@@ -18,14 +18,16 @@ use Rattle.register.proofs.Logic.{or-e, or-l, or-r}
 use Rattle.register.proofs.Lists.{in-append, in-left, in-right, in-filter, filter-in, any-in, in-any, any-append}
 use Rattle.register.proofs.Good.{Good}
 use Rattle.register.proofs.Genuine.{Genuine, genuine-cases}
+use Rattle.register.proofs.Rising.{same-map}
 use Rattle.register.proofs.Stores.{Falling}
 use Rattle.register.proofs.Claims.{quorum-named}
 use Rattle.register.proofs.Safety.{FreshSafe, OldSafe, ServerSafe, voted-genuine}
-use Rattle.serving.specs.Stored.{Plain, Both}
+use Rattle.serving.specs.Stored.{Plain, Both, recoded}
 use Rattle.serving.specs.Stages.{restated, silent, quorate, isNew, taken, voting, withWrite, repliesTo, delivered, deliveredOf, stageOne, stageTwo}
 use Rattle.cluster.specs.Inputs.{Knows}
 use Rattle.states.specs.State.{Votes, Rep}
 use Rattle.serving.proofs.StageLaws.{write-kept}
+use Rattle.serving.proofs.Recoding.{narrow, recoded-rising, first-recoded, taken-recoded}
 use Rattle.states.proofs.Told.{Mid, Came}
 use Rattle.calendar.specs.Layout.{depth}
 use Rattle.states.proofs.Order.{by-number}
@@ -49,6 +51,10 @@ count-cut p n (suc k) h = go (decLe n k) (λ l. count-cut p n k l)
     go (no l) ih = let e : n ≡ suc k = omega arith in rw e (count-in p (suc k) (suc k) (omega arith))
 
 module _ (P : Plan) (G : Good P) (g : ℕ → ℕ) (m : ℕ) (K : Knows P g m) where
+  -- pair j as the engine keeps it
+  abbrev pub wide : ℕ → ℕ
+  wide j = recoded 16 (g j)
+
   -- a genuine pair has a number
   pub genuine-known : (t p : ℕ) → Genuine P t p → (j : ℕ) × (j < m) × (p ≡ g j)
   genuine-known t p h = elim (genuine-cases P t p h) [
@@ -136,7 +142,7 @@ module _ (P : Plan) (G : Good P) (g : ℕ → ℕ) (m : ℕ) (K : Knows P g m) w
     unlisted r i a = any-append (sameRead r) (x .pending) rs ∙ rw (R .unheard r i (omega arith)) (I .later r i a)
 
     pub one-rep : (c : ℕ) → ServerSafe P t c x → ((p : ℕ) → In p ws → Genuine P t p) → ((v : Claim) → In v (x .fresh ++ vs) → FreshSafe P t c v)
-        → Mid P g m t (stage1 P x ws vs rs) (stageOne g m (echoQuorum P) (replyQuorum P) w votes asks live s)
+        → Mid P g m t (stage1 P x ws vs rs) (stageOne wide m (echoQuorum P) (replyQuorum P) w votes asks live s)
     unfolding stage1 stageOne deliver delivered deliveredOf any takeIn
     one-rep c ok wok vok = rw (ap isFaulty (R .status)) (go (isFaulty (s .status)) refl)
       where
@@ -157,11 +163,13 @@ module _ (P : Plan) (G : Good P) (g : ℕ → ℕ) (m : ℕ) (K : Knows P g m) w
             ap (λ (d : ℕ). takeIn d cs (x .kept)) (K .depth)
             ∙ kept-rep t c x ws (x .fresh ++ vs) w votes (s .old) (ok .falling) (R .short) wok vok (ok .old) (I .tally (ap isFaulty (R .status) ∙ h)) (R .old) (I .wrote)
 
-        eqk : isFaulty (s .status) ≡ false → kept' ≡ taken (voting e q votes (s .old)) g m (withWrite g m w s .kept)
+        eqk : isFaulty (s .status) ≡ false → map (recoded 16) kept' ≡ taken (voting e q votes (s .old)) wide m (withWrite wide m w s .kept)
         eqk h =
-            eqx h
-            ∙ ap (λ (l : List ℕ). taken (voting e q votes (s .old)) g m (cond (ltb w m) (take depth (insert (g w) l)) l)) (R .kept)
-            ∙ ap (taken (voting e q votes (s .old)) g m) (sym (write-kept g m w s))
+            ap (map (recoded 16)) (eqx h)
+            ∙ sym (taken-recoded 16 narrow (voting e q votes (s .old)) g m (cond (ltb w m) (take depth (insert (g w) (x .kept))) (x .kept)))
+            ∙ ap (taken (voting e q votes (s .old)) wide m) (first-recoded 16 narrow (ltb w m) (g w) (x .kept))
+            ∙ ap (λ (l : List ℕ). taken (voting e q votes (s .old)) wide m (cond (ltb w m) (take depth (insert (wide w) l)) l)) (R .kept)
+            ∙ ap (taken (voting e q votes (s .old)) wide m) (sym (write-kept wide m w s))
 
         was-new : isFaulty (s .status) ≡ false → (p : ℕ) → isNew p kept' ≡ true → isNew p (x .kept) ≡ true
         was-new h p n = new-before g m w (x .kept) (R .short) (voting e q votes (s .old)) p (rw (eqx h) at n)
@@ -176,7 +184,7 @@ module _ (P : Plan) (G : Good P) (g : ℕ → ℕ) (m : ℕ) (K : Knows P g m) w
         none j h = rw (ne-eqb j 255 (λ z. omega (arith, K .few)))
 
         go : (b : Bool) → isFaulty (s .status) ≡ b
-            → Mid P g m t (cond b (record { server = x; sent = nothing }) (deliver P x ws vs rs)) (cond b (record { server = s; said = silent }) (delivered g m e q w votes asks live s))
+            → Mid P g m t (cond b (record { server = x; sent = nothing }) (deliver P x ws vs rs)) (cond b (record { server = s; said = silent }) (delivered wide m e q w votes asks live s))
         go true h =
             let z = R .empty (rw (R .status, h) tt) in
             record {
@@ -208,11 +216,11 @@ module _ (P : Plan) (G : Good P) (g : ℕ → ℕ) (m : ℕ) (K : Knows P g m) w
               };
               sent = record {
                 votes = λ j l. I .wrote j l ∙ sym (or-false (eqb j w));
-                readers = λ r i a b. rw (R .status, eqk h, R .kept)
-                    (replies-rep r (isCorrect (s .status)) (sameList (s .kept) (taken (voting e q votes (s .old)) g m (withWrite g m w s .kept))) rs (x .pending ++ rs) asks lst
+                readers = λ r i a b. rw (R .status, ← same-map (recoded 16) (recoded-rising 16 narrow) (x .kept) kept', eqk h, R .kept)
+                    (replies-rep r (isCorrect (s .status)) (sameList (s .kept) (taken (voting e q votes (s .old)) wide m (withWrite wide m w s .kept))) rs (x .pending ++ rs) asks lst
                     (I .asking r i a b) (list-rep r i a b));
                 pairs = eqk h;
-                short = rw (← eqk h) small;
+                short = rw (← eqk h) (omega (arith, small, length-map kept' (recoded 16)));
                 early = λ r i a. not-replied r (isCorrect (x .status)) (sameList (x .kept) kept') rs (x .pending ++ rs) (I .later r i a) (unlisted r i a);
               };
               whole = λ n. refl;
@@ -242,7 +250,7 @@ module _ (P : Plan) (G : Good P) (g : ℕ → ℕ) (m : ℕ) (K : Knows P g m) w
       go false h = M
       go true h =
           let f : T (not (isFaulty (o .server .status))) = rw (M .server .status) (free (q .server .status) (rw h tt)) in
-          let e : q .said .pairs ≡ q .server .kept = sym (M .sent .pairs) ∙ M .whole f ∙ M .server .kept in
+          let e : q .said .pairs ≡ q .server .kept = sym (M .sent .pairs) ∙ ap (map (recoded 16)) (M .whole f) ∙ M .server .kept in
           record {
             server = record {
               status = refl;
@@ -258,7 +266,7 @@ module _ (P : Plan) (G : Good P) (g : ℕ → ℕ) (m : ℕ) (K : Knows P g m) w
               votes = λ j l. M .sent .votes j l ∙ rw e;
               readers = λ r i a b. M .server .heard r i (omega arith) (omega arith);
               pairs = M .server .kept;
-              short = rw (← M .server .kept) (M .server .short);
+              short = rw (← M .server .kept) (omega (arith, M .server .short, length-map (o .server .kept) (recoded 16)));
               early = λ r i a. M .server .unheard r i (omega arith);
             };
             whole = λ n. refl;

@@ -2,7 +2,7 @@
 -- end of the tick, and of what arrives at it.
 use mathlib.Core.Path.{_≡_}
 use mathlib.Core.Bool.{Bool, true, false, not, _&&_, _||_}
-use mathlib.Core.List.{List, _++_}
+use mathlib.Core.List.{List, _++_, map}
 use Prim.Native.Nat.{ℕ, suc, _≤_, _<_}
 use lib.Dec.{T, eqb}
 use lib.ListN.{length}
@@ -11,14 +11,14 @@ use Rattle.register.specs.Plan.{Plan, Read, readEnd}
 use Rattle.register.specs.Server.{isFaulty, Claim, Server, Sent, Out}
 use Rattle.register.specs.Reading.{sameRead}
 use Rattle.calendar.specs.Layout.{depth}
-use Rattle.serving.specs.Stored.{Said, Both}
+use Rattle.serving.specs.Stored.{Said, Both, recoded}
 use Rattle.states.specs.State.{Votes, Rep}
 
 module _ (P : Plan) (g : ℕ → ℕ) (m : ℕ) where
   pub record Told (t : ℕ) (o : Sent) (q : Said) : Type 0 where
-    pub votes : (j : ℕ) → j < m → member (g j) (o .votes) ≡ eqb j (q .wrote) || (q .echoed && member (g j) (q .pairs))
+    pub votes : (j : ℕ) → j < m → member (g j) (o .votes) ≡ eqb j (q .wrote) || (q .echoed && member (recoded 16 (g j)) (q .pairs))
     pub readers : (r : Read) → In r (P .reads) → r .begun < t → t ≤ readEnd P r → any (sameRead r) (o .replyTo) ≡ q .readers (r .reader)
-    pub pairs : o .replyWith ≡ q .pairs
+    pub pairs : map (recoded 16) (o .replyWith) ≡ q .pairs
     pub short : length (q .pairs) ≤ depth
     pub early : (r : Read) → In r (P .reads) → t ≤ r .begun → any (sameRead r) (o .replyTo) ≡ false
 

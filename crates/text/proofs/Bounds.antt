@@ -12,12 +12,12 @@ use Rattle.decimal.proofs.Laws.{decimal-length}
 use Rattle.register.specs.Lists.{In}
 use Rattle.register.specs.Plan.{Plan, Read, readEnd, valueOf, numberOf}
 use Rattle.register.specs.Reading.{answerOf}
+use Rattle.register.proofs.Stamped.{value-below}
 use Rattle.plan.specs.Packed.{planOf}
 use Rattle.plan.specs.Check.{Outcome, refused, result, checkOf}
 use Rattle.plan.proofs.Accept.{playable, reads-counted, in-range}
 use Rattle.plan.proofs.AcceptReads.{read-stands}
 use Rattle.plan.proofs.Longest.{most-reads}
-use Rattle.plan.proofs.Stamped.{value-below}
 use Rattle.lines.specs.Text.{lineWith, lineOf, linesFor, textAfter, textOf, mostLine, mostText, writtenOver}
 use Rattle.lines.proofs.Lines.{answer-fits}
 use Rattle.text.proofs.Refusals.{refusal-low}

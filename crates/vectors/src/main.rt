@@ -44,7 +44,7 @@ fn looks(plan: &[u8]) {
 fn look(plan: &[u8], tick: usize, server: usize) {
     let mut pairs = [0u8; lent::PAIRS];
     let mut work = [0u8; lent::WORKSPACE];
-    let code = pairs::of_look(look::look(plan, &mut work, server, tick), &mut pairs);
+    let code = pairs::look(plan, &mut work, server, tick, &mut pairs);
     shown::word(b"look ");
     shown::number(tick as u64, b" ");
     shown::number(server as u64, b" ");

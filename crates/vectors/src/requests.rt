@@ -28,8 +28,13 @@ fn play(plan: &[u8], room: usize, space: usize) {
 fn look(plan: &[u8], space: usize, server: usize, tick: usize) {
     let mut pairs = [lent::FILLER; lent::PAIRS];
     let mut work = [lent::FILLER; lent::WORKSPACE];
-    let looked = look::look(plan, lent::first_mut(&mut work, space), server, tick);
-    let code = pairs::of_look(looked, &mut pairs);
+    let code = pairs::look(
+        plan,
+        lent::first_mut(&mut work, space),
+        server,
+        tick,
+        &mut pairs,
+    );
     shown::word(b"look ");
     shown::seen(code, &pairs);
     shown::kept(lent::is_kept(&work));

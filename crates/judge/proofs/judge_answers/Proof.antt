@@ -12,7 +12,7 @@ use Rattle.plan.specs.Check.{result}
 use Rattle.plan.specs.Playable.{Playable}
 use Rattle.plan.proofs.Accept.{playable, header-there}
 use Rattle.script.specs.Operations.{Room}
-use Rattle.script.proofs.Scripting.{operations-room}
+use Rattle.script.proofs.Scripting.{operations-room, initial-narrow}
 use Rattle.script.proofs.Forging.{shape-ranged}
 use Rattle.simulator.specs.Judge.{answerFits, answerAllowed, judgeAfter}
 use Rattle.judge.proofs.Laws as laws
@@ -100,7 +100,7 @@ returns-2 c =
     rw (eq-eqb _ _ (o .before .before .if1 .left), fits (c .before) ∙ not-true _ (c .if2 .taken))
 
 writes-of-requires : tie.Need-writes-of-requires
-writes-of-requires c κs = has-room (operating (reading (c .before)))
+writes-of-requires c κs = let o = operating (reading (c .before)) in (has-room o, initial-narrow _ (o .before .read .result) (o .before .read .ensures))
 
 all-allowed-requires : tie.Need-all-allowed-requires
 all-allowed-requires c κs =

@@ -38,7 +38,7 @@ returns c =
     (h .0, e .0, rw (← e .1) (h .3))
 
 put-pair-requires : tie.Need-put-pair-requires Inv-loop μ-loop
-put-pair-requires c κs = search needs
+put-pair-requires c κs = (omega arith, c .before .before .before .before .before .before .before .pre (c .before .before .before .before .before .loop .i))
 
 add-i : tie.Need-add-i Inv-loop μ-loop
 add-i c = search needs

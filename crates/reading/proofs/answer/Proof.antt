@@ -31,7 +31,7 @@ element-copy-out-write c =
     search needs
 
 write-requires-2 : tie.Need-write-requires-2
-write-requires-2 c κs = search needs
+write-requires-2 c κs = let s = c .before .before .before .before .before .before .before in (s .pre .0, s .pre .2 _)
 
 same-length-2 : tie.Need-same-length-2
 same-length-2 c = search needs

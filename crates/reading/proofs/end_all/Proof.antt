@@ -52,25 +52,25 @@ mul-answer c = let h : c .before .before .before .before .before .before .loop .
 
 sub-answer : tie.Need-sub-answer Inv-loop μ-loop
 sub-answer c =
-    let h : 5 * c .before .before .before .before .before .before .loop .i + 5 ≤ length (c .before .before .before .before .before .before .loop .answers) = omega (arith, c .before .before .before .before .before .loop-test .taken, c .before .before .before .before .before .before .before .before .before .before .before .pre .2, c .before .before .before .before .before .before .loop .inv .2) in
+    let h : 5 * c .before .before .before .before .before .before .loop .i + 5 ≤ length (c .before .before .before .before .before .before .loop .answers) = omega (arith, c .before .before .before .before .before .loop-test .taken, c .before .before .before .before .before .before .before .before .before .before .before .pre .3, c .before .before .before .before .before .before .loop .inv .2) in
     search needs
 
 part-answer-start : tie.Need-part-answer-start Inv-loop μ-loop
 part-answer-start c =
-    let h : 5 * c .before .before .before .before .before .before .loop .i + 5 ≤ length (c .before .before .before .before .before .before .loop .answers) = omega (arith, c .before .before .before .before .before .loop-test .taken, c .before .before .before .before .before .before .before .before .before .before .before .pre .2, c .before .before .before .before .before .before .loop .inv .2) in
+    let h : 5 * c .before .before .before .before .before .before .loop .i + 5 ≤ length (c .before .before .before .before .before .before .loop .answers) = omega (arith, c .before .before .before .before .before .loop-test .taken, c .before .before .before .before .before .before .before .before .before .before .before .pre .3, c .before .before .before .before .before .before .loop .inv .2) in
     search needs
 
 part-answer-end : tie.Need-part-answer-end Inv-loop μ-loop
 part-answer-end c =
-    let h : 5 * c .before .before .before .before .before .before .loop .i + 5 ≤ length (c .before .before .before .before .before .before .loop .answers) = omega (arith, c .before .before .before .before .before .loop-test .taken, c .before .before .before .before .before .before .before .before .before .before .before .pre .2, c .before .before .before .before .before .before .loop .inv .2) in
+    let h : 5 * c .before .before .before .before .before .before .loop .i + 5 ≤ length (c .before .before .before .before .before .before .loop .answers) = omega (arith, c .before .before .before .before .before .loop-test .taken, c .before .before .before .before .before .before .before .before .before .before .before .pre .3, c .before .before .before .before .before .before .loop .inv .2) in
     search needs
 
 answer-requires : tie.Need-answer-requires Inv-loop μ-loop
 answer-requires c κs =
     let s = c .before .before .before .before .before .before .before .before .before .before .before .before in
     let l = c .before .before .before .before .before .before .before .loop in
-    let h : 5 * l .i + 5 ≤ length (l .answers) = omega (arith, c .before .before .before .before .before .before .loop-test .taken, s .pre .2, l .inv .2) in
-    (rw (part-from (5 * l .i) (l .answers), length-drop) (omega arith), s .pre .1)
+    let h : 5 * l .i + 5 ≤ length (l .answers) = omega (arith, c .before .before .before .before .before .before .loop-test .taken, s .pre .3, l .inv .2) in
+    (rw (part-from (5 * l .i) (l .answers), length-drop) (omega arith), s .pre .1, s .pre .2)
 
 add-i : tie.Need-add-i Inv-loop μ-loop
 add-i c = let h : c .before .before .before .before .before .before .before .before .before .before .loop .i < 255 = omega (arith, c .before .before .before .before .before .before .before .before .before .loop-test .taken, c .before .before .before .before .before .before .before .before .before .before .before .before .before .before .before .pre .0 .few) in search needs

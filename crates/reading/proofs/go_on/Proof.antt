@@ -15,7 +15,7 @@ end-all-requires : tie.Need-end-all-requires
 end-all-requires c κs =
     let s = c .before .before .before .before .before .before .before .before .before .before .before in
     let e = c .before .first-from .ensures in
-    (there-part _ _ (s .pre .0 .table) _ _ (e .from) (e .few), s .pre .0 .pairs, omega (arith, s .pre .3, e .few))
+    (there-part _ _ (s .pre .0 .table) _ _ (e .from) (e .few), s .pre .0 .pairs, s .pre .0 .narrow, omega (arith, s .pre .3, e .few))
 
 size-of-requires : tie.Need-size-of-requires
 size-of-requires c κs = search needs

@@ -2,7 +2,7 @@
 use mathlib.Core.Path.{refl}
 use borrow.Author.Needs.{needs}
 use Rattle.plan.proofs.Accept.{header-there}
-use Rattle.script.proofs.Scripting.{operations-room, scripted}
+use Rattle.script.proofs.Scripting.{operations-room, initial-narrow, scripted}
 use Rattle.script.proofs.Forging.{shape-ranged}
 use Rattle.script.proofs.read.Statement.{statement}
 use Rattle.script.proofs.read.Tie as tie
@@ -27,7 +27,7 @@ writes-of-requires : tie.Need-writes-of-requires
 writes-of-requires c κs =
     let s = c .before .before .before .before .before .before .before in
     let x = c .before .before .before .before .read in
-    operations-room (s .args .plan .now) (s .pre .0) (x .result) (x .ensures) (c .before .operations-at .result) (c .before .operations-at .ensures .0)
+    (operations-room (s .args .plan .now) (s .pre .0) (x .result) (x .ensures) (c .before .operations-at .result) (c .before .operations-at .ensures .0), initial-narrow _ (x .result) (x .ensures))
 
 reads-of-requires : tie.Need-reads-of-requires
 reads-of-requires c κs =

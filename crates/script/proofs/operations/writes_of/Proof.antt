@@ -26,7 +26,7 @@ left : (c : tie.Then1 Inv-loop μ-loop) → c .before .before .before .before .l
 left c =
     let h = c .before .before .before .before .loop in
     number-left (c .before .before .before .before .before .before .args .plan .now) (c .before .before .before .before .before .before .args .at) _
-    (c .before .before .before .before .before .before .pre) (h .i) (c .before .before .before .loop-test .taken) _ (h .values) (h .begun) (h .m) (h .inv .3) (sym (c .before .before .read .ensures .party) ∙ c .if1 .taken)
+    (c .before .before .before .before .before .before .pre .0) (h .i) (c .before .before .before .loop-test .taken) _ (h .values) (h .begun) (h .m) (h .inv .3) (sym (c .before .before .read .ensures .party) ∙ c .if1 .taken)
 
 array-write-values : tie.Need-array-write-values Inv-loop μ-loop
 array-write-values c = search needs
@@ -37,7 +37,7 @@ loop-holds c = (
   search needs,
   search needs,
   written-none (opAt (c .before .args .plan .now) (c .before .args .at)) _ (set (replicate 65 0) 0 (c .before .args .initial)) (replicate 65 0) refl
-      (set-below (replicate 65 0) 0 (c .before .args .initial) 65536 (search needs) (λ j. rw (getD-replicate-same {A = ℕ} 65 j 0) (omega arith))),
+      (set-below (replicate 65 0) 0 (c .before .args .initial) 65536 (c .before .pre .1) (λ j. rw (getD-replicate-same {A = ℕ} 65 j 0) (omega arith))),
 )
 
 mul-read : tie.Need-mul-read Inv-loop μ-loop
@@ -72,7 +72,7 @@ loop-again c =
     let h = c .before .before .before .before .loop in
     let s = c .before .before .before .before .before .before .args .plan .now in
     let at = c .before .before .before .before .before .before .args .at in
-    let R = c .before .before .before .before .before .before .pre in
+    let R = c .before .before .before .before .before .before .pre .0 in
     let E = c .before .before .read .ensures in
     elim (c .if1 .came) [
       | inl w ↦ write-stored s at _ R (h .i) (c .before .before .before .loop-test .taken) _ (h .values) (h .begun) (h .m) (h .inv .3) _ _ _ _ _ (h .inv .1) (h .inv .2)

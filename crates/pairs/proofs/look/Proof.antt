@@ -1,15 +1,17 @@
--- `register_look` meets its contract: the code of what Look returns, and the bytes that both leave.
+-- `look` meets its contract: the code of what Look returns, and the bytes that both leave.
 use mathlib.Core.Path.{ap}
+use Rattle.simulator.specs.Look.{Looked}
 use Rattle.codes.specs.Codes.{codedIn}
+use Rattle.codes.proofs.TwoBytes.{look-two}
 use borrow.Author.Needs.{needs}
-use Rattle.capi.proofs.register_look.Statement.{statement}
-use Rattle.capi.proofs.register_look.Tie as tie
+use Rattle.pairs.proofs.look.Statement.{statement}
+use Rattle.pairs.proofs.look.Tie as tie
 
 look-requires : tie.Need-look-requires
 look-requires c κs = search needs
 
 of-look-requires : tie.Need-of-look-requires
-of-look-requires c κs = search needs
+of-look-requires c κs = rw (ap (λ (x : Looked). x .places) (c .before .before .before .look .ensures)) (look-two _ _ _ _)
 
 same-length : tie.Need-same-length
 same-length c = search needs
@@ -22,6 +24,6 @@ returns c =
     let e = c .before .before .of-look .ensures in
     rw (e .0, e .1) (ap (codedIn _) (c .before .before .before .before .before .before .look .ensures))
 
-pub register-look-spec : {M : Type 1} → statement M
-register-look-spec =
+pub look-spec : {M : Type 1} → statement M
+look-spec =
     tie.close (tie.spec look-requires of-look-requires same-length same-length-2 returns)
