@@ -15,7 +15,6 @@ use Rattle.register.specs.Server.{Claim, has, pairsOf}
 use Rattle.register.specs.Reading.{Answer, notedBy, countIn, countOf, best, answerFrom, answerOf}
 use Rattle.register.proofs.Logic.{cond-e}
 use Rattle.register.proofs.Counting.{count-cong}
-use Rattle.register.proofs.Stamped.{number-up}
 use Rattle.register.proofs.Good.{Good}
 use Rattle.register.proofs.Genuine.{genuine-cases}
 use Rattle.register.proofs.ReadSafety.{quorum-genuine, answer-from}
@@ -101,7 +100,7 @@ module _ (P : Plan) (g : ℕ → ℕ) (m : ℕ) (G : Good P) (K : Knows P g m) (
         let q = rw (a .1) at (a .2) in
         let k = quorum-known (answerOf P r .pair) q in
         let up : k .0 ≤ j = F .top (k .0) (k .1) (rw (same (k .0) (k .1), ← k .2) q) in
-        let down : j ≤ k .0 = omega (arith, number-up 16 (g j) (g (k .0)) (omega (arith, a .0, k .2)), K .number j (F .below), K .number (k .0) (k .1)) in
+        let down : j ≤ k .0 = elim (decLe j (k .0)) [ yes l ↦ l | no l ↦ absurd (omega (arith, a .0, k .2, K .rising (k .0) j (omega arith))) ] in
         let e : k .0 ≡ j = omega arith in
         let p : answerOf P r .pair ≡ g j = k .2 ∙ ap g e in
         both-parts (answerOf P r) (g j) (votes named j) p (a .1 ∙ rw (p, same j (F .below)))

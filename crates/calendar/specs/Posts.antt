@@ -4,11 +4,11 @@ use mathlib.Core.Bool.{Bool, false, not, _&&_, _||_, cond}
 use mathlib.Core.List.{List, [], _∷_}
 use Prim.Native.Nat.{ℕ, zero, suc, _+_, _*_, _-_, _/_, _%_, _^_, _≤_, _<_}
 use lib.Dec.{eqb, ltb}
-use lib.ListN.{set}
+use lib.ListN.{length, set}
 use Rattle.bits.specs.Field.{fieldOf}
 use Rattle.calendar.specs.declared.Stamped.{Stamped}
 use Rattle.calendar.specs.declared.Sending.{Sending}
-use Rattle.calendar.specs.Layout.{receivers, depth, lowOf, highOf}
+use Rattle.calendar.specs.Layout.{receivers, lowOf, highOf}
 
 abbrev pub Messages : Type 0
 Messages = ℕ → ℕ → ℕ → Bool
@@ -19,7 +19,7 @@ inRow row i P x j k = eqb x row && (eqb k i && P j)
 
 -- an empty place of a store
 abbrev pub vacant : Stamped
-vacant = record { kept = false; number = 0; value = 0 }
+vacant = record { kept = false; number = 0 }
 
 -- of the first n places of the store, those before the first empty one hold pair j
 unfoldable pub amongFirst : ℕ → List Stamped → ℕ → Bool
@@ -29,7 +29,7 @@ amongFirst (suc n) (p ∷ ps) j = p .kept && (eqb j (p .number) || amongFirst n 
 
 -- the store keeps pair j
 abbrev pub among : List Stamped → ℕ → Bool
-among kept j = amongFirst depth kept j
+among kept j = amongFirst (length kept) kept j
 
 -- the tick in which what is sent reaches server b: the delays are nibbles, the last server's lowest
 unfoldable pub arrivalOf : Sending → ℕ → ℕ

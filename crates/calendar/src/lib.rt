@@ -30,11 +30,11 @@ const CELLS: usize = ROWS;
 // How many bytes the calendar takes.
 pub const BYTES: usize = 2 * (CELLS + ROWS * PLACES);
 
-// A stamped value (document 01: a pair), or an empty place of a store. Its place among the known pairs is its number.
+// A stamped value (document 01: a pair) by its place among the known pairs, which is its number; or an empty place of a store. Its value stands in the
+// table of the known pairs.
 pub struct Stamped {
     pub kept: bool,
     pub number: u8,
-    pub value: u32,
 }
 
 // What one party sends in a tick to the n servers: the delays as nibbles, the last server's lowest.

@@ -22,7 +22,7 @@ use Rattle.serving.specs.declared.Links.{Links}
 use Rattle.cluster.specs.declared.Arrivals.{Arrivals}
 use Rattle.cluster.specs.declared.Movement.{Movement}
 use Rattle.serving.specs.Sends.{reaches, sendsVote, sendsReply, sends}
-use Rattle.serving.specs.Stored.{Small, Plain, Both, server, saidBy, statusOf, keys, pairOf}
+use Rattle.serving.specs.Stored.{Plain, Both, server, saidBy, statusOf, keys}
 use Rattle.serving.specs.Stages.{nobody, voting, isNew, anyNew, taken, withWrite, repliesTo, stageOne, stageTwo, stagesOf}
 use Rattle.cluster.specs.Inputs.{isAsked, wroteAt, asksAt}
 use Rattle.cluster.specs.Settled.{Settled, called, reached}
@@ -34,24 +34,24 @@ use Rattle.serving.proofs.StageLaws.{zero-set, write-kept, delivered-law, taken
 use Rattle.cluster.proofs.Settled.{taken-none}
 
 -- what it means that nothing reaches a server; `due` has the servers that some request reaches
-module _ (work : List ℕ) (b : ℕ) (arrivals : Arrivals) (movement : Movement) (t delta : ℕ) (g : ℕ → ℕ) (status : Status) (pending : ℕ) (kept : List ℕ) where
+module _ (work : List ℕ) (b : ℕ) (arrivals : Arrivals) (movement : Movement) (t delta : ℕ) (status : Status) (pending : ℕ) (kept : List ℕ) where
   pub record Unreached : Type 0 where
     pub moving : movement .moving ≡ false
     pub asks : (x : ℕ) → asksAt (arrivals .requests) b x ≡ false
     pub wrote : places ≤ wroteAt (arrivals .requests) (arrivals .number) b
     pub live : bitAnd pending (arrivals .live) ≡ pending
     pub cured : curedAt delta t status ≡ false
-    pub known : isFaulty status ≡ false → (j : ℕ) → Inside work (rowOf t b) j → isNew (g j) kept ≡ false
+    pub known : isFaulty status ≡ false → (j : ℕ) → Inside work (rowOf t b) j → isNew j kept ≡ false
 
-  none-arrives : (f : Bool) → not f && anyNew g kept (lowOf work (rowOf t b)) (highOf work (rowOf t b)) ≡ false → f ≡ false → (j : ℕ) → Inside work (rowOf t b) j → isNew (g j) kept ≡ false
-  none-arrives f e h j i = go (isNew (g j) kept) refl
+  none-arrives : (f : Bool) → not f && anyNew kept (lowOf work (rowOf t b)) (highOf work (rowOf t b)) ≡ false → f ≡ false → (j : ℕ) → Inside work (rowOf t b) j → isNew j kept ≡ false
+  none-arrives f e h j i = go (isNew j kept) refl
     where
-      go : (c : Bool) → isNew (g j) kept ≡ c → c ≡ false
-      go true n = sym (some-new g kept _ _ j (i .0) (i .1) n) ∙ rw h at e
+      go : (c : Bool) → isNew j kept ≡ c → c ≡ false
+      go true n = sym (some-new kept _ _ j (i .0) (i .1) n) ∙ rw h at e
       go false n = refl
 
   pub unreached : (due : ℕ) → bit b due ≡ isAsked (arrivals .requests) b → (busy : Bool) → busy ≡ called b due (arrivals .live) (movement .moving) t delta status pending
-      → reached busy work (rowOf t b) g status kept ≡ false → Unreached
+      → reached busy work (rowOf t b) status kept ≡ false → Unreached
   unfolding called reached
   unreached due all busy q e =
       let v = neither _ _ e in
@@ -119,20 +119,20 @@ no-replies true asks list e = sym e
 no-replies false asks list e = refl
 
 -- without a movement and the end of a cure, stage 1 is all
-only-first : (g : ℕ → ℕ) (m : ℕ) (rules : Rules) (w : ℕ) (votes : ℕ → ℕ → Bool) (asks live : ℕ → Bool) (moving h : Bool) (t : ℕ) (s : Plain) (o : Both)
-    → moving ≡ false → curedAt (rules .delta) t (o .server .status) ≡ false → o ≡ stageOne g m (rules .echo) (rules .reply) w votes asks live s
-    → o ≡ stagesOf g m rules w votes asks live moving h t s
+only-first : (m : ℕ) (rules : Rules) (w : ℕ) (votes : ℕ → ℕ → Bool) (asks live : ℕ → Bool) (moving h : Bool) (t : ℕ) (s : Plain) (o : Both)
+    → moving ≡ false → curedAt (rules .delta) t (o .server .status) ≡ false → o ≡ stageOne m (rules .echo) (rules .reply) w votes asks live s
+    → o ≡ stagesOf m rules w votes asks live moving h t s
 unfolding stagesOf stageTwo
-only-first g m rules w votes asks live moving h t s o e d one = rw (e, ← one) (still o d)
+only-first m rules w votes asks live moving h t s o e d one = rw (e, ← one) (still o d)
   where
     still : (o : Both) → curedAt (rules .delta) t (o .server .status) ≡ false → o ≡ stageTwo (rules .delta) t o
     still o d = rw d
 
 module _ (F : Feed) (ends : List ℕ) (b : ℕ) (s : Server) (l : b < 16) (S : Spanned (F .work) places) (few : F .known .m ≤ places)
-    (U : Unreached (F .work) b (F .arrivals) (F .movement) (F .t) (F .rules .delta) (pairOf (F .known .values)) (statusOf (s .status)) (s .pending) (keys (s .kept)))
-    (K : Settled (pairOf (F .known .values)) (F .known .m) (F .rules .echo) (F .rules .reply) (server s)) where
+    (U : Unreached (F .work) b (F .arrivals) (F .movement) (F .t) (F .rules .delta) (statusOf (s .status)) (s .pending) (keys (s .kept)))
+    (K : Settled (F .known .m) (F .rules .echo) (F .rules .reply) (server s)) where
   -- no vote for a new pair arrives
-  none-new : isFaulty (statusOf (s .status)) ≡ false → (j i : ℕ) → j < places → isNew (pairOf (F .known .values) j) (keys (s .kept)) ≡ true → sender (F .work) (rowOf (F .t) b) j i ≡ false
+  none-new : isFaulty (statusOf (s .status)) ≡ false → (j i : ℕ) → j < places → isNew j (keys (s .kept)) ≡ true → sender (F .work) (rowOf (F .t) b) j i ≡ false
   none-new h j i m n = go (sender (F .work) (rowOf (F .t) b) j i) refl
     where
       go : (c : Bool) → sender (F .work) (rowOf (F .t) b) j i ≡ c → c ≡ false
@@ -157,11 +157,11 @@ module _ (F : Feed) (ends : List ℕ) (b : ℕ) (s : Server) (l : b < 16) (S : S
       each : (x : ℕ) → bit x (s .pending) ≡ (bit x (s .pending) && bit x (F .arrivals .live)) || false
       each x = ap (bit x) (sym (U .live)) ∙ (bit-and x (s .pending) (F .arrivals .live) ∙ sym (or-false _))
 
-  no-write : server s ≡ withWrite (pairOf (F .known .values)) (F .known .m) w (server s)
+  no-write : server s ≡ withWrite (F .known .m) w (server s)
   no-write = rw (le-ltb w (F .known .m) (omega (arith, U .wrote)))
 
-  none-taken : server s .kept ≡ taken (voting (F .rules .echo) (F .rules .reply) (server s .fresh) (server s .old)) (pairOf (F .known .values)) (F .known .m) (server s .kept)
-  none-taken = sym (taken-none _ (pairOf (F .known .values)) (F .known .m) (server s .kept) (K .same))
+  none-taken : server s .kept ≡ taken (voting (F .rules .echo) (F .rules .reply) (server s .fresh) (server s .old)) (F .known .m) (server s .kept)
+  none-taken = sym (taken-none _ (F .known .m) (server s .kept) (K .same))
 
   -- the row of a server that says nothing
   quiet : Bool → Row
@@ -169,12 +169,12 @@ module _ (F : Feed) (ends : List ℕ) (b : ℕ) (s : Server) (l : b < 16) (S : S
   quiet false = record { wrote = w; echoed = false; readers = 0; kept = s .kept }
 
   first : (c : Bool) → isFaulty (statusOf (s .status)) ≡ c
-      → record { server = server s; said = saidBy (quiet c) } ≡ stageOne (pairOf (F .known .values)) (F .known .m) (F .rules .echo) (F .rules .reply) w (server s .fresh) asked going (server s)
+      → record { server = server s; said = saidBy (quiet c) } ≡ stageOne (F .known .m) (F .rules .echo) (F .rules .reply) w (server s .fresh) asked going (server s)
   unfolding quiet keys
-  first true e = lost-law (pairOf (F .known .values)) (F .known .m) (F .rules .echo) (F .rules .reply) w (server s .fresh) asked going (server s) (saidBy (quiet true)) e (rw zero-set)
-  first false e = taken-law (pairOf (F .known .values)) (F .known .m) (F .rules .echo) (F .rules .reply) w (server s .fresh) asked going (server s) _ (voting (F .rules .echo) (F .rules .reply) (server s .fresh) (server s .old)) e
-      (delivered-law (pairOf (F .known .values)) (F .known .m) _ w (server s .fresh) asked going (server s) (server s .kept) (server s .kept) (server s .pending) (λ x. bit x 0)
-      (ap (λ (x : Plain). x .kept) no-write ∙ write-kept (pairOf (F .known .values)) (F .known .m) w (server s)) none-taken pend (zero-set ∙ rw (same-as-itself (server s .kept)) (no-replies (isCorrect (statusOf (s .status))) asked (server s .pending) none-asked))) refl
+  first true e = lost-law (F .known .m) (F .rules .echo) (F .rules .reply) w (server s .fresh) asked going (server s) (saidBy (quiet true)) e (rw zero-set)
+  first false e = taken-law (F .known .m) (F .rules .echo) (F .rules .reply) w (server s .fresh) asked going (server s) _ (voting (F .rules .echo) (F .rules .reply) (server s .fresh) (server s .old)) e
+      (delivered-law (F .known .m) _ w (server s .fresh) asked going (server s) (server s .kept) (server s .kept) (server s .pending) (λ x. bit x 0)
+      (ap (λ (x : Plain). x .kept) no-write ∙ write-kept (F .known .m) w (server s)) none-taken pend (zero-set ∙ rw (same-as-itself (server s .kept)) (no-replies (isCorrect (statusOf (s .status))) asked (server s .pending) none-asked))) refl
 
   quiet-wrote : (c : Bool) → places ≤ quiet c .wrote
   unfolding quiet
@@ -191,23 +191,17 @@ module _ (F : Feed) (ends : List ℕ) (b : ℕ) (s : Server) (l : b < 16) (S : S
   quiet-readers true = refl
   quiet-readers false = refl
 
-  quiet-small : (c : Bool) → Small (s .kept) → Small (quiet c .kept)
-  unfolding quiet
-  quiet-small true h = (omega arith, λ q. omega arith)
-  quiet-small false h = h
-
-  pub idle-turned : Small (s .kept) → (after : List ℕ) → Emptied (F .work) after (rowOf (F .t) b) → Turned F ends b s s after
-  idle-turned small after E =
+  pub idle-turned : (after : List ℕ) → Emptied (F .work) after (rowOf (F .t) b) → Turned F ends b s s after
+  idle-turned after E =
       let c : Bool = isFaulty (statusOf (s .status)) in
       record {
         out = record { server = s; row = quiet c };
         done = record {
           votes = server s .fresh;
           came = λ h j i m n. rw (none-new h j i m n) (sym (or-false (server s .fresh j i)));
-          stages = only-first (pairOf (F .known .values)) (F .known .m) (F .rules) w (server s .fresh) asked going (F .movement .moving) (bit (15 - b) (F .movement .faulty)) (F .t) (server s) _ (U .moving) (U .cured) (first c refl);
+          stages = only-first (F .known .m) (F .rules) w (server s .fresh) asked going (F .movement .moving) (bit (15 - b) (F .movement .faulty)) (F .t) (server s) _ (U .moving) (U .cured) (first c refl);
         };
         next = refl;
-        small = quiet-small c small;
         rest = E .rest;
         spans = E .spans;
         cells = λ x j i h m. rw (sends-none (F .plan) (F .links) (F .rules .n) (F .t) ends b (quiet c) (quiet-wrote c) (quiet-echoed c) (quiet-readers c) x j m, and-false (eqb i b), or-false (not (eqb x (rowOf (F .t) b)) && sender (F .work) x j i)) (E .cells x j i h m);

@@ -27,7 +27,7 @@ use Rattle.serving.specs.declared.Row.{Row}
 use Rattle.serving.specs.declared.Links.{Links}
 use Rattle.serving.specs.Links.{delayAt, linkBit}
 use Rattle.serving.specs.Sends.{votesFor, reaches, sendsVote, sendsReply, sends}
-use Rattle.serving.specs.Stored.{Small, Step, server, both, statusOf, keys, pairOf, absent}
+use Rattle.serving.specs.Stored.{Step, server, both, statusOf, keys, absent}
 use Rattle.cluster.specs.Inputs.{Tickable, isAsked}
 use Rattle.cluster.specs.Settled.{Settled, Calm, called, reached, CalmlyTurned, CalmlyServed, CalmlyTicked}
 use Rattle.cluster.specs.Tick.{Feed, Heard, Emptied, Stepped, Turned, Served, Ticked, endsOf, present}
@@ -101,17 +101,16 @@ feedAt F work = record {
 
 -- what arrived is cleared, and what it sends is posted
 pub turned-here : (F : Feed) (ends : List ℕ) (b : ℕ) (s : Server) (o : Step) (cleared after : List ℕ) → Spanned (F .work) places
-    → (Settled (pairOf (F .known .values)) (F .known .m) (F .rules .echo) (F .rules .reply) (server s) → Stepped (F .work) b (F .arrivals) (F .movement) (F .t) (F .rules) (F .known .values) (F .known .m) (server s) (both o))
+    → (Settled (F .known .m) (F .rules .echo) (F .rules .reply) (server s) → Stepped (F .work) b (F .arrivals) (F .movement) (F .t) (F .rules) (F .known .m) (server s) (both o))
     → Cleared (F .work) cleared (rowOf (F .t) b) → Posted cleared after (λ x j k. eqb k b && sends (F .plan) (F .links) (F .rules .n) (F .t) ends b (o .row) x j)
-    → Small (o .row .kept) → CalmlyTurned F ends b s (o .server) after
-turned-here F ends b s o cleared after S T C P small = record {
+    → CalmlyTurned F ends b s (o .server) after
+turned-here F ends b s o cleared after S T C P = record {
   rest = rest;
   spans = spans;
   turned = λ K. record {
     out = o;
     done = T K;
     next = refl;
-    small = small;
     rest = rest;
     spans = spans;
     cells = λ x j i h m. P .cells x j i h m ∙ rw (cleared-cells (F .work) cleared (rowOf (F .t) b) places (omega arith) C S x j i h m);
@@ -151,7 +150,6 @@ module _ (F : Feed) (ends : List ℕ) (c : List Server) where
       size = refl;
       done = λ b l. absurd (omega arith);
       next = λ b l. absurd (omega arith);
-      small = λ b l. absurd (omega arith);
       rest = record { size = refl; past = λ k l. refl };
       spans = S;
       cells = λ x j i l m.
@@ -196,7 +194,7 @@ module _ (F : Feed) (ends : List ℕ) (c : List Server) where
       unfolding outs
       out-there i d = rw (ne-eqb i b d)
 
-      stepped : Stepped (F .work) b (F .arrivals) (F .movement) (F .t) (F .rules) (F .known .values) (F .known .m) (server (getD c b absent)) (both (T .out))
+      stepped : Stepped (F .work) b (F .arrivals) (F .movement) (F .t) (F .rules) (F .known .m) (server (getD c b absent)) (both (T .out))
       stepped = let U = rw same at (T .done) in
           record { votes = U .votes; came = λ h j i m n. U .came h j i m n ∙ rw (still j i m); stages = U .stages }
 
@@ -227,20 +225,15 @@ module _ (F : Feed) (ends : List ℕ) (c : List Server) where
         size = length-set r b q ∙ S .size;
         done = λ i h. done i h (ℕ-discrete i b);
         next = λ i h. next i h (ℕ-discrete i b);
-        small = λ i h. fits i h (ℕ-discrete i b);
         rest = record { size = T .rest .size ∙ S .rest .size; past = λ k h. T .rest .past k h ∙ S .rest .past k h };
         spans = T .spans;
         cells = cells;
       }
         where
           done : (i : ℕ) → i < b + 1 → Dec (i ≡ b)
-              → Stepped (F .work) i (F .arrivals) (F .movement) (F .t) (F .rules) (F .known .values) (F .known .m) (server (getD c i absent)) (both (outs i))
+              → Stepped (F .work) i (F .arrivals) (F .movement) (F .t) (F .rules) (F .known .m) (server (getD c i absent)) (both (outs i))
           done i h (yes e) = rw (e, out-here) stepped
           done i h (no d) = rw (out-there i d) (S .done i (omega arith))
-
-          fits : (i : ℕ) → i < b + 1 → Dec (i ≡ b) → Small (outs i .row .kept)
-          fits i h (yes e) = rw (e, out-here) (T .small)
-          fits i h (no d) = rw (out-there i d) (S .small i (omega arith))
 
           next : (i : ℕ) → i < b + 1 → Dec (i ≡ b) → getD (set r b q) i absent ≡ outs i .server
           next i h (yes e) = rw (e, out-here) (getD-set-same r b q absent (omega (arith, S .size)) ∙ T .next)
@@ -258,11 +251,11 @@ module _ (F : Feed) (ends : List ℕ) (c : List Server) where
     }
 
     -- a server that nothing new reaches
-    pub serving-idle : b < F .rules .n → F .known .m ≤ places → Small (getD c b absent .kept) → (due : ℕ) → bit b due ≡ isAsked (F .arrivals .requests) b → (busy any : Bool)
+    pub serving-idle : b < F .rules .n → F .known .m ≤ places → (due : ℕ) → bit b due ≡ isAsked (F .arrivals .requests) b → (busy any : Bool)
         → busy ≡ called b due (F .arrivals .live) (F .movement .moving) (F .t) (F .rules .delta) (statusOf (getD r b absent .status)) (getD r b absent .pending)
-        → any ≡ reached busy work (rowOf (F .t) b) (pairOf (F .known .values)) (statusOf (getD r b absent .status)) (keys (getD r b absent .kept)) → any ≡ false
+        → any ≡ reached busy work (rowOf (F .t) b) (statusOf (getD r b absent .status)) (keys (getD r b absent .kept)) → any ≡ false
         → (after : List ℕ) → Emptied work after (rowOf (F .t) b) → Serving r after (b + 1)
-    serving-idle own few small due all busy any q e none after E = record {
+    serving-idle own few due all busy any q e none after E = record {
       past = record { size = E .rest .size ∙ H .past .size; past = λ k h. E .rest .past k h ∙ H .past .past k h };
       spans = E .spans;
       rest = λ i h. H .rest i (omega arith);
@@ -271,8 +264,8 @@ module _ (F : Feed) (ends : List ℕ) (c : List Server) where
     }
       where
         idle : Calm (F .rules) (F .known) c → Turned (feedAt F work) ends b (getD r b absent) (getD r b absent) after
-        idle calm = idle-turned (feedAt F work) ends b (getD r b absent) l (H .spans) few (unreached work b (F .arrivals) (F .movement) (F .t) (F .rules .delta) (pairOf (F .known .values)) (statusOf (getD r b absent .status)) (getD r b absent .pending) (keys (getD r b absent .kept)) due all busy q (sym e ∙ none))
-            (rw (H .rest b (omega arith)) (calm b own)) (rw (H .rest b (omega arith)) small) after E
+        idle calm = idle-turned (feedAt F work) ends b (getD r b absent) l (H .spans) few (unreached work b (F .arrivals) (F .movement) (F .t) (F .rules .delta) (statusOf (getD r b absent .status)) (getD r b absent .pending) (keys (getD r b absent .kept)) due all busy q (sym e ∙ none))
+            (rw (H .rest b (omega arith)) (calm b own)) after E
 
 -- ---- the whole tick
 
@@ -313,7 +306,6 @@ module _ (F : Feed) (c : Cluster) (heard : List Reader) (served : List Server) (
         let T = S .done b l in
         record { votes = T .votes; came = λ h j i m n. T .came h j i m n ∙ rw (same-votes b j i (omega arith) m); stages = T .stages };
     next = S .next;
-    small = S .small;
     heard = H .readers;
     rest = record { size = S .rest .size ∙ H .rest .size; past = λ k l. S .rest .past k l ∙ H .rest .past k l };
     spans = S .spans;

@@ -20,10 +20,10 @@ use Rattle.calendar.specs.Layout.{rows, places, depth, lowOf, highOf, sender}
 use Rattle.calendar.specs.View.{Spanned}
 use Rattle.cluster.specs.declared.Cluster.{Cluster}
 use Rattle.serving.specs.declared.Rules.{Rules}
-use Rattle.serving.specs.Stored.{Plain, Both, server, pairOf, absent}
+use Rattle.serving.specs.Stored.{Plain, Both, server, absent}
 use Rattle.serving.specs.Stages.{noVotes, silent, blankAs, resetAt, restated, turned, isNew, within, Voted, taken, voting, withWrite, delivered, deliveredOf, stageOne, stageTwo, movedOn, stageFour, stagesOf}
 use Rattle.cluster.specs.Settled.{Settled}
-use Rattle.cluster.specs.Tick.{Feed, Ticked, firstOf}
+use Rattle.cluster.specs.Tick.{Feed, Ticked, firstServer}
 use Rattle.serving.proofs.StoreLaws.{same-as-itself}
 use Rattle.serving.proofs.StageLaws.{write-kept}
 
@@ -119,33 +119,33 @@ new-less p l k h w n = go (isNew p l) refl
 
 -- ---- taking in by number
 
-taken-few : (c : ℕ → Bool) (g : ℕ → ℕ) (m : ℕ) (l : List ℕ) → length l ≤ depth → length (taken c g m l) ≤ depth
+taken-few : (c : ℕ → Bool) (m : ℕ) (l : List ℕ) → length l ≤ depth → length (taken c m l) ≤ depth
 unfolding taken
-taken-few c g zero l h = h
-taken-few c g (suc j) l h = put-few (c j) (g j) (taken c g j l) (taken-few c g j l h)
+taken-few c zero l h = h
+taken-few c (suc j) l h = put-few (c j) j (taken c j l) (taken-few c j l h)
 
-taken-keeps : (c : ℕ → Bool) (g : ℕ → ℕ) (m p : ℕ) (l : List ℕ) → Stands p l depth → Stands p (taken c g m l) depth
+taken-keeps : (c : ℕ → Bool) (m p : ℕ) (l : List ℕ) → Stands p l depth → Stands p (taken c m l) depth
 unfolding taken
-taken-keeps c g zero p l w = w
-taken-keeps c g (suc m) p l w = put-keeps (c m) p (g m) (taken c g m l) (taken-keeps c g m p l w)
+taken-keeps c zero p l w = w
+taken-keeps c (suc m) p l w = put-keeps (c m) p m (taken c m l) (taken-keeps c m p l w)
 
-taken-stands : (c : ℕ → Bool) (g : ℕ → ℕ) (m : ℕ) (l : List ℕ) (j : ℕ) → j < m → c j ≡ true → Stands (g j) (taken c g m l) depth
+taken-stands : (c : ℕ → Bool) (m : ℕ) (l : List ℕ) (j : ℕ) → j < m → c j ≡ true → Stands j (taken c m l) depth
 unfolding taken
-taken-stands c g zero l j h e = absurd (omega arith)
-taken-stands c g (suc m) l j h e = go (ℕ-discrete j m) (λ d. taken-stands c g m l j d e)
+taken-stands c zero l j h e = absurd (omega arith)
+taken-stands c (suc m) l j h e = go (ℕ-discrete j m) (λ d. taken-stands c m l j d e)
   where
-    go : Dec (j ≡ m) → (j < m → Stands (g j) (taken c g m l) depth) → Stands (g j) (cond (c m) (take depth (insert (g m) (taken c g m l))) (taken c g m l)) depth
-    go (yes d) ih = rw (← d, e) (stands-in depth (g j) (taken c g j l))
-    go (no d) ih = put-keeps (c m) (g j) (g m) (taken c g m l) (ih (omega arith))
+    go : Dec (j ≡ m) → (j < m → Stands j (taken c m l) depth) → Stands j (cond (c m) (take depth (insert m (taken c m l))) (taken c m l)) depth
+    go (yes d) ih = rw (← d, e) (stands-in depth j (taken c j l))
+    go (no d) ih = put-keeps (c m) j m (taken c m l) (ih (omega arith))
 
 -- whether a pair that is not new is taken in does not matter
-taken-alike : (c d : ℕ → Bool) (g : ℕ → ℕ) (m : ℕ) (l : List ℕ) → length l ≤ depth → ((j : ℕ) → j < m → isNew (g j) l ≡ true → c j ≡ d j) → taken c g m l ≡ taken d g m l
+taken-alike : (c d : ℕ → Bool) (m : ℕ) (l : List ℕ) → length l ≤ depth → ((j : ℕ) → j < m → isNew j l ≡ true → c j ≡ d j) → taken c m l ≡ taken d m l
 unfolding taken
-taken-alike c d g zero l h e = refl
-taken-alike c d g (suc m) l h e = rw (taken-alike c d g m l h (λ j a. e j (omega arith))) (go (isNew (g m) l) refl)
+taken-alike c d zero l h e = refl
+taken-alike c d (suc m) l h e = rw (taken-alike c d m l h (λ j a. e j (omega arith))) (go (isNew m l) refl)
   where
     k : List ℕ
-    k = taken d g m l
+    k = taken d m l
 
     either : (a b : Bool) → cond a k k ≡ cond b k k
     either true true = refl
@@ -153,33 +153,33 @@ taken-alike c d g (suc m) l h e = rw (taken-alike c d g m l h (λ j a. e j (omeg
     either false true = refl
     either false false = refl
 
-    go : (b : Bool) → isNew (g m) l ≡ b → cond (c m) (take depth (insert (g m) (taken d g m l))) (taken d g m l) ≡ cond (d m) (take depth (insert (g m) (taken d g m l))) (taken d g m l)
+    go : (b : Bool) → isNew m l ≡ b → cond (c m) (take depth (insert m (taken d m l))) (taken d m l) ≡ cond (d m) (take depth (insert m (taken d m l))) (taken d m l)
     go true n = rw (e m (omega arith) n)
-    go false n = rw (stands-same depth (g m) (taken d g m l) (taken-few d g m l h) (taken-keeps d g m (g m) l (not-new (g m) l n))) (either (c m) (d m))
+    go false n = rw (stands-same depth m (taken d m l) (taken-few d m l h) (taken-keeps d m m l (not-new m l n))) (either (c m) (d m))
 
 -- after the pair of a WRITE
-module _ (g : ℕ → ℕ) (m w : ℕ) (l : List ℕ) (few : length l ≤ depth) where
+module _ (m w : ℕ) (l : List ℕ) (few : length l ≤ depth) where
   abbrev wrote : List ℕ
-  wrote = cond (ltb w m) (take depth (insert (g w) l)) l
+  wrote = cond (ltb w m) (take depth (insert w l)) l
 
-  pub written-alike : (c d : ℕ → Bool) → ((j : ℕ) → j < m → isNew (g j) l ≡ true → c j ≡ d j) → taken c g m (cond (ltb w m) (take depth (insert (g w) l)) l) ≡ taken d g m (cond (ltb w m) (take depth (insert (g w) l)) l)
+  pub written-alike : (c d : ℕ → Bool) → ((j : ℕ) → j < m → isNew j l ≡ true → c j ≡ d j) → taken c m (cond (ltb w m) (take depth (insert w l)) l) ≡ taken d m (cond (ltb w m) (take depth (insert w l)) l)
   written-alike c d e =
-      taken-alike c d g m wrote (put-few (ltb w m) (g w) l few)
-      (λ j h n. e j h (new-less (g j) l wrote (put-few (ltb w m) (g w) l few) (put-keeps (ltb w m) (g j) (g w) l) n))
+      taken-alike c d m wrote (put-few (ltb w m) w l few)
+      (λ j h n. e j h (new-less j l wrote (put-few (ltb w m) w l few) (put-keeps (ltb w m) j w l) n))
 
   -- what is new to the store afterwards was new before
-  pub new-before : (c : ℕ → Bool) (p : ℕ) → isNew p (taken c g m (cond (ltb w m) (take depth (insert (g w) l)) l)) ≡ true → isNew p l ≡ true
+  pub new-before : (c : ℕ → Bool) (p : ℕ) → isNew p (taken c m (cond (ltb w m) (take depth (insert w l)) l)) ≡ true → isNew p l ≡ true
   new-before c p =
-      new-less p l (taken c g m wrote) (taken-few c g m wrote (put-few (ltb w m) (g w) l few))
-      (λ v. taken-keeps c g m p wrote (put-keeps (ltb w m) p (g w) l v))
+      new-less p l (taken c m wrote) (taken-few c m wrote (put-few (ltb w m) w l few))
+      (λ v. taken-keeps c m p wrote (put-keeps (ltb w m) p w l v))
 
 -- what was settled is taken in to no effect
-pub taken-none : (c : ℕ → Bool) (g : ℕ → ℕ) (m : ℕ) (l : List ℕ) → ((j : ℕ) → j < m → c j ≡ true → take depth (insert (g j) l) ≡ l) → taken c g m l ≡ l
+pub taken-none : (c : ℕ → Bool) (m : ℕ) (l : List ℕ) → ((j : ℕ) → j < m → c j ≡ true → take depth (insert j l) ≡ l) → taken c m l ≡ l
 unfolding taken
-taken-none c g zero l h = refl
-taken-none c g (suc m) l h = rw (taken-none c g m l (λ j a. h j (omega arith))) (go (c m) refl)
+taken-none c zero l h = refl
+taken-none c (suc m) l h = rw (taken-none c m l (λ j a. h j (omega arith))) (go (c m) refl)
   where
-    go : (b : Bool) → c m ≡ b → cond b (take depth (insert (g m) l)) l ≡ l
+    go : (b : Bool) → c m ≡ b → cond b (take depth (insert m l)) l ≡ l
     go true e = h m (omega arith) e
     go false e = refl
 
@@ -190,7 +190,7 @@ unfolding isNew
 changes p k n d = let z : _≡_ {A = ℕ} 0 1 = ap (λ (x : Bool). cond x 1 0) (rw (d, same-as-itself k) at n) in omega arith
 
 -- of a settled server that has noted the votes of a row, the pairs outside the row's span are taken in to no effect
-module _ (g : ℕ → ℕ) (m e r w : ℕ) (work : List ℕ) (row : ℕ) (s q : Plain) (Z : Voted (sender work row) s q) (K : Settled g m e r s) (alive : isFaulty (s .status) ≡ false)
+module _ (m e r w : ℕ) (work : List ℕ) (row : ℕ) (s q : Plain) (Z : Voted (sender work row) s q) (K : Settled m e r s) (alive : isFaulty (s .status) ≡ false)
     (few : m ≤ places) (l : row < rows) (S : Spanned work places) where
   silent-outside : (j : ℕ) → j < m → within (lowOf work row) (highOf work row) j ≡ false → q .fresh j ≡ s .fresh j
   silent-outside j h out = fun-ext (λ i. Z .fresh alive j i (omega arith) ∙ rw (none i (sender work row j i) refl) (or-false (s .fresh j i)))
@@ -201,23 +201,23 @@ module _ (g : ℕ → ℕ) (m e r w : ℕ) (work : List ℕ) (row : ℕ) (s q : 
           let z = S .within row j i l (omega arith) d in
           rw (le-leb (lowOf work row) j (z .0), lt-ltb j (highOf work row) (z .1)) at out
 
-  pub span-enough : taken (λ j. within (lowOf work row) (highOf work row) j && voting e r (q .fresh) (q .old) j) g m (withWrite g m w q .kept)
-      ≡ taken (voting e r (q .fresh) (q .old)) g m (withWrite g m w q .kept)
-  span-enough = rw (write-kept g m w q) (written-alike g m w (q .kept) (rw (Z .kept) (K .few)) _ _ (λ j h n. go j h n (within (lowOf work row) (highOf work row) j) refl))
+  pub span-enough : taken (λ j. within (lowOf work row) (highOf work row) j && voting e r (q .fresh) (q .old) j) m (withWrite m w q .kept)
+      ≡ taken (voting e r (q .fresh) (q .old)) m (withWrite m w q .kept)
+  span-enough = rw (write-kept m w q) (written-alike m w (q .kept) (rw (Z .kept) (K .few)) _ _ (λ j h n. go j h n (within (lowOf work row) (highOf work row) j) refl))
     where
-      go : (j : ℕ) → j < m → isNew (g j) (q .kept) ≡ true → (b : Bool) → within (lowOf work row) (highOf work row) j ≡ b → b && voting e r (q .fresh) (q .old) j ≡ voting e r (q .fresh) (q .old) j
+      go : (j : ℕ) → j < m → isNew j (q .kept) ≡ true → (b : Bool) → within (lowOf work row) (highOf work row) j ≡ b → b && voting e r (q .fresh) (q .old) j ≡ voting e r (q .fresh) (q .old) j
       go j h n true d = refl
       go j h n false d = unvoted (voting e r (q .fresh) (q .old) j) refl
         where
           unvoted : (v : Bool) → voting e r (q .fresh) (q .old) j ≡ v → false ≡ v
           unvoted false v = refl
-          unvoted true v = absurd (changes (g j) (s .kept) (rw (← Z .kept) n) (K .same j h (rw (← silent-outside j h d, ← Z .old) v)))
+          unvoted true v = absurd (changes j (s .kept) (rw (← Z .kept) n) (K .same j h (rw (← silent-outside j h d, ← Z .old) v)))
 
 -- ---- the stages
 
-module _ (g : ℕ → ℕ) (m e r : ℕ) (he : 1 ≤ e) (hr : 1 ≤ r) where
+module _ (m e r : ℕ) (he : 1 ≤ e) (hr : 1 ≤ r) where
   abbrev Fine : Plain → Type 0
-  Fine s = Settled g m e r s
+  Fine s = Settled m e r s
 
   -- no votes, no quorum
   none-voting : (j : ℕ) → voting e r noVotes noVotes j ≡ false
@@ -226,27 +226,27 @@ module _ (g : ℕ → ℕ) (m e r : ℕ) (he : 1 ≤ e) (hr : 1 ≤ r) where
   unvoted-settled : (s : Plain) → length (s .kept) ≤ depth → s .fresh ≡ noVotes → s .old ≡ noVotes → Fine s
   unvoted-settled s h f o = record { few = h; same = λ j l v. absurd (false≢true (sym (none-voting j) ∙ rw (f, o) at v)) }
 
-  pub first-settled : (v : ℕ) → Fine (firstOf v)
-  first-settled v = unvoted-settled (firstOf v) (omega arith) refl refl
+  pub first-settled : Fine firstServer
+  first-settled = unvoted-settled firstServer (omega arith) refl refl
 
-  delivered-settled : (w : ℕ) (votes : ℕ → ℕ → Bool) (asks live : ℕ → Bool) (s : Plain) → length (s .kept) ≤ depth → Fine (delivered g m e r w votes asks live s .server)
+  delivered-settled : (w : ℕ) (votes : ℕ → ℕ → Bool) (asks live : ℕ → Bool) (s : Plain) → length (s .kept) ≤ depth → Fine (delivered m e r w votes asks live s .server)
   unfolding delivered deliveredOf
   delivered-settled w votes asks live s h = record {
     few = small;
-    same = λ j l v. stands-same depth (g j) _ small (taken-stands (voting e r votes (s .old)) g m (withWrite g m w s .kept) j l v);
+    same = λ j l v. stands-same depth j _ small (taken-stands (voting e r votes (s .old)) m (withWrite m w s .kept) j l v);
   }
     where
-      wrote : length (withWrite g m w s .kept) ≤ depth
-      wrote = rw (write-kept g m w s) (put-few (ltb w m) (g w) (s .kept) h)
+      wrote : length (withWrite m w s .kept) ≤ depth
+      wrote = rw (write-kept m w s) (put-few (ltb w m) w (s .kept) h)
 
-      small : length (taken (voting e r votes (s .old)) g m (withWrite g m w s .kept)) ≤ depth
-      small = taken-few (voting e r votes (s .old)) g m (withWrite g m w s .kept) wrote
+      small : length (taken (voting e r votes (s .old)) m (withWrite m w s .kept)) ≤ depth
+      small = taken-few (voting e r votes (s .old)) m (withWrite m w s .kept) wrote
 
-  one-settled : (w : ℕ) (votes : ℕ → ℕ → Bool) (asks live : ℕ → Bool) (s : Plain) → Fine s → Fine (stageOne g m e r w votes asks live s .server)
+  one-settled : (w : ℕ) (votes : ℕ → ℕ → Bool) (asks live : ℕ → Bool) (s : Plain) → Fine s → Fine (stageOne m e r w votes asks live s .server)
   unfolding stageOne
   one-settled w votes asks live s S = go (isFaulty (s .status))
     where
-      go : (b : Bool) → Fine (cond b (record { server = s; said = silent }) (delivered g m e r w votes asks live s) .server)
+      go : (b : Bool) → Fine (cond b (record { server = s; said = silent }) (delivered m e r w votes asks live s) .server)
       go true = S
       go false = delivered-settled w votes asks live s (S .few)
 
@@ -282,26 +282,26 @@ module _ (g : ℕ → ℕ) (m e r : ℕ) (he : 1 ≤ e) (hr : 1 ≤ r) where
       go true = unvoted-settled (resetAt t) (omega arith) refl refl
       go false = turned-settled two s S
 
-pub stages-settled : (g : ℕ → ℕ) (m : ℕ) (rules : Rules) → 1 ≤ rules .echo → 1 ≤ rules .reply → (w : ℕ) (votes : ℕ → ℕ → Bool) (asks live : ℕ → Bool) (moving h : Bool) (t : ℕ) (s : Plain)
-    → Settled g m (rules .echo) (rules .reply) s → Settled g m (rules .echo) (rules .reply) (stagesOf g m rules w votes asks live moving h t s .server)
+pub stages-settled : (m : ℕ) (rules : Rules) → 1 ≤ rules .echo → 1 ≤ rules .reply → (w : ℕ) (votes : ℕ → ℕ → Bool) (asks live : ℕ → Bool) (moving h : Bool) (t : ℕ) (s : Plain)
+    → Settled m (rules .echo) (rules .reply) s → Settled m (rules .echo) (rules .reply) (stagesOf m rules w votes asks live moving h t s .server)
 unfolding stagesOf stageFour
-stages-settled g m rules he hr w votes asks live moving h t s S = go moving
+stages-settled m rules he hr w votes asks live moving h t s S = go moving
   where
     second : Both
-    second = stageTwo (rules .delta) t (stageOne g m (rules .echo) (rules .reply) w votes asks live s)
+    second = stageTwo (rules .delta) t (stageOne m (rules .echo) (rules .reply) w votes asks live s)
 
-    after : Settled g m (rules .echo) (rules .reply) (second .server)
-    after = two-settled g m (rules .echo) (rules .reply) he hr (rules .delta) t _ (one-settled g m (rules .echo) (rules .reply) he hr w votes asks live s S)
+    after : Settled m (rules .echo) (rules .reply) (second .server)
+    after = two-settled m (rules .echo) (rules .reply) he hr (rules .delta) t _ (one-settled m (rules .echo) (rules .reply) he hr w votes asks live s S)
 
-    go : (b : Bool) → Settled g m (rules .echo) (rules .reply) (cond b (stageFour (rules .two) h t second) second .server)
-    go true = moved-settled g m (rules .echo) (rules .reply) he hr (rules .two) h t (second .server) after
+    go : (b : Bool) → Settled m (rules .echo) (rules .reply) (cond b (stageFour (rules .two) h t second) second .server)
+    go true = moved-settled m (rules .echo) (rules .reply) he hr (rules .two) h t (second .server) after
     go false = after
 
 -- a server that has done a tick
 pub settled-next : (F : Feed) (c r : Cluster) (work : List ℕ) (n b : ℕ) → 1 ≤ F .rules .echo → 1 ≤ F .rules .reply → Ticked F c r work n → b < n
-    → Settled (pairOf (F .known .values)) (F .known .m) (F .rules .echo) (F .rules .reply) (server (getD (c .servers) b absent))
-    → Settled (pairOf (F .known .values)) (F .known .m) (F .rules .echo) (F .rules .reply) (server (getD (r .servers) b absent))
+    → Settled (F .known .m) (F .rules .echo) (F .rules .reply) (server (getD (c .servers) b absent))
+    → Settled (F .known .m) (F .rules .echo) (F .rules .reply) (server (getD (r .servers) b absent))
 settled-next F c r work n b he hr T l S =
     let D = T .done b l in
-    rw (T .next b l) (subst (λ (o : Both). Settled (pairOf (F .known .values)) (F .known .m) (F .rules .echo) (F .rules .reply) (o .server)) (sym (D .stages))
-    (stages-settled (pairOf (F .known .values)) (F .known .m) (F .rules) he hr _ (D .votes) _ _ _ _ (F .t) _ S))
+    rw (T .next b l) (subst (λ (o : Both). Settled (F .known .m) (F .rules .echo) (F .rules .reply) (o .server)) (sym (D .stages))
+    (stages-settled (F .known .m) (F .rules) he hr _ (D .votes) _ _ _ _ (F .t) _ S))

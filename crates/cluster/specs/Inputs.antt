@@ -6,7 +6,7 @@ use Prim.Native.Nat.{ℕ, suc, _+_, _-_, _/_, _^_, _≤_, _<_}
 use lib.Dec.{eqb, ltb}
 use lib.ListN.{getD, length}
 use Rattle.register.specs.Lists.{any, anyUpTo, In, member}
-use Rattle.register.specs.Plan.{Plan, Write, Read, stamped, numberOf, kk, echoQuorum, replyQuorum, isMove, readEnd}
+use Rattle.register.specs.Plan.{Plan, Write, Read, stamped, kk, echoQuorum, replyQuorum, isMove, readEnd}
 use Rattle.register.specs.Cluster.{writesIn, readsIn}
 use Rattle.register.specs.Reading.{sameRead}
 use Rattle.calendar.specs.Bits.{bit}
@@ -17,7 +17,6 @@ use Rattle.serving.specs.declared.Rules.{Rules}
 use Rattle.serving.specs.declared.Links.{Links}
 use Rattle.cluster.specs.declared.Arrivals.{Arrivals}
 use Rattle.cluster.specs.declared.Movement.{Movement}
-use Rattle.serving.specs.Stored.{pairOf, recoded}
 use Rattle.serving.specs.Links.{delayAt, Linked}
 
 -- the plan's pair j: value j of the known ones, under number j
@@ -28,13 +27,13 @@ pairAt known j = stamped 16 (getD (known .values) j 0) j
 abbrev pub Narrow : Known → Type 0
 Narrow known = (j : ℕ) → getD (known .values) j 0 < 2 ^ 16
 
--- the plan's pairs are g 0 .. g (m - 1), each under its own number
+-- the plan's pairs are g 0 .. g (m - 1), of a table that strictly rises
 pub record Knows (P : Plan) (g : ℕ → ℕ) (m : ℕ) : Type 0 where
   pub few : m ≤ places
   pub servers : P .n ≤ 16
   pub slow : P .delta ≤ 15
   pub depth : P .depth ≡ depth
-  pub number : (j : ℕ) → j < m → numberOf 16 (g j) ≡ j
+  pub rising : (i j : ℕ) → i < j → g i < g j
   pub first : (0 < m) × (P .initial ≡ g 0)
   pub write : (w : Write) → In w (P .writes) → (j : ℕ) × (j < m) × (w .pair ≡ g j)
   pub readers : (r : Read) → In r (P .reads) → (1 ≤ r .reader) × (r .reader ≤ 4)
@@ -80,8 +79,6 @@ pub record Fits (P : Plan) (t : ℕ) (plan : List ℕ) (rules : Rules) (known : 
   pub two : rules .two ≡ eqb (kk P) 2
   pub echo : rules .echo ≡ echoQuorum P
   pub reply : rules .reply ≡ replyQuorum P
-  -- the engine's pairs are the plan's
-  pub pairs : pairOf (known .values) ≡ (λ j. recoded 16 (pairAt known j))
   -- a server sends nothing to itself: its packed delay is 0 there
   pub delays : (i b : ℕ) → i < P .n → b < P .n → (i ≡ b → ⊥) → delayAt plan links t i b ≡ P .delay t i b
   pub replies : (i : ℕ) (r : Read) → i < P .n → In r (P .reads) → (P .n + r .reader < links .parties) × (delayAt plan links t i (P .n + r .reader) ≡ P .delay t i (P .n + r .reader))

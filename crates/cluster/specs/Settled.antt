@@ -15,17 +15,17 @@ use Rattle.serving.specs.declared.Server.{Server}
 use Rattle.cluster.specs.declared.Cluster.{Cluster}
 use Rattle.serving.specs.declared.Rules.{Rules}
 use Rattle.cluster.specs.declared.Known.{Known}
-use Rattle.serving.specs.Stored.{Plain, server, pairOf, absent}
+use Rattle.serving.specs.Stored.{Plain, server, absent}
 use Rattle.serving.specs.Stages.{voting, anyNew}
 use Rattle.cluster.specs.Tick.{Feed, Turned, Served, Ticked}
 
-pub record Settled (g : ℕ → ℕ) (m e r : ℕ) (s : Plain) : Type 0 where
+pub record Settled (m e r : ℕ) (s : Plain) : Type 0 where
   pub few : length (s .kept) ≤ depth
-  pub same : (j : ℕ) → j < m → voting e r (s .fresh) (s .old) j ≡ true → take depth (insert (g j) (s .kept)) ≡ s .kept
+  pub same : (j : ℕ) → j < m → voting e r (s .fresh) (s .old) j ≡ true → take depth (insert j (s .kept)) ≡ s .kept
 
 -- all servers of a cluster have
 abbrev pub Calm : Rules → Known → List Server → Type 0
-Calm rules known c = (b : ℕ) → b < rules .n → Settled (pairOf (known .values)) (known .m) (rules .echo) (rules .reply) (server (getD c b absent))
+Calm rules known c = (b : ℕ) → b < rules .n → Settled (known .m) (rules .echo) (rules .reply) (server (getD c b absent))
 
 -- one of the stages of server b has something to do in tick t: at a movement, for a READ or a WRITE, for a read that drops out of its list, at
 -- the end of its cure
@@ -33,15 +33,15 @@ unfoldable pub called : ℕ → ℕ → ℕ → Bool → ℕ → ℕ → Status 
 called b due live moving t delta status pending = moving || (bit b due || (not (eqb (bitAnd pending live) pending) || curedAt delta t status))
 
 -- or a vote reaches it for a pair that is new to its store; a faulty server loses its votes
-unfoldable pub reached : Bool → List ℕ → ℕ → (ℕ → ℕ) → Status → List ℕ → Bool
-reached busy work row g status kept = busy || (not (isFaulty status) && anyNew g kept (lowOf work row) (highOf work row))
+unfoldable pub reached : Bool → List ℕ → ℕ → Status → List ℕ → Bool
+reached busy work row status kept = busy || (not (isFaulty status) && anyNew kept (lowOf work row) (highOf work row))
 
 module _ (F : Feed) where
   -- server b has done the tick if it was settled; the workspace is in order in any case
   pub record CalmlyTurned (ends : List ℕ) (b : ℕ) (s r : Server) (work : List ℕ) : Type 0 where
     pub rest : SamePast (F .work) work
     pub spans : Spanned work places
-    pub turned : Settled (pairOf (F .known .values)) (F .known .m) (F .rules .echo) (F .rules .reply) (server s) → Turned F ends b s r work
+    pub turned : Settled (F .known .m) (F .rules .echo) (F .rules .reply) (server s) → Turned F ends b s r work
 
   -- the servers have done the tick if they were settled; the workspace is in order in any case
   pub record CalmlyServed (ends : List ℕ) (c r : List Server) (work : List ℕ) : Type 0 where

@@ -7,7 +7,6 @@ use Prim.Native.Nat.{ℕ, _+_, _-_, _/_, _%_, _<_, _≤_}
 use lib.Dec.{eqb, leb, ltb}
 use lib.ListN.{length, getD}
 use Rattle.register.specs.Lists.{anyUpTo}
-use Rattle.register.specs.Plan.{stamped}
 use Rattle.register.specs.Server.{correct, isFaulty}
 use Rattle.calendar.specs.Bits.{bit}
 use Rattle.calendar.specs.Layout.{receivers, rows, places, rowOf, highOf, sender}
@@ -22,7 +21,7 @@ use Rattle.cluster.specs.declared.Arrivals.{Arrivals}
 use Rattle.cluster.specs.declared.Movement.{Movement}
 use Rattle.cluster.specs.declared.Feed.{Feed as Fed}
 use Rattle.serving.specs.Bits.{sets}
-use Rattle.serving.specs.Stored.{valueBits, Plain, Both, Step, Small, server, both, pairOf, absent}
+use Rattle.serving.specs.Stored.{Plain, Both, Step, server, both, absent}
 use Rattle.serving.specs.Stages.{nobody, noVotes, isNew, stagesOf}
 use Rattle.serving.specs.Sends.{sends}
 use Rattle.cluster.specs.Inputs.{wroteAt, asksAt}
@@ -67,10 +66,10 @@ pub record Emptied (work after : List ℕ) (row : ℕ) : Type 0 where
   pub cells : (x j i : ℕ) → x < rows → j < places → sender after x j i ≡ (not (eqb x row) && sender work x j i)
 
 -- the stages of server b in tick t, with the votes that arrive for pairs that are new to it; what it notes of other votes changes nothing
-pub record Stepped (work : List ℕ) (b : ℕ) (arrivals : Arrivals) (movement : Movement) (t : ℕ) (rules : Rules) (values : List ℕ) (m : ℕ) (s : Plain) (r : Both) : Type 0 where
+pub record Stepped (work : List ℕ) (b : ℕ) (arrivals : Arrivals) (movement : Movement) (t : ℕ) (rules : Rules) (m : ℕ) (s : Plain) (r : Both) : Type 0 where
   pub votes : ℕ → ℕ → Bool
-  pub came : isFaulty (s .status) ≡ false → (j i : ℕ) → j < places → isNew (pairOf values j) (s .kept) ≡ true → votes j i ≡ (s .fresh j i || sender work (rowOf t b) j i)
-  pub stages : r ≡ stagesOf (pairOf values) m rules (wroteAt (arrivals .requests) (arrivals .number) b) votes (asksAt (arrivals .requests) b) (λ x. bit x (arrivals .live))
+  pub came : isFaulty (s .status) ≡ false → (j i : ℕ) → j < places → isNew j (s .kept) ≡ true → votes j i ≡ (s .fresh j i || sender work (rowOf t b) j i)
+  pub stages : r ≡ stagesOf m rules (wroteAt (arrivals .requests) (arrivals .number) b) votes (asksAt (arrivals .requests) b) (λ x. bit x (arrivals .live))
       (movement .moving) (bit (15 - b) (movement .faulty)) t s
 
 -- ---- all servers
@@ -108,9 +107,8 @@ module _ (F : Feed) where
   pub record Turned (ends : List ℕ) (b : ℕ) (s r : Server) (work : List ℕ) : Type 0 where
     -- what it came to
     pub out : Step
-    pub done : Stepped (F .work) b (F .arrivals) (F .movement) (F .t) (F .rules) (F .known .values) (F .known .m) (server s) (both out)
+    pub done : Stepped (F .work) b (F .arrivals) (F .movement) (F .t) (F .rules) (F .known .m) (server s) (both out)
     pub next : r ≡ out .server
-    pub small : Small (out .row .kept)
     pub rest : SamePast (F .work) work
     pub spans : Spanned work places
     pub cells : (x j i : ℕ) → x < rows → j < places
@@ -121,9 +119,8 @@ module _ (F : Feed) where
     -- what each server came to
     pub outs : ℕ → Step
     pub size : length r ≡ length c
-    pub done : (b : ℕ) → b < n → Stepped (F .work) b (F .arrivals) (F .movement) (F .t) (F .rules) (F .known .values) (F .known .m) (server (getD c b absent)) (both (outs b))
+    pub done : (b : ℕ) → b < n → Stepped (F .work) b (F .arrivals) (F .movement) (F .t) (F .rules) (F .known .m) (server (getD c b absent)) (both (outs b))
     pub next : (b : ℕ) → b < n → getD r b absent ≡ outs b .server
-    pub small : (b : ℕ) → b < n → Small (outs b .row .kept)
     pub rest : SamePast (F .work) work
     pub spans : Spanned work places
     pub cells : (x j i : ℕ) → x < rows → j < places
@@ -135,9 +132,8 @@ module _ (F : Feed) where
     -- what each server came to
     pub outs : ℕ → Step
     pub servers : length (r .servers) ≡ 16
-    pub done : (b : ℕ) → b < n → Stepped (F .work) b (F .arrivals) (F .movement) (F .t) (F .rules) (F .known .values) (F .known .m) (server (getD (c .servers) b absent)) (both (outs b))
+    pub done : (b : ℕ) → b < n → Stepped (F .work) b (F .arrivals) (F .movement) (F .t) (F .rules) (F .known .m) (server (getD (c .servers) b absent)) (both (outs b))
     pub next : (b : ℕ) → b < n → getD (r .servers) b absent ≡ outs b .server
-    pub small : (b : ℕ) → b < n → Small (outs b .row .kept)
     pub heard : Hearing (F .work) (F .t) (c .readers) (r .readers) 4
     -- what arrived is taken, and what each server sent is under way
     pub rest : SamePast (F .work) work
@@ -147,11 +143,11 @@ module _ (F : Feed) where
 
 -- ---- the start
 
-abbrev pub firstOf : ℕ → Plain
-firstOf v = record { status = correct; kept = stamped valueBits v 0 ∷ []; pending = nobody; fresh = noVotes; old = noVotes }
+abbrev pub firstServer : Plain
+firstServer = record { status = correct; kept = 0 ∷ []; pending = nobody; fresh = noVotes; old = noVotes }
 
-pub record Started (v : ℕ) (c : Cluster) : Type 0 where
+pub record Started (c : Cluster) : Type 0 where
   pub size : length (c .servers) ≡ 16
-  pub each : (b : ℕ) → b < 16 → server (getD (c .servers) b absent) ≡ firstOf v
+  pub each : (b : ℕ) → b < 16 → server (getD (c .servers) b absent) ≡ firstServer
   pub readers : length (c .readers) ≡ 4
   pub idle : (x : ℕ) → x < 4 → getD (c .readers) x noReader .end ≡ 0

@@ -5,7 +5,7 @@ ghost use lib.ListN.{length};
 ghost use Rattle.calendar.specs.Bits.{bit};
 ghost use Rattle.calendar.specs.Layout.{rows, places, calendarSize, rowOf};
 ghost use Rattle.calendar.specs.View.{Spanned};
-ghost use Rattle.serving.specs.Stored.{statusOf, keys, pairOf};
+ghost use Rattle.serving.specs.Stored.{statusOf, keys};
 ghost use Rattle.cluster.specs.Inputs.{Tickable, isAsked, wroteAt, asksAt};
 ghost use Rattle.cluster.specs.Settled.{called, reached, CalmlyTurned, CalmlyServed};
 ghost use Rattle.cluster.specs.Tick.{anyHeard, Heard, Emptied, Started, endsOf, feedOf};
@@ -138,16 +138,9 @@ fn is_called(
 }
 
 // Is server b called, or does a vote reach it for a pair that is new to its store: other votes never come to anything, and a faulty server loses all.
-pub fn is_reached(
-    s: Server,
-    work: &[u8],
-    b: usize,
-    feed: Feed,
-    due: u16,
-    values: &[u32; PLACES],
-) -> bool
+pub fn is_reached(s: Server, work: &[u8], b: usize, feed: Feed, due: u16) -> bool
     requires { ⌜ (b < 16) × (calendarSize ≤ length (now work)) × Spanned (now work) places ⌝ }
-    ensures { λ r. ⌜ r ≡ reached (called b due (feed .arrivals .live) (feed .movement .moving) (feed .t) (feed .rules .delta) (statusOf (s .status)) (s .pending)) (now (work .entry)) (rowOf (feed .t) b) (pairOf (now (values .entry))) (statusOf (s .status)) (keys (s .kept)) ⌝ }
+    ensures { λ r. ⌜ r ≡ reached (called b due (feed .arrivals .live) (feed .movement .moving) (feed .t) (feed .rules .delta) (statusOf (s .status)) (s .pending)) (now (work .entry)) (rowOf (feed .t) b) (statusOf (s .status)) (keys (s .kept)) ⌝ }
 {
     let t = feed.t;
     let status = s.status;
@@ -169,12 +162,7 @@ pub fn is_reached(
     }
     let row = calendar::row(t as usize, b);
     let kept = s.kept;
-    store::is_any_new(
-        kept,
-        values,
-        calendar::low(work, row),
-        calendar::high(work, row),
-    )
+    store::is_any_new(kept, calendar::low(work, row), calendar::high(work, row))
 }
 
 // What arrives at server b is taken, to no effect.
@@ -195,10 +183,9 @@ pub fn turn(
     plan: &[u8],
     b: usize,
     feed: Feed,
-    values: &[u32; PLACES],
     ends: [u8; READERS],
 ) -> Server
-    requires { ⌜ (b < feed .rules .n) × (now values ≡ feed .known .values) × Tickable (now plan) (now work) (feed .t) (feed .rules) (feed .known) (feed .links) ⌝ }
+    requires { ⌜ (b < feed .rules .n) × Tickable (now plan) (now work) (feed .t) (feed .rules) (feed .known) (feed .links) ⌝ }
     ensures { λ r. ⌜ CalmlyTurned (feedOf (now (plan .entry)) (now (work .entry)) feed) ends b s r (now (work .exit)) ⌝ }
 {
     let t = feed.t;
@@ -218,7 +205,7 @@ pub fn turn(
         let asks = asks_at(requests, b);
         let live = arrivals.live;
         let m = feed.known.m;
-        let delivery = stages::deliver(x, wrote, asks, live, values, low, high, m, rules);
+        let delivery = stages::deliver(x, wrote, asks, live, low, high, m, rules);
         row = delivery.row;
         let kept = row.kept;
         x.kept = kept;
@@ -253,13 +240,12 @@ pub fn ends_of(readers: [Reader; READERS]) -> [u8; READERS]
 }
 
 // 'At the start it is sound, with only pair 0.'
-pub fn start(value: u32) -> Cluster
-    ensures { λ r. ⌜ Started value r ⌝ }
+pub fn start() -> Cluster
+    ensures { λ r. ⌜ Started r ⌝ }
 {
     let first = Stamped {
         kept: true,
         number: 0,
-        value,
     };
     let kept = store::insert(store::none(), first);
     let zero = [0u16; PLACES];

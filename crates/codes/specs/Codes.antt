@@ -3,7 +3,7 @@ use mathlib.Core.Bool.{Bool, true, false}
 use mathlib.Core.List.{List, [], _∷_, _++_}
 use Prim.Native.Nat.{ℕ, _+_, _*_, _/_, _%_, _^_, _<_}
 use lib.ListN.{length, take, drop, getD}
-use Rattle.calendar.specs.declared.Stamped.{Stamped as Place}
+use Rattle.simulator.specs.declared.look.Place.{Place}
 use Rattle.plan.specs.Check.{Outcome, refused, result}
 use Rattle.simulator.specs.Look.{Condition, is-faulty, is-cured, is-correct, Stamped, Shown, emptyPlace, Looked, lookOf}
 

@@ -1,2 +1,1 @@
 pub mod LookCases
-pub mod Places

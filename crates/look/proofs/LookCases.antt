@@ -4,7 +4,7 @@ use mathlib.Core.Path.{_≡_, refl}
 use mathlib.Core.Bool.{Bool, true, false, cond}
 use mathlib.Core.List.{List, [], _∷_, _++_, map}
 use Prim.Native.Nat.{ℕ, zero, suc, _-_, _^_, _≤_, _<_}
-use lib.ListN.{length, replicate}
+use lib.ListN.{length, getD, replicate}
 use borrow.Author.Tests.{lt-ltb, le-ltb}
 use Rattle.register.specs.Plan.{stamped, valueOf, numberOf}
 use Rattle.register.specs.Server.{Server, Status, faulty, cured, correct}
@@ -13,13 +13,15 @@ use Rattle.plan.specs.Header.{headerOf}
 use Rattle.plan.specs.Packed.{storeDepth, planOf}
 use Rattle.plan.specs.Check.{refused, result, checkOf}
 use Rattle.register.proofs.Stamped.{value-stamped, number-stamped}
-use Rattle.calendar.specs.declared.Stamped.{Stamped as Place}
-use Rattle.serving.specs.Stored.{valueBits, keys, recoded}
-use Rattle.serving.proofs.Recoding.{narrow, recoded-value, recoded-number}
+use Rattle.calendar.specs.declared.Stamped.{Stamped as Kept}
+use Rattle.cluster.specs.declared.Known.{Known}
+use Rattle.cluster.specs.Inputs.{pairAt, Narrow}
+use Rattle.simulator.specs.declared.look.Place.{Place}
+use Rattle.serving.specs.Stored.{keys}
 use Rattle.answers.specs.Workspace.{workspaceSize, zeroed}
 use Rattle.simulator.specs.Look.{Stamped, conditionOf, shownBy, placeWith, emptyPlace, placesOf, Looked, lookShown, lookRefused, lookAfter, lookOf}
 use Rattle.simulator.specs.declared.look.Seen.{Seen}
-use Rattle.simulator.specs.Numbered.{shownIn, lookedAs, seenOf}
+use Rattle.simulator.specs.Numbered.{valuedPlace, shownIn, lookedAs, seenOf}
 
 module _ (s workspace : List ℕ) (b t : ℕ) where
   abbrev refusedBy : ℕ → Looked
@@ -49,35 +51,26 @@ module _ (s workspace : List ℕ) (b t : ℕ) where
         unfolding lookOf lookAfter
         look-done h x e = rw (accepted, le-ltb (length workspace) workspaceSize room, lt-ltb b (headerOf 16 s .n) server, lt-ltb t (headerOf 16 s .ticks) h) e
 
--- places whose values fit
-unfoldable pub AllFit : List Place → Type 0
-AllFit [] = Unit {0}
-AllFit (p ∷ ps) = (p .value < 2 ^ valueBits) × AllFit ps
+-- the pairs of a plan with the known pairs, by their numbers
+module _ (known : Known) (narrow : Narrow known) where
+  shown-keys : (ps : List Kept) → map (λ p. record { value = valueOf 16 p; number = numberOf 16 p }) (map (pairAt known) (keys ps)) ≡ shownIn (map (valuedPlace (known .values)) ps)
+  unfolding keys shownIn
+  shown-keys [] = refl
+  shown-keys (p ∷ ps) = go (p .kept) (shown-keys ps)
+    where
+      shows : ℕ → Stamped
+      shows k = record { value = valueOf 16 k; number = numberOf 16 k }
 
--- a pair of the engine, or of a plan whose values have w bits
-abbrev shows : ℕ → ℕ → Stamped
-shows w p = record { value = valueOf w p; number = numberOf w p }
+      pair : Stamped
+      pair = record { value = getD (known .values) (p .number) 0; number = p .number }
 
-shown-keys : (ps : List Place) → AllFit ps → map (shows valueBits) (keys ps) ≡ shownIn ps
-unfolding AllFit keys shownIn
-shown-keys [] f = refl
-shown-keys (p ∷ ps) f = go (p .kept) (shown-keys ps (f .1))
-  where
-    pair : Stamped
-    pair = record { value = p .value; number = p .number }
+      first : shows (pairAt known (p .number)) ≡ pair
+      first = rw (value-stamped 16 (getD (known .values) (p .number) 0) (p .number) (narrow (p .number)), number-stamped 16 (getD (known .values) (p .number) 0) (p .number) (narrow (p .number)))
 
-    first : shows valueBits (stamped valueBits (p .value) (p .number)) ≡ pair
-    first = rw (value-stamped valueBits (p .value) (p .number) (f .0), number-stamped valueBits (p .value) (p .number) (f .0))
-
-    go : (c : Bool) → map (shows valueBits) (keys ps) ≡ shownIn ps
-        → map (shows valueBits) (cond c (stamped valueBits (p .value) (p .number) ∷ keys ps) []) ≡ cond c (pair ∷ shownIn ps) []
-    go true e = rw (first, e)
-    go false e = refl
-
--- the plan's pairs are shown as the engine's are
-shown-recoded : (l : List ℕ) → map (shows valueBits) (map (recoded 16) l) ≡ map (shows 16) l
-shown-recoded [] = refl
-shown-recoded (p ∷ l) = rw (recoded-value 16 narrow p, recoded-number 16 narrow p, shown-recoded l)
+      go : (c : Bool) → map shows (map (pairAt known) (keys ps)) ≡ shownIn (map (valuedPlace (known .values)) ps)
+          → map shows (map (pairAt known) (cond c (p .number ∷ keys ps) [])) ≡ cond c (pair ∷ shownIn (map (valuedPlace (known .values)) ps)) []
+      go true e = rw (first, e)
+      go false e = refl
 
 shown-as : (x : Status) (pairs : List Stamped) → lookedAs pairs (seenOf x) ≡ result (record { condition = conditionOf x; pairs = pairs })
 unfolding conditionOf
@@ -95,8 +88,9 @@ shown-places pairs = go pairs (storeDepth - length pairs)
     go [] (suc m) = refl
     go (p ∷ pairs) m = rw (go pairs m)
 
-module _ (x : Server) (status : Status) (kept : List Place) (es : x .status ≡ status) (ek : map (recoded 16) (x .kept) ≡ keys kept) (f : AllFit kept) where
-  pub shown : (seen : Seen) (places : List Place) (w v : List ℕ) → seen ≡ seenOf status → places ≡ placesOf (shownIn kept) → w ≡ v
+module _ (x : Server) (status : Status) (kept : List Kept) (known : Known) (es : x .status ≡ status) (ek : x .kept ≡ map (pairAt known) (keys kept)) (narrow : Narrow known) where
+  pub shown : (seen : Seen) (valued places : List Place) (w v : List ℕ) → seen ≡ seenOf status → valued ≡ map (valuedPlace (known .values)) kept → places ≡ placesOf (shownIn valued) → w ≡ v
       → record { outcome = lookedAs (shownIn places) seen; places = places; workspace = w } ≡ lookShown (shownBy 16 x) v
   unfolding shownBy
-  shown seen places w v e p z = rw (p, e, z, shown-places (shownIn kept), shown-as status (shownIn kept), es, ← shown-recoded (x .kept), ek, shown-keys kept f)
+  shown seen valued places w v e d p z =
+      rw (p, e, z, d, shown-places (shownIn (map (valuedPlace (known .values)) kept)), shown-as status (shownIn (map (valuedPlace (known .values)) kept)), es, ek, shown-keys known narrow kept)

@@ -9,6 +9,7 @@ use simulator::look::Seen;
 use simulator::look::condition;
 use simulator::look::refusal;
 use simulator::look::shown_places;
+use simulator::look::valued;
 
 pub fn look(plan: &[u8], work: &mut [u8], server: usize, tick: usize) -> Looked
     ensures { λ r. ⌜ record { outcome = looked r; places = r .places; workspace = now (work .exit) } ≡ lookOf 16 (now (plan .entry)) (now (work .entry)) server tick ⌝ }
@@ -27,11 +28,14 @@ pub fn look(plan: &[u8], work: &mut [u8], server: usize, tick: usize) -> Looked
             if shape.ticks as usize <= tick {
                 return refusal(Seen::OutOfRange);
             }
-            let s = player::look(plan, work, server, tick as u8);
+            let view = player::look(plan, work, server, tick as u8);
+            let s = view.server;
             let status = s.status;
             let kept = s.kept;
+            let known = view.known;
+            let values = known.values;
             let seen = condition(status);
-            let places = shown_places(kept);
+            let places = shown_places(valued(kept, values));
             Looked {
                 seen: seen,
                 places: places,

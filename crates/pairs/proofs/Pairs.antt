@@ -10,7 +10,7 @@ use lib.Dec.{ltb}
 use lib.ListN.{length, drop, getD, set, length-append, length-drop}
 use lib.Seq.{sets, sets-eq, take-nil, take-all, length-take-le, take-append-le, take-at, drop-append-add, drop-drop}
 use borrow.Author.Tests.{ltb-true, ltb-false}
-use Rattle.calendar.specs.declared.Stamped.{Stamped as Place}
+use Rattle.simulator.specs.declared.look.Place.{Place}
 use Rattle.simulator.specs.Look.{Stamped}
 use Rattle.simulator.specs.Numbered.{shownIn}
 use Rattle.simulator.proofs.ShownPlaces.{pairOf, Passed, passed, passed-more}

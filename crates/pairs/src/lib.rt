@@ -10,10 +10,10 @@ ghost use Rattle.plan.specs.Packed.{storeDepth};
 ghost use Rattle.simulator.specs.Numbered.{looked, shownIn};
 ghost use Rattle.codes.specs.Codes.{shownCode, pairSize, TwoBytes, pairBytes, pairsOf, pairsOver, lookCoded};
 use calendar::DEPTH;
-use calendar::Stamped;
 use codes::REFUSED;
 use codes::of_seen;
 use simulator::look::Looked;
+use simulator::look::Place;
 
 // What each pair that Look shows adds to the condition.
 pub const PER_PAIR: usize = 4;
@@ -35,7 +35,7 @@ fn low(value: u32) -> u8
 }
 
 // Pair i at its own bytes, if there is room for all of them: the value's high and low byte, the number.
-fn put_pair(out: &mut [u8], i: usize, p: Stamped)
+fn put_pair(out: &mut [u8], i: usize, p: Place)
     requires { ⌜ (i < storeDepth) × (p .value < 2 ^ 16) ⌝ }
     ensures { λ _. ⌜ (length (now (out .exit)) ≡ length (now (out .entry))) × (now (out .exit) ≡ cond (ltb (length (now (out .entry))) (pairSize * i + pairSize))
         (now (out .entry)) (sets (now (out .entry)) (pairSize * i) (pairBytes (record { value = p .value; number = p .number } ∷ [])))) ⌝ }
@@ -50,7 +50,7 @@ fn put_pair(out: &mut [u8], i: usize, p: Stamped)
 }
 
 // As many of the pairs before the first empty place as fit `out`, at its start; how many they are, those left out too.
-fn put_pairs(out: &mut [u8], places: [Stamped; DEPTH]) -> usize
+fn put_pairs(out: &mut [u8], places: [Place; DEPTH]) -> usize
     requires { ⌜ TwoBytes places ⌝ }
     ensures { λ r. ⌜ (r ≤ storeDepth) × (r ≡ length (shownIn places)) × (now (out .exit) ≡ pairsOver (shownIn places) (now (out .entry))) ⌝ }
 {

@@ -3,6 +3,5 @@ pub mod Feeding
 pub mod Tables
 pub mod Requests
 pub mod Ticking
-pub mod Sizes
 pub mod Turns
 pub mod Whole

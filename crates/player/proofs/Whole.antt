@@ -8,7 +8,6 @@ use native.Mathlib.Numerals.{add-one}
 use native.Mathlib.Omega.{arith}
 use native.Mathlib.Decide.{decLe}
 use lib.ListN.{length, getD, take, drop}
-use Rattle.register.specs.Plan.{stamped}
 use Rattle.plan.specs.Header.{Header, headerOf}
 use Rattle.plan.specs.Packed.{planOf}
 use Rattle.plan.specs.Playable.{Playable}
@@ -18,8 +17,7 @@ use Rattle.requests.specs.Requests.{SameBehind}
 use Rattle.requests.proofs.Requesting.{behind-trans}
 use Rattle.states.proofs.RequestLaws.{requested-none}
 use Rattle.cluster.specs.Inputs.{pairAt}
-use Rattle.serving.specs.Stored.{valueBits, absent}
-use Rattle.serving.proofs.Recoding.{narrow, recoded-stamped}
+use Rattle.serving.specs.Stored.{absent}
 use Rattle.states.proofs.StateLaws.{first-state}
 use Rattle.script.specs.declared.Script.{Script}
 use Rattle.script.specs.Operations.{noRead}
@@ -47,11 +45,10 @@ ready-kept s a b r K R = record {
 module _ (s : List ℕ) (r : Script) where
   pub played-none : (before work : List ℕ) (p : Playing) → Decoded s r → Fresh before work r p → Played s work r p
   played-none before work p D E =
-      let first : getD (r .writes .known .values) 0 0 ≡ r .shape .initial = D .scripted .writes .first ∙ sym (ap (λ (h : Header). h .initial) (D .scripted .header)) in
       rw (E .first) (record {
         size = E .started .size;
-        state = first-state (planOf 16 s) (pairAt (r .writes .known)) (r .writes .known .m) (r .shape .initial)
-            (script-knows s (D .before) (D .after) (D .playable) r (D .scripted)) (recoded-stamped 16 narrow (getD (r .writes .known .values) 0 0) 0 (D .scripted .writes .small 0) ∙ ap (λ (v : ℕ). stamped valueBits v 0) first) (p .cluster) work (E .started) (E .empty);
+        state = first-state (planOf 16 s) (pairAt (r .writes .known)) (r .writes .known .m)
+            (script-knows s (D .before) (D .after) (D .playable) r (D .scripted)) (p .cluster) work (E .started) (E .empty);
         requested = requested-none (planOf 16 s) work (E .unasked);
         written = record { below = omega (arith, D .scripted .writes .count); before = λ h. absurd (omega arith); last = λ j a b. omega arith };
         begun = until-none (r .reads .begun) (r .reads .m) 0 refl;
@@ -111,11 +108,11 @@ module _ (s before after started : List ℕ) (r : Script) (playable : Playable 1
         (λ x l. K .behind x (omega arith) ∙ (fresh .kept .behind x (omega arith) ∙ scripted .forged .filled .other x (inr (omega (arith, range s r decoded .forgeries-hi)))))
 
     -- a server after the last of the ticks
-    pub seen : (b t : ℕ) (end : List ℕ) → b < headerOf 16 s .n → p .tick ≡ suc t → end ≡ zeroed work → Seen s b t (getD (p .cluster .servers) b absent) before end
+    pub seen : (b t : ℕ) (end : List ℕ) → b < headerOf 16 s .n → p .tick ≡ suc t → end ≡ zeroed work → Seen s b t (record { server = getD (p .cluster .servers) b absent; known = r .writes .known }) before end
     unfolding planOf
     seen b t end l e z =
         let R = rw e at (W .played .state .servers b l) in
-        record { status = R .status; kept = R .kept; workspace = all-zeroed end z }
+        record { status = R .status; kept = R .kept; narrow = scripted .writes .small; workspace = all-zeroed end z }
 
     -- after all ticks no read is left
     none-left : p .tick ≡ r .shape .ticks → p .answered < r .reads .m → ⊥

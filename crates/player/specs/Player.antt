@@ -5,17 +5,19 @@ use Prim.Native.Nat.{ℕ, suc, _*_}
 use lib.ListN.{length, drop}
 use Rattle.register.specs.Cluster.{cluster, serverOf}
 use Rattle.plan.specs.Packed.{planOf}
-use Rattle.serving.specs.declared.Server.{Server}
-use Rattle.serving.specs.Stored.{statusOf, keys, recoded}
+use Rattle.serving.specs.Stored.{statusOf, keys}
+use Rattle.cluster.specs.Inputs.{pairAt, Narrow}
 use Rattle.answers.specs.Answers.{answerSize, answersOf}
 use Rattle.answers.specs.Workspace.{zeroed}
+use Rattle.player.specs.declared.View.{View}
 
 pub record AllAnswered (s answers₀ answers₁ work₀ work₁ : List ℕ) : Type 0 where
   pub answers : answers₁ ≡ answersOf 16 s ++ drop (answerSize 16 * length (planOf 16 s .reads)) answers₀
   pub workspace : work₁ ≡ zeroed work₀
 
 -- server b after tick t
-pub record Seen (s : List ℕ) (b t : ℕ) (x : Server) (work₀ work₁ : List ℕ) : Type 0 where
-  pub status : serverOf (cluster (planOf 16 s) (suc t)) b .status ≡ statusOf (x .status)
-  pub kept : map (recoded 16) (serverOf (cluster (planOf 16 s) (suc t)) b .kept) ≡ keys (x .kept)
+pub record Seen (s : List ℕ) (b t : ℕ) (x : View) (work₀ work₁ : List ℕ) : Type 0 where
+  pub status : serverOf (cluster (planOf 16 s) (suc t)) b .status ≡ statusOf (x .server .status)
+  pub kept : serverOf (cluster (planOf 16 s) (suc t)) b .kept ≡ map (pairAt (x .known)) (keys (x .server .kept))
+  pub narrow : Narrow (x .known)
   pub workspace : work₁ ≡ zeroed work₀

@@ -69,4 +69,4 @@ pub record Fresh (work₀ work₁ : List ℕ) (r : Script) (p : Playing) : Type 
   pub empty : Empty work₁ places
   pub unasked : Unasked work₁
   pub first : p ≡ record { cluster = p .cluster; written = 0; begun = 0; answered = 0; tick = 0 }
-  pub started : Started (r .shape .initial) (p .cluster)
+  pub started : Started (p .cluster)

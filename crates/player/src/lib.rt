@@ -11,6 +11,7 @@ ghost use Rattle.player.specs.Run.{Fresh};
 ghost use Rattle.player.specs.Player.{AllAnswered, Seen};
 use calendar::PLACES;
 use cluster::Cluster;
+use cluster::Known;
 use plan::header::Shape;
 use script::Script;
 use script::operations;
@@ -28,6 +29,12 @@ pub struct Playing {
     pub tick: u8,
 }
 
+// A server, and the known pairs: their table has the values of the pairs that it keeps.
+pub struct View {
+    pub server: Server,
+    pub known: Known,
+}
+
 // The answers of all reads that a table can hold, if no one asks for them.
 const UNASKED: usize = Shape::ANSWER_BYTES * operations::TABLE_READS;
 
@@ -38,7 +45,7 @@ fn begin(work: &mut [u8], script: Script) -> Playing
 {
     calendar::start(work, PLACES);
     requests::start(work);
-    let cluster = cluster::tick::start(script.shape.initial);
+    let cluster = cluster::tick::start();
     Playing {
         cluster,
         written: 0,
@@ -60,7 +67,7 @@ pub fn play(plan: &[u8], answers: &mut [u8], work: &mut [u8])
 }
 
 // A server after a tick; the workspace is zeroed.
-pub fn look(plan: &[u8], work: &mut [u8], server: usize, tick: u8) -> Server
+pub fn look(plan: &[u8], work: &mut [u8], server: usize, tick: u8) -> View
     requires { ⌜ Playable 16 (now plan) × (workspaceSize ≤ length (now work)) × (server < headerOf 16 (now plan) .n) × (tick < headerOf 16 (now plan) .ticks) ⌝ }
     ensures { λ r. ⌜ Seen (now (plan .entry)) server tick r (now (work .entry)) (now (work .exit)) ⌝ }
 {
@@ -71,5 +78,11 @@ pub fn look(plan: &[u8], work: &mut [u8], server: usize, tick: u8) -> Server
     let end = tick::next(before, plan, &mut unasked, work, script);
     answers::zero(work);
     let c = end.cluster;
-    c.servers[server]
+    let seen = c.servers[server];
+    let writes = script.writes;
+    let known = writes.known;
+    View {
+        server: seen,
+        known: known,
+    }
 }

@@ -26,8 +26,6 @@ pub fn run(
 {
     let reads = script.reads;
     let rules = script.rules;
-    let known = script.writes.known;
-    let values = known.values;
     let cluster = start.cluster;
     let mut servers = cluster.servers;
     let readers = cluster.readers;
@@ -47,8 +45,8 @@ pub fn run(
         let mut b: usize = 0;
         while b < rules.n {
             let s = servers[b];
-            if tick::is_reached(s, work, b, feed, due, &values) {
-                servers[b] = tick::turn(s, work, plan, b, feed, &values, ends);
+            if tick::is_reached(s, work, b, feed, due) {
+                servers[b] = tick::turn(s, work, plan, b, feed, ends);
             } else {
                 tick::pass_over(work, t as usize, b);
             }

@@ -1,6 +1,6 @@
 -- What a script and its ticks are fed fits the plan: the laws that the crate above cites.
 -- It stands on Knowing, Naming and the laws of requests.
-use mathlib.Core.Path.{_≡_, sym, ap, _∙_, fun-ext}
+use mathlib.Core.Path.{_≡_, sym, ap, _∙_}
 use mathlib.Core.Bool.{Bool, true, false, not}
 use mathlib.Core.List.{List}
 use Prim.Native.Nat.{ℕ, suc, _+_, _*_, _-_, _/_, _%_, _^_, _≤_, _<_}
@@ -34,7 +34,6 @@ use Rattle.states.proofs.RequestLaws.{asked-now}
 use Rattle.serving.specs.Links.{delayAt}
 use Rattle.cluster.specs.Inputs.{pairAt, requesters, wroteAt, asksAt, Knows, Tickable, Fits}
 use Rattle.serving.proofs.BitLaws.{bit-shift}
-use Rattle.serving.proofs.Recoding.{narrow, recoded-stamped}
 use Rattle.script.specs.declared.Script.{Script}
 use Rattle.script.specs.Inputs.{LatestWrite, liveAt, Arrive, Moves}
 use Rattle.script.specs.Forged.{entriesEnd, entryAt, entriesAt, Entry, Starts}
@@ -145,7 +144,6 @@ module _ (s before after : List ℕ) (A : Playable 16 s) (r : Script) (R : Scrip
       two = R .rules .two;
       echo = R .rules .echo;
       reply = R .rules .reply;
-      pairs = fun-ext (λ j. sym (recoded-stamped 16 narrow (getD (r .writes .known .values) j 0) j (R .writes .small j)));
       delays = delays;
       replies = replies;
       moving = moves .moving;

@@ -17,7 +17,7 @@ use Rattle.register.proofs.Lists.{any-in, in-any, in-map, map-in, in-filter, fi
 use Rattle.plan.specs.Header.{headerOf}
 use Rattle.plan.specs.Packed.{planOf}
 use Rattle.plan.proofs.Tests.{getD-in, in-getD}
-use Rattle.register.proofs.Stamped.{number-stamped}
+use Rattle.register.proofs.Stamped.{number-stamped, stamped-rises}
 use Rattle.plan.specs.Playable.{Playable}
 use Rattle.plan.proofs.Accept.{in-range}
 use Rattle.plan.proofs.AcceptWrites.{writes-apart}
@@ -73,7 +73,7 @@ module _ (s : List ℕ) (A : Playable 16 s) (known : Known) (begun : List ℕ)
     servers = in-range 16 s A .n-hi;
     slow = in-range 16 s A .delta-hi;
     depth = refl;
-    number = λ j l. pair-number j;
+    rising = λ i j h. stamped-rises 16 (getD (known .values) i 0) (getD (known .values) j 0) i j (W .small i) h;
     first = (omega (arith, W .count), rw (W .first));
     write = λ w h. let (j, a, b, p, q) = write-numbered w h in (j, b, p);
     readers = λ r h. (read-stands 16 s A r h .reader-lo, omega (arith, read-stands 16 s A r h .reader-hi, in-range 16 s A .readers-hi));

@@ -3,6 +3,5 @@ pub mod StoreLaws
 pub mod StageLaws
 pub mod TakenLaws
 pub mod Sizes
-pub mod Recoding
 pub mod SetLaws
 pub mod SendLaws

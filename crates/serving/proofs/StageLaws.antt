@@ -62,12 +62,12 @@ in-span low high j b v l h e = rw (le-leb low j l, lt-ltb j high h) e
 
 -- ---- a turn of taking in
 
-module _ (c : ℕ → Bool) (g : ℕ → ℕ) (j : ℕ) (l k r : List ℕ) (e : k ≡ taken c g j l) where
-  pub taken-yes : c j ≡ true → r ≡ take depth (insert (g j) k) → r ≡ taken c g (j + 1) l
+module _ (c : ℕ → Bool) (j : ℕ) (l k r : List ℕ) (e : k ≡ taken c j l) where
+  pub taken-yes : c j ≡ true → r ≡ take depth (insert j k) → r ≡ taken c (j + 1) l
   unfolding taken
   taken-yes h q = rw (add-one j, h, ← e) q
 
-  pub taken-no : c j ≡ false → r ≡ k → r ≡ taken c g (j + 1) l
+  pub taken-no : c j ≡ false → r ≡ k → r ≡ taken c (j + 1) l
   unfolding taken
   taken-no h q = rw (add-one j, h, ← e) q
 
@@ -82,31 +82,31 @@ replied-law r a p c s false s' e f g = rw (e, f) zero-set
 pub pending-law : (p l a : ℕ) → _≡_ {A = ℕ → Bool} (λ x. bit x (bitOr (bitAnd p l) a)) (λ x. (bit x p && bit x l) || bit x a)
 pending-law p l a = fun-ext (λ x. rw (bit-or x (bitAnd p l) a, bit-and x p l))
 
-pub write-kept : (g : ℕ → ℕ) (m w : ℕ) (s : Plain) → withWrite g m w s .kept ≡ cond (ltb w m) (take depth (insert (g w) (s .kept))) (s .kept)
-write-kept g m w s = cond-ap (λ (x : Plain). x .kept) (ltb w m) (written (g w) s) s
+pub write-kept : (m w : ℕ) (s : Plain) → withWrite m w s .kept ≡ cond (ltb w m) (take depth (insert w (s .kept))) (s .kept)
+write-kept m w s = cond-ap (λ (x : Plain). x .kept) (ltb w m) (written w s) s
 
-pub delivered-law : (g : ℕ → ℕ) (m : ℕ) (c : ℕ → Bool) (w : ℕ) (votes : ℕ → ℕ → Bool) (asks live : ℕ → Bool) (s : Plain) (first kept : List ℕ) (pend readers : ℕ → Bool)
-    → first ≡ cond (ltb w m) (take depth (insert (g w) (s .kept))) (s .kept) → kept ≡ taken c g m first
+pub delivered-law : (m : ℕ) (c : ℕ → Bool) (w : ℕ) (votes : ℕ → ℕ → Bool) (asks live : ℕ → Bool) (s : Plain) (first kept : List ℕ) (pend readers : ℕ → Bool)
+    → first ≡ cond (ltb w m) (take depth (insert w (s .kept))) (s .kept) → kept ≡ taken c m first
     → pend ≡ (λ x. (s .pending x && live x) || asks x) → readers ≡ repliesTo (isCorrect (s .status)) (sameList (s .kept) kept) asks pend
     → record {
       server = record { status = s .status; kept = kept; pending = pend; fresh = votes; old = s .old };
       said = record { wrote = w; echoed = false; readers = readers; pairs = kept };
-    } ≡ deliveredOf g m c w votes asks live s
+    } ≡ deliveredOf m c w votes asks live s
 unfolding deliveredOf
-delivered-law g m c w votes asks live s first kept pend readers f k p a = rw (a, k, p, f, write-kept g m w s)
+delivered-law m c w votes asks live s first kept pend readers f k p a = rw (a, k, p, f, write-kept m w s)
 
 -- a server that is not faulty takes it
-pub taken-law : (g : ℕ → ℕ) (m e r w : ℕ) (votes : ℕ → ℕ → Bool) (asks live : ℕ → Bool) (s : Plain) (o : Both) (c : ℕ → Bool) → isFaulty (s .status) ≡ false
-    → o ≡ deliveredOf g m c w votes asks live s → taken c g m (withWrite g m w s .kept) ≡ taken (voting e r votes (s .old)) g m (withWrite g m w s .kept)
-    → o ≡ stageOne g m e r w votes asks live s
+pub taken-law : (m e r w : ℕ) (votes : ℕ → ℕ → Bool) (asks live : ℕ → Bool) (s : Plain) (o : Both) (c : ℕ → Bool) → isFaulty (s .status) ≡ false
+    → o ≡ deliveredOf m c w votes asks live s → taken c m (withWrite m w s .kept) ≡ taken (voting e r votes (s .old)) m (withWrite m w s .kept)
+    → o ≡ stageOne m e r w votes asks live s
 unfolding stageOne delivered deliveredOf
-taken-law g m e r w votes asks live s o c h d k = d ∙ rw (h, k)
+taken-law m e r w votes asks live s o c h d k = d ∙ rw (h, k)
 
 -- a faulty server loses what arrives
-pub lost-law : (g : ℕ → ℕ) (m e r w : ℕ) (votes : ℕ → ℕ → Bool) (asks live : ℕ → Bool) (s : Plain) (q : Said) → isFaulty (s .status) ≡ true → q ≡ silent
-    → record { server = s; said = q } ≡ stageOne g m e r w votes asks live s
+pub lost-law : (m e r w : ℕ) (votes : ℕ → ℕ → Bool) (asks live : ℕ → Bool) (s : Plain) (q : Said) → isFaulty (s .status) ≡ true → q ≡ silent
+    → record { server = s; said = q } ≡ stageOne m e r w votes asks live s
 unfolding stageOne
-lost-law g m e r w votes asks live s q h k = rw (h, k)
+lost-law m e r w votes asks live s q h k = rw (h, k)
 
 -- ---- stages 2 to 4
 

@@ -12,14 +12,14 @@ use lib.Dec.{eqb, leb, ltb, eqb·zero-suc, eqb·suc-zero, eqb·suc-suc}
 use lib.ListN.{length, take, drop, getD, set, drop-of-length-le, List·getD-eq-default}
 use lib.Seq.{take-all, take-at, length-take-le, take-suc-set, drop-set-lt, drop-cons, append-snoc}
 use borrow.Author.Tests.{lt-ltb, le-ltb, le-leb, lt-leb, eq-eqb, ne-eqb}
-use Rattle.register.specs.Lists.{anyUpTo, sameList}
+use Rattle.register.specs.Lists.{any, anyUpTo, member, sameList}
 use Rattle.register.specs.Server.{insert}
 use Rattle.register.proofs.Counting.{anyUpTo-i}
-use Rattle.register.proofs.Logic.{T-eq}
+use Rattle.register.proofs.Logic.{T-eq, eqb-comm}
 use Rattle.calendar.specs.declared.Stamped.{Stamped}
 use Rattle.calendar.specs.Layout.{depth}
-use Rattle.calendar.specs.Posts.{vacant}
-use Rattle.serving.specs.Stored.{keyOf, keys, placeOf, putAt}
+use Rattle.calendar.specs.Posts.{vacant, amongFirst, among}
+use Rattle.serving.specs.Stored.{keys, placeOf, putAt}
 use Rattle.serving.specs.Stages.{isNew, anyNew}
 
 cut : (b : Bool) (n p : ℕ) (ps : List ℕ) → take (suc n) (cond b (p ∷ ps) []) ≡ cond b (p ∷ take n ps) []
@@ -30,7 +30,17 @@ take-keys : (n : ℕ) (ps : List Stamped) → take n (keys ps) ≡ keys (take n 
 unfolding keys
 take-keys zero ps = refl
 take-keys (suc n) [] = refl
-take-keys (suc n) (p ∷ ps) = cut (p .kept) n (keyOf p) (keys ps) ∙ rw (take-keys n ps)
+take-keys (suc n) (p ∷ ps) = cut (p .kept) n (p .number) (keys ps) ∙ rw (take-keys n ps)
+
+-- the numbers posted are those of the pairs kept
+pub among-keys : (ps : List Stamped) (j : ℕ) → among ps j ≡ member j (keys ps)
+unfolding amongFirst keys any
+among-keys [] j = refl
+among-keys (p ∷ ps) j = rw (among-keys ps j, eqb-comm j (p .number)) (go (p .kept))
+  where
+    go : (c : Bool) → c && (eqb (p .number) j || member j (keys ps)) ≡ member j (cond c (p .number ∷ keys ps) [])
+    go true = refl
+    go false = refl
 
 -- ---- the places from one on move by one
 
@@ -57,7 +67,7 @@ above-more p i ps a h j l = go (eq-or-lt-of-le l)
 
 module _ (p : Stamped) (is : p .kept ≡ true) where
   abbrev Put : List Stamped → List Stamped → Type 0
-  Put ps rs = insert (keyOf p) (keys ps) ≡ keys rs
+  Put ps rs = insert (p .number) (keys ps) ≡ keys rs
 
   at-end : Put [] (p ∷ [])
   unfolding insert keys
@@ -69,25 +79,25 @@ module _ (p : Stamped) (is : p .kept ≡ true) where
     where
       go : (b : Bool) → x .kept ≡ b → Put (x ∷ ps) (p ∷ x ∷ ps)
       go false e = rw (e, is)
-      go true e = rw (e, is, lt-ltb (keyOf x) (keyOf p) (le-of-suc-le-suc (rw (e, is) at h)))
+      go true e = rw (e, is, lt-ltb (x .number) (p .number) (le-of-suc-le-suc (rw (e, is) at h)))
 
   at-same : (x : Stamped) (ps : List Stamped) → placeOf x ≡ placeOf p → Put (x ∷ ps) (x ∷ ps)
   unfolding insert keys
   at-same x ps h = go (x .kept) refl
     where
       go : (b : Bool) → x .kept ≡ b → Put (x ∷ ps) (x ∷ ps)
-      go false e = let z : 0 ≡ suc (keyOf p) = rw (e, is) at h in absurd (omega arith)
-      go true e = let z : keyOf x ≡ keyOf p = suc-inj (rw (e, is) at h) in rw (e, le-ltb (keyOf x) (keyOf p) (omega arith), eq-eqb (keyOf x) (keyOf p) z)
+      go false e = let z : 0 ≡ suc (p .number) = rw (e, is) at h in absurd (omega arith)
+      go true e = let z : x .number ≡ p .number = suc-inj (rw (e, is) at h) in rw (e, le-ltb (x .number) (p .number) (omega arith), eq-eqb (x .number) (p .number) z)
 
   below : (x : Stamped) (ps rs : List Stamped) → placeOf p < placeOf x → Put ps rs → Put (x ∷ ps) (x ∷ rs)
   unfolding insert keys
   below x ps rs h q = go (x .kept) refl
     where
       go : (b : Bool) → x .kept ≡ b → Put (x ∷ ps) (x ∷ rs)
-      go false e = let z : suc (keyOf p) < 0 = rw (e, is) at h in absurd (omega arith)
+      go false e = let z : suc (p .number) < 0 = rw (e, is) at h in absurd (omega arith)
       go true e =
-          let z : keyOf p < keyOf x = le-of-suc-le-suc (rw (e, is) at h) in
-          rw (e, le-ltb (keyOf x) (keyOf p) (omega arith), ne-eqb (keyOf x) (keyOf p) (λ q. omega arith), q)
+          let z : p .number < x .number = le-of-suc-le-suc (rw (e, is) at h) in
+          rw (e, le-ltb (x .number) (p .number) (omega arith), ne-eqb (x .number) (p .number) (λ q. omega arith), q)
 
   goes-at : (i : ℕ) (ps : List Stamped) → i ≤ length ps → Above p i ps → placeOf (getD ps i vacant) < placeOf p → Put ps (putAt i p ps)
   goes-at zero [] h a l = at-end
@@ -103,15 +113,15 @@ module _ (p : Stamped) (is : p .kept ≡ true) where
   module _ (n : ℕ) (ps : List Stamped) (size : length ps ≡ n) where
     -- at the first lower place
     pub put-lower : (i : ℕ) → i < n → Above p i ps → placeOf (getD ps i vacant) < placeOf p
-        → (r : List Stamped) → r ≡ take n (putAt i p ps) → keys r ≡ take n (insert (keyOf p) (keys ps))
+        → (r : List Stamped) → r ≡ take n (putAt i p ps) → keys r ≡ take n (insert (p .number) (keys ps))
     put-lower i h a l r e = ap keys e ∙ sym (take-keys n (putAt i p ps)) ∙ ap (take n) (sym (goes-at i ps (omega arith) a l))
 
     -- nowhere, for it is there
-    pub put-same : (i : ℕ) → i < n → Above p i ps → placeOf (getD ps i vacant) ≡ placeOf p → keys ps ≡ take n (insert (keyOf p) (keys ps))
+    pub put-same : (i : ℕ) → i < n → Above p i ps → placeOf (getD ps i vacant) ≡ placeOf p → keys ps ≡ take n (insert (p .number) (keys ps))
     put-same i h a e = ap keys (sym (take-all n ps (omega arith))) ∙ sym (take-keys n ps) ∙ ap (take n) (sym (stands-at i ps (omega arith) a e))
 
     -- nowhere, for all places are higher
-    pub put-none : Above p n ps → keys ps ≡ take n (insert (keyOf p) (keys ps))
+    pub put-none : Above p n ps → keys ps ≡ take n (insert (p .number) (keys ps))
     put-none a =
         ap keys (dropped n p ps size) ∙ sym (take-keys n (putAt n p ps))
         ∙ ap (take n) (sym (goes-at n ps (omega arith) a (rw (List·getD-eq-default ps vacant {n = n} (omega arith), is) (omega arith))))
@@ -121,7 +131,7 @@ module _ (p : Stamped) (is : p .kept ≡ true) where
 same-level : (x y : Stamped) (xs ys : List Stamped)
     → eqb (placeOf x) (placeOf y) && (eqb (placeOf x) 0 || sameList (keys xs) (keys ys)) ≡ sameList (keys (x ∷ xs)) (keys (y ∷ ys))
 unfolding keys sameList
-same-level x y xs ys = go (x .kept) (y .kept) (keyOf x) (keyOf y)
+same-level x y xs ys = go (x .kept) (y .kept) (x .number) (y .number)
   where
     go : (a b : Bool) (m n : ℕ)
         → eqb (cond a (suc m) 0) (cond b (suc n) 0) && (eqb (cond a (suc m) 0) 0 || sameList (keys xs) (keys ys))
@@ -168,65 +178,65 @@ same-as-itself (x ∷ l) = rw (eq-eqb x x refl) (same-as-itself l)
 
 module _ (p : Stamped) (is : p .kept ≡ true) where
   -- at a lower place p goes before another pair
-  changed-at : (n i : ℕ) (ps : List Stamped) → i < n → i < length ps → Above p i ps → placeOf (getD ps i vacant) < placeOf p → sameList (take n (insert (keyOf p) (keys ps))) (keys ps) ≡ false
+  changed-at : (n i : ℕ) (ps : List Stamped) → i < n → i < length ps → Above p i ps → placeOf (getD ps i vacant) < placeOf p → sameList (take n (insert (p .number) (keys ps))) (keys ps) ≡ false
   unfolding insert keys sameList
   changed-at zero i ps h k a l = absurd (omega arith)
   changed-at (suc n) i [] h k a l = absurd (omega arith)
   changed-at (suc n) zero (x ∷ ps) h k a l = go (x .kept) refl
     where
-      go : (b : Bool) → x .kept ≡ b → sameList (take (suc n) (insert (keyOf p) (keys (x ∷ ps)))) (keys (x ∷ ps)) ≡ false
+      go : (b : Bool) → x .kept ≡ b → sameList (take (suc n) (insert (p .number) (keys (x ∷ ps)))) (keys (x ∷ ps)) ≡ false
       go false e = rw e
       go true e =
-          let z : keyOf x < keyOf p = le-of-suc-le-suc (rw (e, is) at l) in
-          rw (e, lt-ltb (keyOf x) (keyOf p) z, ne-eqb (keyOf p) (keyOf x) (λ q. omega arith))
+          let z : x .number < p .number = le-of-suc-le-suc (rw (e, is) at l) in
+          rw (e, lt-ltb (x .number) (p .number) z, ne-eqb (p .number) (x .number) (λ q. omega arith))
   changed-at (suc n) (suc i) (x ∷ ps) h k a l = go (x .kept) refl (changed-at n i ps (omega arith) (omega arith) (λ j q. a (suc j) (omega arith)) l)
     where
-      go : (b : Bool) → x .kept ≡ b → sameList (take n (insert (keyOf p) (keys ps))) (keys ps) ≡ false → sameList (take (suc n) (insert (keyOf p) (keys (x ∷ ps)))) (keys (x ∷ ps)) ≡ false
-      go false e ih = let z : suc (keyOf p) < 0 = rw (e, is) at (a 0 (omega arith)) in absurd (omega arith)
+      go : (b : Bool) → x .kept ≡ b → sameList (take n (insert (p .number) (keys ps))) (keys ps) ≡ false → sameList (take (suc n) (insert (p .number) (keys (x ∷ ps)))) (keys (x ∷ ps)) ≡ false
+      go false e ih = let z : suc (p .number) < 0 = rw (e, is) at (a 0 (omega arith)) in absurd (omega arith)
       go true e ih =
-          let z : keyOf p < keyOf x = le-of-suc-le-suc (rw (e, is) at (a 0 (omega arith))) in
-          rw (e, le-ltb (keyOf x) (keyOf p) (omega arith), ne-eqb (keyOf x) (keyOf p) (λ q. omega arith), eq-eqb (keyOf x) (keyOf x) refl) ih
+          let z : p .number < x .number = le-of-suc-le-suc (rw (e, is) at (a 0 (omega arith))) in
+          rw (e, le-ltb (x .number) (p .number) (omega arith), ne-eqb (x .number) (p .number) (λ q. omega arith), eq-eqb (x .number) (x .number) refl) ih
 
   module _ (ps : List Stamped) (size : length ps ≡ depth) where
-    new-lower : (i : ℕ) → i < depth → Above p i ps → placeOf (getD ps i vacant) < placeOf p → isNew (keyOf p) (keys ps) ≡ true
+    new-lower : (i : ℕ) → i < depth → Above p i ps → placeOf (getD ps i vacant) < placeOf p → isNew (p .number) (keys ps) ≡ true
     unfolding isNew
     new-lower i h a l = rw (changed-at depth i ps h (omega arith) a l)
 
-    unchanged : keys ps ≡ take depth (insert (keyOf p) (keys ps)) → isNew (keyOf p) (keys ps) ≡ false
+    unchanged : keys ps ≡ take depth (insert (p .number) (keys ps)) → isNew (p .number) (keys ps) ≡ false
     unfolding isNew
     unchanged e = rw (← e, same-as-itself (keys ps))
 
     -- at the first place that is not higher
-    pub new-first : (i : ℕ) → i < depth → Above p i ps → placeOf (getD ps i vacant) ≤ placeOf p → ltb (placeOf (getD ps i vacant)) (placeOf p) ≡ isNew (keyOf p) (keys ps)
+    pub new-first : (i : ℕ) → i < depth → Above p i ps → placeOf (getD ps i vacant) ≤ placeOf p → ltb (placeOf (getD ps i vacant)) (placeOf p) ≡ isNew (p .number) (keys ps)
     new-first i h a l = go (eq-or-lt-of-le l)
       where
-        go : (placeOf (getD ps i vacant) ≡ placeOf p) ⊎ (placeOf (getD ps i vacant) < placeOf p) → ltb (placeOf (getD ps i vacant)) (placeOf p) ≡ isNew (keyOf p) (keys ps)
+        go : (placeOf (getD ps i vacant) ≡ placeOf p) ⊎ (placeOf (getD ps i vacant) < placeOf p) → ltb (placeOf (getD ps i vacant)) (placeOf p) ≡ isNew (p .number) (keys ps)
         go (inl e) = rw (le-ltb (placeOf (getD ps i vacant)) (placeOf p) (omega arith), unchanged (put-same p is depth ps size i h a e))
         go (inr k) = rw (lt-ltb (placeOf (getD ps i vacant)) (placeOf p) k, new-lower i h a k)
 
-    pub new-none : Above p depth ps → isNew (keyOf p) (keys ps) ≡ false
+    pub new-none : Above p depth ps → isNew (p .number) (keys ps) ≡ false
     new-none a = unchanged (put-none p is depth ps size a)
 
 -- one of some pairs is
-module _ (g : ℕ → ℕ) (l : List ℕ) (low : ℕ) where
-  pub some-new : (high j : ℕ) → low ≤ j → j < high → isNew (g j) l ≡ true → anyNew g l low high ≡ true
-  some-new high j h k e = T-eq (anyNew g l low high) (anyUpTo-i high (λ i. leb low i && isNew (g i) l) j k (rw (le-leb low j h, e) tt))
+module _ (l : List ℕ) (low : ℕ) where
+  pub some-new : (high j : ℕ) → low ≤ j → j < high → isNew j l ≡ true → anyNew l low high ≡ true
+  some-new high j h k e = T-eq (anyNew l low high) (anyUpTo-i high (λ i. leb low i && isNew i l) j k (rw (le-leb low j h, e) tt))
 
   abbrev pub NoneNew : ℕ → Type 0
-  NoneNew high = (j : ℕ) → low ≤ j → j < high → isNew (g j) l ≡ false
+  NoneNew high = (j : ℕ) → low ≤ j → j < high → isNew j l ≡ false
 
-  pub none-more : (j : ℕ) → NoneNew j → isNew (g j) l ≡ false → NoneNew (j + 1)
+  pub none-more : (j : ℕ) → NoneNew j → isNew j l ≡ false → NoneNew (j + 1)
   none-more j f e i h k = go (eq-or-lt-of-le k)
     where
-      go : (suc i ≡ j + 1) ⊎ (suc i < j + 1) → isNew (g i) l ≡ false
+      go : (suc i ≡ j + 1) ⊎ (suc i < j + 1) → isNew i l ≡ false
       go (inl q) = let z : i ≡ j = omega arith in rw z e
       go (inr q) = f i h (omega arith)
 
-  pub none-new : (high : ℕ) → NoneNew high → anyNew g l low high ≡ false
+  pub none-new : (high : ℕ) → NoneNew high → anyNew l low high ≡ false
   unfolding anyUpTo
   none-new zero f = refl
   none-new (suc j) f = rw (none-new j (λ i h k. f i h (omega arith))) (go (decLe low j))
     where
-      go : Dec (low ≤ j) → (leb low j && isNew (g j) l) || false ≡ false
+      go : Dec (low ≤ j) → (leb low j && isNew j l) || false ≡ false
       go (yes h) = rw (le-leb low j h, f j h (omega arith))
       go (no h) = rw (lt-leb low j (omega arith))

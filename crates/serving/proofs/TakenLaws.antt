@@ -10,29 +10,29 @@ use borrow.Author.Tests.{le-ltb, lt-leb}
 use Rattle.serving.specs.Stages.{within, taken}
 
 -- pairs from one on that do not pass
-pub taken-past : (c : ℕ → Bool) (g : ℕ → ℕ) (n m : ℕ) (l : List ℕ) → n ≤ m → ((j : ℕ) → n ≤ j → j < m → c j ≡ false) → taken c g m l ≡ taken c g n l
+pub taken-past : (c : ℕ → Bool) (n m : ℕ) (l : List ℕ) → n ≤ m → ((j : ℕ) → n ≤ j → j < m → c j ≡ false) → taken c m l ≡ taken c n l
 unfolding taken
-taken-past c g zero zero l h e = refl
-taken-past c g (suc n) zero l h e = absurd (omega arith)
-taken-past c g n (suc m) l h e = go (ℕ-discrete n (suc m)) (λ k. taken-past c g n m l k (λ j a b. e j a (omega arith)))
+taken-past c zero zero l h e = refl
+taken-past c (suc n) zero l h e = absurd (omega arith)
+taken-past c n (suc m) l h e = go (ℕ-discrete n (suc m)) (λ k. taken-past c n m l k (λ j a b. e j a (omega arith)))
   where
-    go : Dec (n ≡ suc m) → (n ≤ m → taken c g m l ≡ taken c g n l) → taken c g (suc m) l ≡ taken c g n l
+    go : Dec (n ≡ suc m) → (n ≤ m → taken c m l ≡ taken c n l) → taken c (suc m) l ≡ taken c n l
     go (yes d) ih = rw d
     go (no d) ih = rw (e m (omega arith) (omega arith)) (ih (omega arith))
 
-module _ (v : ℕ → Bool) (g : ℕ → ℕ) (low high : ℕ) where
+module _ (v : ℕ → Bool) (low high : ℕ) where
   -- no pair below the span
-  pub taken-below : (n : ℕ) (l : List ℕ) → n ≤ low → taken (λ j. within low high j && v j) g n l ≡ l
+  pub taken-below : (n : ℕ) (l : List ℕ) → n ≤ low → taken (λ j. within low high j && v j) n l ≡ l
   unfolding taken
-  taken-below n l h = taken-past (λ j. within low high j && v j) g 0 n l (omega arith) (λ j a b. rw (lt-leb low j (omega arith)))
+  taken-below n l h = taken-past (λ j. within low high j && v j) 0 n l (omega arith) (λ j a b. rw (lt-leb low j (omega arith)))
 
   -- none beyond it
   pub taken-beyond : (n m : ℕ) (l : List ℕ) → n ≤ m → (high ≤ m → high ≤ n) → (m ≤ high → m ≤ n)
-      → taken (λ j. within low high j && v j) g m l ≡ taken (λ j. within low high j && v j) g n l
+      → taken (λ j. within low high j && v j) m l ≡ taken (λ j. within low high j && v j) n l
   taken-beyond n m l h e f = go (decLe high m)
     where
-      go : Dec (high ≤ m) → taken (λ j. within low high j && v j) g m l ≡ taken (λ j. within low high j && v j) g n l
-      go (yes d) = taken-past (λ j. within low high j && v j) g n m l h (λ j a b. rw (le-ltb j high (omega (arith, e d)), and-false (leb low j)))
+      go : Dec (high ≤ m) → taken (λ j. within low high j && v j) m l ≡ taken (λ j. within low high j && v j) n l
+      go (yes d) = taken-past (λ j. within low high j && v j) n m l h (λ j a b. rw (le-ltb j high (omega (arith, e d)), and-false (leb low j)))
       go (no d) = let z : n ≡ m = omega (arith, f (omega arith)) in rw z
 
 pub from-low : (low m j : ℕ) → (low ≤ m → low ≤ j) → (m ≤ low → m ≤ j) → j < m → low ≤ j

@@ -1,4 +1,4 @@
--- The engine's stages on a server apart from how it is stored. Pairs are known by number: pair j is g j, j < m; e and r are the quorums.
+-- The engine's stages on a server apart from how it is stored. Pairs are known by number, those below m; e and r are the quorums.
 use mathlib.Core.Path.{_≡_}
 use mathlib.Core.Bool.{Bool, true, false, not, _&&_, _||_, cond}
 use mathlib.Core.List.{List, []}
@@ -59,21 +59,21 @@ abbrev pub voting : ℕ → ℕ → (ℕ → ℕ → Bool) → (ℕ → ℕ → 
 voting e r fresh old j = quorate e r (fresh j) (old j)
 
 -- the pairs 0 .. m - 1 that pass, taken in by number
-unfoldable pub taken : (ℕ → Bool) → (ℕ → ℕ) → ℕ → List ℕ → List ℕ
-taken c g zero l = l
-taken c g (suc j) l = cond (c j) (take depth (insert (g j) (taken c g j l))) (taken c g j l)
+unfoldable pub taken : (ℕ → Bool) → ℕ → List ℕ → List ℕ
+taken c zero l = l
+taken c (suc j) l = cond (c j) (take depth (insert j (taken c j l))) (taken c j l)
 
 -- putting pair p in changes the store: the store does not have it, and is not full of higher ones
 unfoldable pub isNew : ℕ → List ℕ → Bool
 isNew p l = not (sameList (take depth (insert p l)) l)
 
 -- one of the pairs low .. high - 1 does
-abbrev pub anyNew : (ℕ → ℕ) → List ℕ → ℕ → ℕ → Bool
-anyNew g l low high = anyUpTo high (λ j. leb low j && isNew (g j) l)
+abbrev pub anyNew : List ℕ → ℕ → ℕ → Bool
+anyNew l low high = anyUpTo high (λ j. leb low j && isNew j l)
 
 -- the WRITE's pair, if its number is a known one
-abbrev pub withWrite : (ℕ → ℕ) → ℕ → ℕ → Plain → Plain
-withWrite g m w s = cond (ltb w m) (written (g w) s) s
+abbrev pub withWrite : ℕ → ℕ → Plain → Plain
+withWrite m w s = cond (ltb w m) (written w s) s
 
 abbrev pub repliesTo : Bool → Bool → (ℕ → Bool) → (ℕ → Bool) → ℕ → Bool
 repliesTo false same asks list = nobody
@@ -85,21 +85,21 @@ abbrev pub within : ℕ → ℕ → ℕ → Bool
 within low high j = leb low j && ltb j high
 
 -- with the pairs that pass
-unfoldable pub deliveredOf : (ℕ → ℕ) → ℕ → (ℕ → Bool) → ℕ → (ℕ → ℕ → Bool) → (ℕ → Bool) → (ℕ → Bool) → Plain → Both
-deliveredOf g m c w votes asks live s =
-    let kept : List ℕ = taken c g m (withWrite g m w s .kept) in
+unfoldable pub deliveredOf : ℕ → (ℕ → Bool) → ℕ → (ℕ → ℕ → Bool) → (ℕ → Bool) → (ℕ → Bool) → Plain → Both
+deliveredOf m c w votes asks live s =
+    let kept : List ℕ = taken c m (withWrite m w s .kept) in
     let list : ℕ → Bool = λ x. (s .pending x && live x) || asks x in
     record {
       server = record { status = s .status; kept = kept; pending = list; fresh = votes; old = s .old };
       said = record { wrote = w; echoed = false; readers = repliesTo (isCorrect (s .status)) (sameList (s .kept) kept) asks list; pairs = kept };
     }
 
-unfoldable pub delivered : (ℕ → ℕ) → ℕ → ℕ → ℕ → ℕ → (ℕ → ℕ → Bool) → (ℕ → Bool) → (ℕ → Bool) → Plain → Both
-delivered g m e r w votes asks live s = deliveredOf g m (voting e r votes (s .old)) w votes asks live s
+unfoldable pub delivered : ℕ → ℕ → ℕ → ℕ → (ℕ → ℕ → Bool) → (ℕ → Bool) → (ℕ → Bool) → Plain → Both
+delivered m e r w votes asks live s = deliveredOf m (voting e r votes (s .old)) w votes asks live s
 
-unfoldable pub stageOne : (ℕ → ℕ) → ℕ → ℕ → ℕ → ℕ → (ℕ → ℕ → Bool) → (ℕ → Bool) → (ℕ → Bool) → Plain → Both
-stageOne g m e r w votes asks live s =
-    cond (isFaulty (s .status)) (record { server = s; said = silent }) (delivered g m e r w votes asks live s)
+unfoldable pub stageOne : ℕ → ℕ → ℕ → ℕ → (ℕ → ℕ → Bool) → (ℕ → Bool) → (ℕ → Bool) → Plain → Both
+stageOne m e r w votes asks live s =
+    cond (isFaulty (s .status)) (record { server = s; said = silent }) (delivered m e r w votes asks live s)
 
 -- ---- stages 2 to 4
 
@@ -123,7 +123,7 @@ stageFour two now-faulty t o =
     record { server = s; said = record { wrote = o .said .wrote; echoed = isCorrect (s .status); readers = o .said .readers; pairs = o .said .pairs } }
 
 -- all stages
-unfoldable pub stagesOf : (ℕ → ℕ) → ℕ → Rules → ℕ → (ℕ → ℕ → Bool) → (ℕ → Bool) → (ℕ → Bool) → Bool → Bool → ℕ → Plain → Both
-stagesOf g m rules w votes asks live moving now-faulty t s =
-    let second : Both = stageTwo (rules .delta) t (stageOne g m (rules .echo) (rules .reply) w votes asks live s) in
+unfoldable pub stagesOf : ℕ → Rules → ℕ → (ℕ → ℕ → Bool) → (ℕ → Bool) → (ℕ → Bool) → Bool → Bool → ℕ → Plain → Both
+stagesOf m rules w votes asks live moving now-faulty t s =
+    let second : Both = stageTwo (rules .delta) t (stageOne m (rules .echo) (rules .reply) w votes asks live s) in
     cond moving (stageFour (rules .two) now-faulty t second) second

@@ -41,25 +41,14 @@ statusOf Faulty = faulty
 statusOf (Cured c) = cured c
 statusOf Correct = correct
 
--- how many bits the engine has for a value, whatever its plan's values have
-abbrev pub valueBits : ℕ
-valueBits = 32
-
-abbrev pub keyOf : Stamped → ℕ
-keyOf p = stamped valueBits (p .value) (p .number)
-
--- a plan's pair as the engine keeps it; the plan's values have w bits
-unfoldable pub recoded : ℕ → ℕ → ℕ
-recoded w p = stamped valueBits (valueOf w p) (numberOf w p)
-
--- the pairs before the first empty place
+-- the numbers of the pairs before the first empty place
 unfoldable pub keys : List Stamped → List ℕ
 keys [] = []
-keys (p ∷ ps) = cond (p .kept) (keyOf p ∷ keys ps) []
+keys (p ∷ ps) = cond (p .kept) (p .number ∷ keys ps) []
 
 -- a place as a number: 0 is empty
 abbrev pub placeOf : Stamped → ℕ
-placeOf p = cond (p .kept) (suc (keyOf p)) 0
+placeOf p = cond (p .kept) (suc (p .number)) 0
 
 -- the places with one more before place i
 abbrev pub putAt : ℕ → Stamped → List Stamped → List Stamped
@@ -85,14 +74,6 @@ deliveredTo s d = record {
   server = record { status = statusOf (s .status); kept = keys (d .row .kept); pending = λ x. bit x (d .pending); fresh = sets (listed (s .fresh)); old = sets (listed (s .old)) };
   said = saidBy (d .row);
 }
-
--- a store is no deeper than it may be, and its values fit
-abbrev pub Small : List Stamped → Type 0
-Small kept = (length kept ≤ depth) × ((q : ℕ) → getD kept q vacant .value < 2 ^ valueBits)
-
--- pair j, from the table of values
-abbrev pub pairOf : List ℕ → ℕ → ℕ
-pairOf values j = stamped valueBits (getD values j 0) j
 
 -- what is read past the end of an array of servers
 abbrev pub unset : Voters

@@ -6,7 +6,7 @@ ghost use lib.ListN.{length};
 ghost use Rattle.register.specs.Server.{isFaulty, isCorrect, curedAt};
 ghost use Rattle.calendar.specs.Layout.{rows, places, calendarSize, sender};
 ghost use Rattle.calendar.specs.View.{Spanned};
-ghost use Rattle.serving.specs.Stored.{keyOf, statusOf, server};
+ghost use Rattle.serving.specs.Stored.{statusOf, server};
 ghost use Rattle.serving.specs.Stages.{restated, written, Voted, resetAt, cureEnded, turned};
 use super::Server;
 use super::Status;
@@ -68,7 +68,7 @@ impl Server {
     // Takes in the pair of a WRITE.
     pub fn write(mut self, p: Stamped) -> Self
         requires { ⌜ p .kept ≡ true ⌝ }
-        ensures { λ r. ⌜ server r ≡ written (keyOf p) (server self) ⌝ }
+        ensures { λ r. ⌜ server r ≡ written (p .number) (server self) ⌝ }
     {
         let kept = self.kept;
         let more = store::insert(kept, p);

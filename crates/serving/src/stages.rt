@@ -5,7 +5,7 @@ ghost use Prim.Native.Nat.{_≤_};
 ghost use Rattle.calendar.specs.Bits.{bit};
 ghost use Rattle.calendar.specs.Layout.{places};
 ghost use Rattle.serving.specs.Bits.{sets, listed};
-ghost use Rattle.serving.specs.Stored.{keys, pairOf, server, saidBy, deliveredTo};
+ghost use Rattle.serving.specs.Stored.{keys, server, saidBy, deliveredTo};
 ghost use Rattle.serving.specs.Stages.{silent, within, quorate, taken, voting, withWrite, deliveredOf, movedOn};
 use super::Delivery;
 use super::Row;
@@ -18,7 +18,6 @@ use super::sets;
 use super::store;
 use calendar::DEPTH;
 use calendar::NO_PAIR;
-use calendar::PLACES;
 use calendar::Stamped;
 
 // Do these voters for a pair make a quorum.
@@ -52,14 +51,13 @@ fn take_in(
     kept: [Stamped; DEPTH],
     fresh: Voters,
     old: Voters,
-    values: &[u32; PLACES],
     low: usize,
     high: usize,
     m: usize,
     rules: Rules,
 ) -> [Stamped; DEPTH]
     requires { ⌜ (m ≤ places) × (1 ≤ rules .echo) × (1 ≤ rules .reply) ⌝ }
-    ensures { λ r. ⌜ keys r ≡ taken (λ j. within low high j && voting (rules .echo) (rules .reply) (sets (listed fresh)) (sets (listed old)) j) (pairOf (now (values .entry))) m (keys kept) ⌝ }
+    ensures { λ r. ⌜ keys r ≡ taken (λ j. within low high j && voting (rules .echo) (rules .reply) (sets (listed fresh)) (sets (listed old)) j) m (keys kept) ⌝ }
 {
     let end = sets::lower(high, m);
     let mut k = kept;
@@ -71,7 +69,6 @@ fn take_in(
             let p = Stamped {
                 kept: true,
                 number: j as u8,
-                value: values[j],
             };
             let more = store::insert(k, p);
             k = more;
@@ -115,23 +112,22 @@ pub fn deliver(
     wrote: u8,
     asks: u8,
     live: u8,
-    values: &[u32; PLACES],
     low: usize,
     high: usize,
     m: usize,
     rules: Rules,
 ) -> Delivery
     requires { ⌜ (m ≤ places) × (1 ≤ rules .echo) × (1 ≤ rules .reply) ⌝ }
-    ensures { λ r. ⌜ deliveredTo s r ≡ deliveredOf (pairOf (now (values .entry))) m (λ j. within low high j && voting (rules .echo) (rules .reply) (server s .fresh) (server s .old) j)
+    ensures { λ r. ⌜ deliveredTo s r ≡ deliveredOf m (λ j. within low high j && voting (rules .echo) (rules .reply) (server s .fresh) (server s .old) j)
         wrote (server s .fresh) (λ x. bit x asks) (λ x. bit x live) (server s) ⌝ }
 {
     let status = s.status;
     let before = s.kept;
     let fresh = s.fresh;
     let old = s.old;
-    let wrote_to = s.take_write(wrote, values, m);
+    let wrote_to = s.take_write(wrote, m);
     let first = wrote_to.kept;
-    let kept = take_in(first, fresh, old, values, low, high, m, rules);
+    let kept = take_in(first, fresh, old, low, high, m, rules);
     let pending = (s.pending & live) | asks;
     let readers = replied(
         servers::is_correct(status),
@@ -150,16 +146,15 @@ pub fn deliver(
 
 impl Server {
     // The WRITE's pair, if it is a known one.
-    fn take_write(self, wrote: u8, values: &[u32; PLACES], m: usize) -> Self
+    fn take_write(self, wrote: u8, m: usize) -> Self
         requires { ⌜ m ≤ places ⌝ }
-        ensures { λ r. ⌜ server r ≡ withWrite (pairOf (now (values .entry))) m wrote (server self) ⌝ }
+        ensures { λ r. ⌜ server r ≡ withWrite m wrote (server self) ⌝ }
     {
         let at = wrote as usize;
         if at < m {
             let p = Stamped {
                 kept: true,
                 number: wrote,
-                value: values[at],
             };
             return self.write(p);
         }

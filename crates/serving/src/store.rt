@@ -7,21 +7,17 @@ ghost use lib.ListN.{take};
 ghost use Rattle.register.specs.Lists.{sameList};
 ghost use Rattle.register.specs.Server.{insert};
 ghost use Rattle.calendar.specs.Layout.{places, depth};
-ghost use Rattle.serving.specs.Stored.{keys, keyOf, placeOf, pairOf, putAt};
+ghost use Rattle.serving.specs.Stored.{keys, placeOf, putAt};
 ghost use Rattle.serving.specs.Stages.{isNew, anyNew};
 use calendar::DEPTH;
-use calendar::PLACES;
 use calendar::Stamped;
 
-// How many values a place has room for, whatever a plan's values have.
-const VALUES: u64 = 4294967296;
-
-// A place as a number, by which places are compared: 0 if it is empty, else one more than its pair, by number, then by value.
-fn place(p: Stamped) -> u64
+// A place as a number, by which places are compared: 0 if it is empty, else one more than its pair's.
+fn place(p: Stamped) -> u16
     ensures { λ r. ⌜ r ≡ placeOf p ⌝ }
 {
     if p.kept {
-        return 1 + (p.number as u64) * VALUES + p.value as u64;
+        return 1 + p.number as u16;
     }
     0
 }
@@ -46,7 +42,7 @@ fn put_at(kept: [Stamped; DEPTH], p: Stamped, at: usize) -> [Stamped; DEPTH]
 // 'Each box keeps at most three pairs, those of highest number': the store with p put in its place.
 pub fn insert(kept: [Stamped; DEPTH], p: Stamped) -> [Stamped; DEPTH]
     requires { ⌜ p .kept ≡ true ⌝ }
-    ensures { λ r. ⌜ keys r ≡ take depth (insert (keyOf p) (keys kept)) ⌝ }
+    ensures { λ r. ⌜ keys r ≡ take depth (insert (p .number) (keys kept)) ⌝ }
 {
     let mine = place(p);
     let mut i: usize = 0;
@@ -66,7 +62,7 @@ pub fn insert(kept: [Stamped; DEPTH], p: Stamped) -> [Stamped; DEPTH]
 // Would p change the store: not if the store has it, or is full of higher ones.
 fn is_new(kept: [Stamped; DEPTH], p: Stamped) -> bool
     requires { ⌜ p .kept ≡ true ⌝ }
-    ensures { λ r. ⌜ r ≡ isNew (keyOf p) (keys kept) ⌝ }
+    ensures { λ r. ⌜ r ≡ isNew (p .number) (keys kept) ⌝ }
 {
     let mine = place(p);
     let mut i: usize = 0;
@@ -81,16 +77,15 @@ fn is_new(kept: [Stamped; DEPTH], p: Stamped) -> bool
 }
 
 // Would one of the known pairs low .. high - 1 change the store.
-pub fn is_any_new(kept: [Stamped; DEPTH], values: &[u32; PLACES], low: usize, high: usize) -> bool
+pub fn is_any_new(kept: [Stamped; DEPTH], low: usize, high: usize) -> bool
     requires { ⌜ high ≤ places ⌝ }
-    ensures { λ r. ⌜ r ≡ anyNew (pairOf (now (values .entry))) (keys kept) low high ⌝ }
+    ensures { λ r. ⌜ r ≡ anyNew (keys kept) low high ⌝ }
 {
     let mut j = low;
     while j < high {
         let p = Stamped {
             kept: true,
             number: j as u8,
-            value: values[j],
         };
         if is_new(kept, p) {
             return true;
@@ -107,7 +102,6 @@ pub fn none() -> [Stamped; DEPTH]
     [Stamped {
         kept: false,
         number: 0,
-        value: 0,
     }; DEPTH]
 }
 

@@ -6,12 +6,14 @@ use mathlib.Core.List.{List, [], _∷_, _++_, map, map-append}
 use Prim.Native.Nat.{ℕ, suc, _+_, _-_, _≤_, _<_}
 use native.Mathlib.Numerals.{add-one}
 use native.Mathlib.Omega.{arith}
-use lib.ListN.{length, take, drop, getD, set, replicate, length-append, length-drop, length-map, drop-of-length-le}
-use lib.Seq.{drop-cons, take-suc, take-all, length-take-le, append-snoc, set-at}
+use lib.ListN.{length, take, drop, getD, set, replicate, length-append, length-drop, length-map, drop-of-length-le, List·getD-map}
+use lib.Seq.{drop-cons, take-suc, take-suc-set, take-all, length-take-le, append-snoc, set-at}
 use Rattle.plan.specs.Packed.{storeDepth}
-use Rattle.calendar.specs.declared.Stamped.{Stamped as Place}
+use Rattle.simulator.specs.declared.look.Place.{Place}
 use Rattle.simulator.specs.Look.{Stamped, placeWith, emptyPlace, placesOf}
-use Rattle.simulator.specs.Numbered.{shownIn}
+use Rattle.simulator.specs.Numbered.{valuedPlace, shownIn}
+use Rattle.calendar.specs.declared.Stamped.{Stamped as Kept}
+use Rattle.calendar.specs.Posts.{vacant}
 
 abbrev pub pairOf : Place → Stamped
 pairOf p = record { value = p .value; number = p .number }
@@ -44,6 +46,12 @@ place-more pairs p l e =
     let less : storeDepth - length (pairs ++ (pairOf p ∷ [])) ≡ storeDepth - suc (length pairs) = omega (arith, length-append pairs (pairOf p ∷ [])) in
     rw (left, less, map-append placeWith pairs (pairOf p ∷ []), append-snoc, ← whole p e)
     (set-at (map placeWith pairs) emptyPlace (replicate (storeDepth - suc (length pairs)) emptyPlace) p (length pairs) (length-map pairs placeWith))
+
+-- one more place of a store with its value
+pub valued-more : (values : List ℕ) (kept : List Kept) (places : List Place) (i : ℕ) (v : Place) → i < length kept → i < length places
+    → take i places ≡ take i (map (valuedPlace values) kept) → v ≡ valuedPlace values (getD kept i vacant) → take (i + 1) (set places i v) ≡ take (i + 1) (map (valuedPlace values) kept)
+valued-more values kept places i v h l e q =
+    rw (add-one i, take-suc-set places i v l, take-suc (map (valuedPlace values) kept) i (valuedPlace values vacant) (omega (arith, length-map kept (valuedPlace values))), List·getD-map (valuedPlace values) kept i vacant, e, q)
 
 module _ (ps : List Place) (k : ℕ) (h : Passed ps k) where
   -- all are passed where no pair is left

@@ -10,7 +10,7 @@ use Rattle.register.specs.Cluster.{cluster, serverOf}
 use Rattle.plan.specs.Header.{Header, headerOf}
 use Rattle.plan.specs.Packed.{storeDepth, planOf}
 use Rattle.plan.specs.Check.{Outcome, refused, result, checkOf}
-use Rattle.calendar.specs.declared.Stamped.{Stamped as Place}
+use Rattle.simulator.specs.declared.look.Place.{Place}
 use Rattle.answers.specs.Workspace.{workspaceSize, zeroed}
 
 -- 'held, curing or sound'

@@ -6,7 +6,9 @@ use Prim.Native.Nat.{ℕ}
 use Rattle.register.specs.Server.{Status, faulty, cured, correct}
 use Rattle.plan.specs.Check.{Outcome, refused, result}
 use Rattle.plan.specs.Numbered.{refusalNumber}
-use Rattle.calendar.specs.declared.Stamped.{Stamped as Place}
+use lib.ListN.{getD}
+use Rattle.calendar.specs.declared.Stamped.{Stamped as Kept}
+use Rattle.simulator.specs.declared.look.Place.{Place}
 use Rattle.simulator.specs.declared.play.Played.{Played}
 use Rattle.simulator.specs.declared.play.Played.the-variants as P
 use Rattle.simulator.specs.declared.look.Seen.{Seen}
@@ -25,6 +27,10 @@ played (P.Reads m) = result m
 played (P.Refused r) = refused (refusalNumber r)
 played P.AnswersShort = refused 9
 played P.WorkspaceShort = refused 10
+
+-- a place of a store with the value of its pair, from the table of the known pairs
+abbrev pub valuedPlace : List ℕ → Kept → Place
+valuedPlace values p = record { kept = p .kept; number = p .number; value = getD values (p .number) 0 }
 
 -- the pairs in the places before the first empty one
 unfoldable pub shownIn : List Place → List Stamped

@@ -1,10 +1,12 @@
 // What Look returns, made of a server's condition and its store.
 ghost use mathlib.Core.Path.{_≡_};
-ghost use mathlib.Core.List.{[]};
+ghost use mathlib.Core.List.{[], map};
+ghost use lib.ListN.{getD};
 ghost use Rattle.serving.specs.Stored.{statusOf};
 ghost use Rattle.simulator.specs.Look.{placesOf};
-ghost use Rattle.simulator.specs.Numbered.{seenOf, shownIn};
+ghost use Rattle.simulator.specs.Numbered.{seenOf, valuedPlace, shownIn};
 use calendar::DEPTH;
+use calendar::PLACES;
 use calendar::Stamped;
 use plan::Refusal;
 use serving::Status;
@@ -19,10 +21,17 @@ pub enum Seen {
     OutOfRange,
 }
 
+// A pair that Look shows, or an empty place (document 01: a pair).
+pub struct Place {
+    pub kept: bool,
+    pub number: u8,
+    pub value: u32,
+}
+
 // The server's pairs stand beside it, highest number first, then empty places; beside a refusal all places are empty.
 pub struct Looked {
     pub seen: Seen,
-    pub places: [Stamped; DEPTH],
+    pub places: [Place; DEPTH],
 }
 
 pub fn condition(status: Status) -> Seen
@@ -35,10 +44,10 @@ pub fn condition(status: Status) -> Seen
     }
 }
 
-fn empty_places() -> [Stamped; DEPTH]
+fn empty_places() -> [Place; DEPTH]
     ensures { λ r. ⌜ r ≡ placesOf [] ⌝ }
 {
-    let empty = Stamped {
+    let empty = Place {
         kept: false,
         number: 0,
         value: 0,
@@ -46,8 +55,37 @@ fn empty_places() -> [Stamped; DEPTH]
     [empty; DEPTH]
 }
 
+// The value of a known pair, by its number.
+fn value_of(values: [u32; PLACES], number: u8) -> u32
+    ensures { λ r. ⌜ r ≡ getD values number 0 ⌝ }
+{
+    let at = number as usize;
+    if at < PLACES {
+        return values[at];
+    }
+    0
+}
+
+// A store's places with the values of their pairs.
+pub fn valued(kept: [Stamped; DEPTH], values: [u32; PLACES]) -> [Place; DEPTH]
+    ensures { λ r. ⌜ r ≡ map (valuedPlace values) kept ⌝ }
+{
+    let mut places = empty_places();
+    let mut i: usize = 0;
+    while i < DEPTH {
+        let p = kept[i];
+        places[i] = Place {
+            kept: p.kept,
+            number: p.number,
+            value: value_of(values, p.number),
+        };
+        i += 1;
+    }
+    places
+}
+
 // The pairs of a store, which stand before its first empty place, and nothing behind them.
-pub fn shown_places(kept: [Stamped; DEPTH]) -> [Stamped; DEPTH]
+pub fn shown_places(kept: [Place; DEPTH]) -> [Place; DEPTH]
     ensures { λ r. ⌜ r ≡ placesOf (shownIn kept) ⌝ }
 {
     let mut shown = empty_places();

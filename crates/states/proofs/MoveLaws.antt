@@ -11,13 +11,12 @@ use Rattle.register.specs.Server.{cured, isFaulty, isCorrect, has, Server, Out,
 use Rattle.register.proofs.Logic.{T-eq, F-eq}
 use Rattle.register.proofs.Lists.{any-append}
 use Rattle.register.proofs.Rising.{member-map}
-use Rattle.serving.specs.Stored.{Plain, Both, recoded}
-use Rattle.serving.proofs.Recoding.{narrow, recoded-rising}
+use Rattle.serving.specs.Stored.{Plain, Both}
 use Rattle.serving.specs.Stages.{noVotes, blankAs, turned, movedOn, stageFour}
 use Rattle.states.specs.State.{Votes, Rep}
 use Rattle.states.proofs.Told.{Mid, End}
 
-module _ (P : Plan) (g : ℕ → ℕ) (m : ℕ) where
+module _ (P : Plan) (g : ℕ → ℕ) (rising : (i j : ℕ) → i < j → g i < g j) (m : ℕ) where
   no-votes : (l : List ℕ) → Votes P g m l [] noVotes
   unfolding has any
   no-votes l j i h n = sym (and-false (ltb i (P .n)))
@@ -103,15 +102,14 @@ module _ (P : Plan) (g : ℕ → ℕ) (m : ℕ) where
           (record { server = ms; said = record { wrote = q .said .wrote; echoed = isCorrect (ms .status); readers = q .said .readers; pairs = q .said .pairs } })
       go true y =
           let w = correct-kept t h (o .server) (rw y tt) in
-          let k : map (recoded 16) (mb .kept) ≡ q .said .pairs = ap (map (recoded 16)) (w .1 ∙ sym (M .whole (w .0))) ∙ M .sent .pairs in
+          let k : mb .kept ≡ map g (q .said .pairs) = w .1 ∙ sym (M .whole (w .0)) ∙ M .sent .pairs in
           let z : isCorrect (ms .status) ≡ true = rw (R .status) at y in
           record {
             server = R;
             sent = record {
-              votes = λ j l. any-append (λ p. eqb p (g j)) (o .sent .votes) (mb .kept) ∙ rw (z, ← k, member-map (recoded 16) (recoded-rising 16 narrow) (g j) (mb .kept), quiet-votes j l);
+              votes = λ j l. any-append (λ p. eqb p (g j)) (o .sent .votes) (mb .kept) ∙ rw (z, k, member-map g rising j (q .said .pairs), quiet-votes j l);
               readers = M .sent .readers;
               pairs = M .sent .pairs;
-              short = M .sent .short;
               early = M .sent .early;
             };
           }
@@ -119,7 +117,7 @@ module _ (P : Plan) (g : ℕ → ℕ) (m : ℕ) where
           let z : isCorrect (ms .status) ≡ false = rw (R .status) at y in
           record {
             server = R;
-            sent = record { votes = λ j l. quiet-votes j l ∙ rw z (sym (or-false (eqb j (q .said .wrote)))); readers = M .sent .readers; pairs = M .sent .pairs; short = M .sent .short; early = M .sent .early };
+            sent = record { votes = λ j l. quiet-votes j l ∙ rw z (sym (or-false (eqb j (q .said .wrote)))); readers = M .sent .readers; pairs = M .sent .pairs; early = M .sent .early };
           }
 
   pub still-rep : (t b : ℕ) (o : Out) (q : Both) → T (not (isMove P t)) → Mid P g m t o q → End P g m t (stage4 P t (stage3 P t b o)) q

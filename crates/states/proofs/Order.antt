@@ -3,20 +3,21 @@
 use mathlib.Core.Path.{_≡_, refl, sym, ap, _∙_}
 use mathlib.Core.Bool.{Bool, true, false, _||_, cond}
 use mathlib.Core.Logic.{_⊎_, inl, inr}
-use mathlib.Core.List.{List, [], _∷_, _++_}
+use mathlib.Core.List.{List, [], _∷_, _++_, map}
 use Prim.Native.Nat.{ℕ, zero, suc, _≤_, _<_}
 use native.Mathlib.Omega.{arith}
 use native.Mathlib.Decide.{ℕ-discrete}
 use lib.Dec.{T, ltb, eqb, eqb→eq, eqb-refl, ltb→lt, lt→ltb}
-use lib.ListN.{length, take, length-take}
+use lib.ListN.{length, take, length-take, length-map}
 use lib.Seq.{take-take, take-all}
 use Rattle.register.specs.Lists.{In}
 use Rattle.register.specs.Server.{insert, insertAll, takeIn}
 use Rattle.register.proofs.Logic.{or-e, or-l, or-r}
 use Rattle.register.proofs.Lists.{in-append, in-left, in-right}
+use Rattle.register.proofs.Rising.{take-map, insert-map, same-map}
 use Rattle.register.proofs.Stores.{Falling, in-insertAll, falling-insertAll, insertAll-in}
 use Rattle.calendar.specs.Layout.{depth}
-use Rattle.serving.specs.Stages.{taken}
+use Rattle.serving.specs.Stages.{isNew, taken}
 
 -- two falling lists with the same members are equal
 falling-ext : (l m : List ℕ) → Falling l → Falling m → ((q : ℕ) → In q l → In q m) → ((q : ℕ) → In q m → In q l) → l ≡ m
@@ -83,15 +84,6 @@ unfolding insertAll
 all-append [] b l = refl
 all-append (x ∷ a) b l = all-append a b (insert x l)
 
-taken-picked : (c : ℕ → Bool) (g : ℕ → ℕ) (m : ℕ) (l : List ℕ) → length l ≤ depth → taken c g m l ≡ takeIn depth (picked c g m) l
-unfolding taken picked takeIn insertAll
-taken-picked c g zero l h = sym (take-all depth l h)
-taken-picked c g (suc j) l h = rw (taken-picked c g j l h, all-append (picked c g j) (cond (c j) (g j ∷ []) []) l) (go (c j))
-  where
-    go : (b : Bool) → cond b (take depth (insert (g j) (take depth (insertAll (picked c g j) l)))) (take depth (insertAll (picked c g j) l)) ≡ take depth (insertAll (cond b (g j ∷ []) []) (insertAll (picked c g j) l))
-    go true = take-insert depth (g j) (insertAll (picked c g j) l)
-    go false = refl
-
 picked-in : (c : ℕ → Bool) (g : ℕ → ℕ) (m j : ℕ) → j < m → T (c j) → In (g j) (picked c g m)
 unfolding picked
 picked-in c g zero j h t = absurd (omega arith)
@@ -122,38 +114,58 @@ in-picked c g (suc m) q i = go (in-append q (picked c g m) _ i) (in-picked c g m
     go (inl h) ih = let r = ih h in (r .0, omega arith, r .2, r .3)
     go (inr h) ih = one (c m) refl h
 
--- the WRITE's pair first, then the others by number, is taking in, for the same set
-pub by-number : (c : ℕ → Bool) (g : ℕ → ℕ) (m w : ℕ) (ps l : List ℕ) → Falling l → length l ≤ depth
-    → ((q : ℕ) → In q ps → (j : ℕ) × (j < m) × T (eqb j w || c j) × (q ≡ g j)) → ((j : ℕ) → j < m → T (eqb j w || c j) → In (g j) ps)
-    → takeIn depth ps l ≡ taken c g m (cond (ltb w m) (take depth (insert (g w) l)) l)
-unfolding takeIn insertAll
-by-number c g m w ps l d h f k = go (ltb w m) refl
-  where
-    others : (q : ℕ) → In q (picked c g m) → In q ps
-    others q i = let r = in-picked c g m q i in rw (r .3) (k (r .0) (r .1) (or-r (eqb (r .0) w) (c (r .0)) (r .2)))
+-- ---- the engine's stores have the numbers of known pairs, pair j is g j
 
-    go : (b : Bool) → ltb w m ≡ b → takeIn depth ps l ≡ taken c g m (cond b (take depth (insert (g w) l)) l)
-    go false e = take-in-set depth ps (picked c g m) l d to others ∙ sym (taken-picked c g m l h)
-      where
-        to : (q : ℕ) → In q ps → In q (picked c g m)
-        to q i =
-            let r = f q i in
-            elim (or-e (eqb (r .0) w) (c (r .0)) (r .2)) [
-              | inl x ↦ absurd (rw e at (lt→ltb w m (omega (arith, r .1, eqb→eq (r .0) w x))))
-              | inr y ↦ rw (r .3) (picked-in c g m (r .0) (r .1) y)
-            ]
-    go true e =
-        take-in-set depth ps (g w ∷ picked c g m) l d to from
-        ∙ sym (taken-picked c g m (take depth (insert (g w) l)) (omega (arith, length-take depth (insert (g w) l))) ∙ take-insertAll depth (picked c g m) (insert (g w) l))
-      where
-        to : (q : ℕ) → In q ps → In q (g w ∷ picked c g m)
-        to q i =
-            let r = f q i in
-            elim (or-e (eqb (r .0) w) (c (r .0)) (r .2)) [
-              | inl x ↦ inl (r .3 ∙ ap g (eqb→eq (r .0) w x))
-              | inr y ↦ inr (rw (r .3) (picked-in c g m (r .0) (r .1) y))
-            ]
+module _ (g : ℕ → ℕ) (rising : (i j : ℕ) → i < j → g i < g j) where
+  pub new-number : (j : ℕ) (l : List ℕ) → isNew (g j) (map g l) ≡ isNew j l
+  unfolding isNew
+  new-number j l = rw (insert-map g rising j l, take-map g depth (insert j l), same-map g rising (take depth (insert j l)) l)
 
-        from : (q : ℕ) → In q (g w ∷ picked c g m) → In q ps
-        from q (inl x) = rw x (k w (ltb→lt w m (rw e tt)) (or-l (eqb w w) (c w) (eqb-refl w)))
-        from q (inr y) = others q y
+  put-number : (j : ℕ) (l : List ℕ) → map g (take depth (insert j l)) ≡ take depth (insert (g j) (map g l))
+  put-number j l = rw (insert-map g rising j l, take-map g depth (insert j l))
+
+  taken-picked : (c : ℕ → Bool) (m : ℕ) (l : List ℕ) → length l ≤ depth → map g (taken c m l) ≡ takeIn depth (picked c g m) (map g l)
+  unfolding taken picked takeIn insertAll
+  taken-picked c zero l h = sym (take-all depth (map g l) (rw (length-map l g) h))
+  taken-picked c (suc j) l h = rw (all-append (picked c g j) (cond (c j) (g j ∷ []) []) (map g l)) (go (c j) (taken-picked c j l h))
+    where
+      go : (b : Bool) → map g (taken c j l) ≡ take depth (insertAll (picked c g j) (map g l))
+          → map g (cond b (take depth (insert j (taken c j l))) (taken c j l)) ≡ take depth (insertAll (cond b (g j ∷ []) []) (insertAll (picked c g j) (map g l)))
+      go true e = put-number j (taken c j l) ∙ rw e (take-insert depth (g j) (insertAll (picked c g j) (map g l)))
+      go false e = e
+
+  -- the WRITE's pair first, then the others by number, is taking in, for the same set
+  pub by-number : (c : ℕ → Bool) (m w : ℕ) (ps l : List ℕ) → Falling (map g l) → length l ≤ depth
+      → ((q : ℕ) → In q ps → (j : ℕ) × (j < m) × T (eqb j w || c j) × (q ≡ g j)) → ((j : ℕ) → j < m → T (eqb j w || c j) → In (g j) ps)
+      → takeIn depth ps (map g l) ≡ map g (taken c m (cond (ltb w m) (take depth (insert w l)) l))
+  unfolding takeIn insertAll
+  by-number c m w ps l d h f k = go (ltb w m) refl
+    where
+      others : (q : ℕ) → In q (picked c g m) → In q ps
+      others q i = let r = in-picked c g m q i in rw (r .3) (k (r .0) (r .1) (or-r (eqb (r .0) w) (c (r .0)) (r .2)))
+
+      go : (b : Bool) → ltb w m ≡ b → takeIn depth ps (map g l) ≡ map g (taken c m (cond b (take depth (insert w l)) l))
+      go false e = take-in-set depth ps (picked c g m) (map g l) d to others ∙ sym (taken-picked c m l h)
+        where
+          to : (q : ℕ) → In q ps → In q (picked c g m)
+          to q i =
+              let r = f q i in
+              elim (or-e (eqb (r .0) w) (c (r .0)) (r .2)) [
+                | inl x ↦ absurd (rw e at (lt→ltb w m (omega (arith, r .1, eqb→eq (r .0) w x))))
+                | inr y ↦ rw (r .3) (picked-in c g m (r .0) (r .1) y)
+              ]
+      go true e =
+          take-in-set depth ps (g w ∷ picked c g m) (map g l) d to from
+          ∙ sym (taken-picked c m (take depth (insert w l)) (omega (arith, length-take depth (insert w l))) ∙ ap (takeIn depth (picked c g m)) (put-number w l) ∙ take-insertAll depth (picked c g m) (insert (g w) (map g l)))
+        where
+          to : (q : ℕ) → In q ps → In q (g w ∷ picked c g m)
+          to q i =
+              let r = f q i in
+              elim (or-e (eqb (r .0) w) (c (r .0)) (r .2)) [
+                | inl x ↦ inl (r .3 ∙ ap g (eqb→eq (r .0) w x))
+                | inr y ↦ inr (rw (r .3) (picked-in c g m (r .0) (r .1) y))
+              ]
+
+          from : (q : ℕ) → In q (g w ∷ picked c g m) → In q ps
+          from q (inl x) = rw x (k w (ltb→lt w m (rw e tt)) (or-l (eqb w w) (c w) (eqb-refl w)))
+          from q (inr y) = others q y

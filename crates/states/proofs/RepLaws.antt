@@ -18,19 +18,18 @@ use Rattle.register.proofs.Logic.{or-e, or-l, or-r}
 use Rattle.register.proofs.Lists.{in-append, in-left, in-right, in-filter, filter-in, any-in, in-any, any-append}
 use Rattle.register.proofs.Good.{Good}
 use Rattle.register.proofs.Genuine.{Genuine, genuine-cases}
-use Rattle.register.proofs.Rising.{same-map}
+use Rattle.register.proofs.Rising.{same-map, member-map}
 use Rattle.register.proofs.Stores.{Falling}
 use Rattle.register.proofs.Claims.{quorum-named}
 use Rattle.register.proofs.Safety.{FreshSafe, OldSafe, ServerSafe, voted-genuine}
-use Rattle.serving.specs.Stored.{Plain, Both, recoded}
+use Rattle.serving.specs.Stored.{Plain, Both}
 use Rattle.serving.specs.Stages.{restated, silent, quorate, isNew, taken, voting, withWrite, repliesTo, delivered, deliveredOf, stageOne, stageTwo}
 use Rattle.cluster.specs.Inputs.{Knows}
 use Rattle.states.specs.State.{Votes, Rep}
 use Rattle.serving.proofs.StageLaws.{write-kept}
-use Rattle.serving.proofs.Recoding.{narrow, recoded-rising, first-recoded, taken-recoded}
 use Rattle.states.proofs.Told.{Mid, Came}
 use Rattle.calendar.specs.Layout.{depth}
-use Rattle.states.proofs.Order.{by-number}
+use Rattle.states.proofs.Order.{new-number, by-number}
 use Rattle.cluster.proofs.Settled.{written-alike, new-before}
 
 -- ---- counting by masks
@@ -51,10 +50,6 @@ count-cut p n (suc k) h = go (decLe n k) (λ l. count-cut p n k l)
     go (no l) ih = let e : n ≡ suc k = omega arith in rw e (count-in p (suc k) (suc k) (omega arith))
 
 module _ (P : Plan) (G : Good P) (g : ℕ → ℕ) (m : ℕ) (K : Knows P g m) where
-  -- pair j as the engine keeps it
-  abbrev pub wide : ℕ → ℕ
-  wide j = recoded 16 (g j)
-
   -- a genuine pair has a number
   pub genuine-known : (t p : ℕ) → Genuine P t p → (j : ℕ) × (j < m) × (p ≡ g j)
   genuine-known t p h = elim (genuine-cases P t p h) [
@@ -72,16 +67,16 @@ module _ (P : Plan) (G : Good P) (g : ℕ → ℕ) (m : ℕ) (K : Knows P g m) w
       ap (λ (q : ℕ → Bool). count q 16) (fun-ext (λ i. rw (hf i, ho i) (sym (and-or-distrib-left (ltb i (P .n)) (has fresh p i) (has old p i))))) ∙ count-cut (λ i. has fresh p i || has old p i) (P .n) 16 (K .servers) in
       rw (a, b)
 
-  -- what is taken in
-  kept-rep : (t c : ℕ) (x : Server) (ws : List ℕ) (fresh : List Claim) (w : ℕ) (votes old : ℕ → ℕ → Bool) → Falling (x .kept) → length (x .kept) ≤ depth
+  -- what is taken in, by numbers
+  kept-rep : (t c : ℕ) (x : Server) (l ws : List ℕ) (fresh : List Claim) (w : ℕ) (votes old : ℕ → ℕ → Bool) → x .kept ≡ map g l → Falling (x .kept) → length l ≤ depth
       → ((p : ℕ) → In p ws → Genuine P t p) → ((v : Claim) → In v fresh → FreshSafe P t c v) → ((v : Claim) → In v (x .old) → OldSafe P t c v)
       → Votes P g m (x .kept) fresh votes → Votes P g m (x .kept) (x .old) old → ((j : ℕ) → j < m → member (g j) ws ≡ eqb j w)
-      → takeIn depth (ws ++ votedIn P fresh (x .old)) (x .kept) ≡ taken (voting (echoQuorum P) (replyQuorum P) votes old) g m (cond (ltb w m) (take depth (insert (g w) (x .kept))) (x .kept))
+      → takeIn depth (ws ++ votedIn P fresh (x .old)) (x .kept) ≡ map g (taken (voting (echoQuorum P) (replyQuorum P) votes old) m (cond (ltb w m) (take depth (insert w l)) l))
   unfolding votedIn
-  kept-rep t c x ws fresh w votes old d l wok vok ook ev eo ew =
-      by-number meant g m w (ws ++ qs) (x .kept) d l to from
-      ∙ written-alike g m w (x .kept) l meant (voting (echoQuorum P) (replyQuorum P) votes old)
-      (λ j h n. sym (quorate-is fresh (x .old) (votes j) (old j) (g j) (λ i. ev j i h n) (λ i. eo j i h n)))
+  kept-rep t c x l ws fresh w votes old e d few wok vok ook ev eo ew =
+      rw e (by-number g (K .rising) meant m w (ws ++ qs) l (rw e at d) few to from)
+      ∙ ap (map g) (written-alike m w l few meant (voting (echoQuorum P) (replyQuorum P) votes old)
+      (λ j h n. let new : isNew (g j) (x .kept) ≡ true = rw (e, new-number g (K .rising) j l) n in sym (quorate-is fresh (x .old) (votes j) (old j) (g j) (λ i. ev j i h new) (λ i. eo j i h new))))
     where
       qs : List ℕ
       qs = filter (quorum P fresh (x .old)) (pairsOf (fresh ++ x .old))
@@ -142,7 +137,7 @@ module _ (P : Plan) (G : Good P) (g : ℕ → ℕ) (m : ℕ) (K : Knows P g m) w
     unlisted r i a = any-append (sameRead r) (x .pending) rs ∙ rw (R .unheard r i (omega arith)) (I .later r i a)
 
     pub one-rep : (c : ℕ) → ServerSafe P t c x → ((p : ℕ) → In p ws → Genuine P t p) → ((v : Claim) → In v (x .fresh ++ vs) → FreshSafe P t c v)
-        → Mid P g m t (stage1 P x ws vs rs) (stageOne wide m (echoQuorum P) (replyQuorum P) w votes asks live s)
+        → Mid P g m t (stage1 P x ws vs rs) (stageOne m (echoQuorum P) (replyQuorum P) w votes asks live s)
     unfolding stage1 stageOne deliver delivered deliveredOf any takeIn
     one-rep c ok wok vok = rw (ap isFaulty (R .status)) (go (isFaulty (s .status)) refl)
       where
@@ -158,21 +153,24 @@ module _ (P : Plan) (G : Good P) (g : ℕ → ℕ) (m : ℕ) (K : Knows P g m) w
         kept' : List ℕ
         kept' = takeIn (P .depth) cs (x .kept)
 
-        eqx : isFaulty (s .status) ≡ false → kept' ≡ taken (voting e q votes (s .old)) g m (cond (ltb w m) (take depth (insert (g w) (x .kept))) (x .kept))
+        -- the numbers of the pairs that it keeps then
+        now : List ℕ
+        now = taken (voting e q votes (s .old)) m (withWrite m w s .kept)
+
+        few : length (s .kept) ≤ depth
+        few = omega (arith, R .short, ap length (R .kept), length-map (s .kept) g)
+
+        eqx : isFaulty (s .status) ≡ false → kept' ≡ map g (taken (voting e q votes (s .old)) m (cond (ltb w m) (take depth (insert w (s .kept))) (s .kept)))
         eqx h =
             ap (λ (d : ℕ). takeIn d cs (x .kept)) (K .depth)
-            ∙ kept-rep t c x ws (x .fresh ++ vs) w votes (s .old) (ok .falling) (R .short) wok vok (ok .old) (I .tally (ap isFaulty (R .status) ∙ h)) (R .old) (I .wrote)
+            ∙ kept-rep t c x (s .kept) ws (x .fresh ++ vs) w votes (s .old) (R .kept) (ok .falling) few wok vok (ok .old) (I .tally (ap isFaulty (R .status) ∙ h)) (R .old) (I .wrote)
 
-        eqk : isFaulty (s .status) ≡ false → map (recoded 16) kept' ≡ taken (voting e q votes (s .old)) wide m (withWrite wide m w s .kept)
-        eqk h =
-            ap (map (recoded 16)) (eqx h)
-            ∙ sym (taken-recoded 16 narrow (voting e q votes (s .old)) g m (cond (ltb w m) (take depth (insert (g w) (x .kept))) (x .kept)))
-            ∙ ap (taken (voting e q votes (s .old)) wide m) (first-recoded 16 narrow (ltb w m) (g w) (x .kept))
-            ∙ ap (λ (l : List ℕ). taken (voting e q votes (s .old)) wide m (cond (ltb w m) (take depth (insert (wide w) l)) l)) (R .kept)
-            ∙ ap (taken (voting e q votes (s .old)) wide m) (sym (write-kept wide m w s))
+        eqk : isFaulty (s .status) ≡ false → kept' ≡ map g now
+        eqk h = eqx h ∙ ap (λ (l : List ℕ). map g (taken (voting e q votes (s .old)) m l)) (sym (write-kept m w s))
 
-        was-new : isFaulty (s .status) ≡ false → (p : ℕ) → isNew p kept' ≡ true → isNew p (x .kept) ≡ true
-        was-new h p n = new-before g m w (x .kept) (R .short) (voting e q votes (s .old)) p (rw (eqx h) at n)
+        was-new : isFaulty (s .status) ≡ false → (j : ℕ) → isNew (g j) kept' ≡ true → isNew (g j) (x .kept) ≡ true
+        was-new h j n = rw (R .kept, new-number g (K .rising) j (s .kept))
+            (new-before m w (s .kept) few (voting e q votes (s .old)) j (rw (eqx h, new-number g (K .rising) j _) at n))
 
         lst : ℕ → Bool
         lst y = (s .pending y && live y) || asks y
@@ -184,7 +182,7 @@ module _ (P : Plan) (G : Good P) (g : ℕ → ℕ) (m : ℕ) (K : Knows P g m) w
         none j h = rw (ne-eqb j 255 (λ z. omega (arith, K .few)))
 
         go : (b : Bool) → isFaulty (s .status) ≡ b
-            → Mid P g m t (cond b (record { server = x; sent = nothing }) (deliver P x ws vs rs)) (cond b (record { server = s; said = silent }) (delivered wide m e q w votes asks live s))
+            → Mid P g m t (cond b (record { server = x; sent = nothing }) (deliver P x ws vs rs)) (cond b (record { server = s; said = silent }) (delivered m e q w votes asks live s))
         go true h =
             let z = R .empty (rw (R .status, h) tt) in
             record {
@@ -198,7 +196,7 @@ module _ (P : Plan) (G : Good P) (g : ℕ → ℕ) (m : ℕ) (K : Knows P g m) w
                 unheard = λ r i a. rw (z .0);
                 empty = R .empty;
               };
-              sent = record { votes = none; readers = λ r i a b. refl; pairs = refl; short = omega arith; early = λ r i a. refl };
+              sent = record { votes = none; readers = λ r i a b. refl; pairs = refl; early = λ r i a. refl };
               whole = λ n. absurd (T-not (isFaulty (x .status)) n (rw (R .status, h) tt));
               quiet = refl;
             }
@@ -208,19 +206,17 @@ module _ (P : Plan) (G : Good P) (g : ℕ → ℕ) (m : ℕ) (K : Knows P g m) w
                 status = R .status;
                 kept = eqk h;
                 short = small;
-                fresh = λ j i l n. I .tally (ap isFaulty (R .status) ∙ h) j i l (was-new h (g j) n);
-                old = λ j i l n. R .old j i l (was-new h (g j) n);
+                fresh = λ j i l n. I .tally (ap isFaulty (R .status) ∙ h) j i l (was-new h j n);
+                old = λ j i l n. R .old j i l (was-new h j n);
                 heard = λ r i a b. list-rep r i (omega arith) (omega arith);
                 unheard = λ r i a. unlisted r i (omega arith);
                 empty = λ y. absurd (T-not (isFaulty (x .status)) (rw (R .status, h) tt) y);
               };
               sent = record {
                 votes = λ j l. I .wrote j l ∙ sym (or-false (eqb j w));
-                readers = λ r i a b. rw (R .status, ← same-map (recoded 16) (recoded-rising 16 narrow) (x .kept) kept', eqk h, R .kept)
-                    (replies-rep r (isCorrect (s .status)) (sameList (s .kept) (taken (voting e q votes (s .old)) wide m (withWrite wide m w s .kept))) rs (x .pending ++ rs) asks lst
-                    (I .asking r i a b) (list-rep r i a b));
+                readers = λ r i a b. rw (R .status, eqk h, R .kept, same-map g (K .rising) (s .kept) now)
+                    (replies-rep r (isCorrect (s .status)) (sameList (s .kept) now) rs (x .pending ++ rs) asks lst (I .asking r i a b) (list-rep r i a b));
                 pairs = eqk h;
-                short = rw (← eqk h) (omega (arith, small, length-map kept' (recoded 16)));
                 early = λ r i a. not-replied r (isCorrect (x .status)) (sameList (x .kept) kept') rs (x .pending ++ rs) (I .later r i a) (unlisted r i a);
               };
               whole = λ n. refl;
@@ -250,7 +246,7 @@ module _ (P : Plan) (G : Good P) (g : ℕ → ℕ) (m : ℕ) (K : Knows P g m) w
       go false h = M
       go true h =
           let f : T (not (isFaulty (o .server .status))) = rw (M .server .status) (free (q .server .status) (rw h tt)) in
-          let e : q .said .pairs ≡ q .server .kept = sym (M .sent .pairs) ∙ ap (map (recoded 16)) (M .whole f) ∙ M .server .kept in
+          let e : map g (q .said .pairs) ≡ map g (q .server .kept) = sym (M .sent .pairs) ∙ M .whole f ∙ M .server .kept in
           record {
             server = record {
               status = refl;
@@ -263,10 +259,9 @@ module _ (P : Plan) (G : Good P) (g : ℕ → ℕ) (m : ℕ) (K : Knows P g m) w
               empty = λ y. absurd y;
             };
             sent = record {
-              votes = λ j l. M .sent .votes j l ∙ rw e;
+              votes = λ j l. M .sent .votes j l ∙ rw (← member-map g (K .rising) j (q .said .pairs), e, member-map g (K .rising) j (q .server .kept));
               readers = λ r i a b. M .server .heard r i (omega arith) (omega arith);
               pairs = M .server .kept;
-              short = rw (← M .server .kept) (omega (arith, M .server .short, length-map (o .server .kept) (recoded 16)));
               early = λ r i a. M .server .unheard r i (omega arith);
             };
             whole = λ n. refl;

@@ -9,7 +9,7 @@ use lib.Dec.{ltb}
 use lib.ListN.{getD}
 use borrow.Author.Tests.{le-ltb}
 use Rattle.register.specs.Lists.{any, anyUpTo, In}
-use Rattle.register.specs.Plan.{Plan, Read, readEnd, echoQuorum, replyQuorum, stamped}
+use Rattle.register.specs.Plan.{Plan, Read, readEnd, echoQuorum, replyQuorum}
 use Rattle.register.specs.Server.{has}
 use Rattle.register.specs.Cluster.{serverOf, cluster}
 use Rattle.register.specs.Reading.{notedBy}
@@ -21,7 +21,7 @@ use Rattle.calendar.proofs.Spans.{empty-spanned}
 use Rattle.cluster.specs.declared.Cluster.{Cluster}
 use Rattle.cluster.specs.declared.Reader.{Reader}
 use Rattle.serving.specs.Bits.{sets}
-use Rattle.serving.specs.Stored.{valueBits, server, recoded, absent}
+use Rattle.serving.specs.Stored.{server, absent}
 use Rattle.cluster.specs.Inputs.{pairAt, Knows, Fits}
 use Rattle.cluster.specs.Tick.{Feed, Ticked, Started, noReader}
 use Rattle.states.specs.Way.{forgedAs, voteWay}
@@ -35,7 +35,7 @@ use Rattle.states.proofs.ReaderLaws.{Begins, Forges, noted-end as reade
 -- the servers are settled, so that a tick may leave alone those that nothing reaches
 pub calm : (P : Plan) (F : Feed) → Fits P (F .t) (F .plan) (F .rules) (F .known) (F .links) (F .arrivals) (F .movement) → (c : Cluster)
     → State P (pairAt (F .known)) (F .known .m) (F .t) c (F .work) → Calm (F .rules) (F .known) (c .servers)
-calm P F fit c S b l = rw (fit .echo, fit .reply, fit .pairs) (S .settled b (omega (arith, fit .n)))
+calm P F fit c S b l = rw (fit .echo, fit .reply) (S .settled b (omega (arith, fit .n)))
 
 module _ (P : Plan) (G : Good P) (F : Feed) (fit : Fits P (F .t) (F .plan) (F .rules) (F .known) (F .links) (F .arrivals) (F .movement))
     (K : Knows P (pairAt (F .known)) (F .known .m)) (c r : Cluster) (work : List ℕ) (fed : Ticked F c r work (F .rules .n))
@@ -76,8 +76,8 @@ module _ (P : Plan) (G : Good P) (F : Feed) (fit : Fits P (F .t) (F .plan) (F .r
       → State P (pairAt (F .known)) (F .known .m) (suc (F .t)) n then
   next-state n then f same B cells spans Y = record {
     servers = λ b lb. rw same (next-server b lb);
-    settled = λ b lb. rw (same, ← fit .echo, ← fit .reply, ← fit .pairs)
-        (settled-next F c r work (P .n) b (omega (arith, fit .echo)) (omega (arith, fit .reply)) D lb (rw (fit .echo, fit .reply, fit .pairs) (S .settled b lb)));
+    settled = λ b lb. rw (same, ← fit .echo, ← fit .reply)
+        (settled-next F c r work (P .n) b (omega (arith, fit .echo)) (omega (arith, fit .reply)) D lb (rw (fit .echo, fit .reply) (S .settled b lb)));
     calendar = record {
       votes = λ s b j i a z lb h.
           new-votes P G F fit K c r work D S s b (omega arith) (omega arith) lb j h i (sender then (rowOf s b) j i)
@@ -91,12 +91,12 @@ module _ (P : Plan) (G : Good P) (F : Feed) (fit : Fits P (F .t) (F .plan) (F .r
 
 -- ---- the start
 
-pub first-state : (P : Plan) (g : ℕ → ℕ) (m v : ℕ) → Knows P g m → recoded 16 (g 0) ≡ stamped valueBits v 0 → (c : Cluster) (work : List ℕ) → Started v c → Empty work places → State P g m 0 c work
+pub first-state : (P : Plan) (g : ℕ → ℕ) (m : ℕ) → Knows P g m → (c : Cluster) (work : List ℕ) → Started c → Empty work places → State P g m 0 c work
 unfolding has any anyUpTo before voteWay
-first-state P g m v K e c work S E = record {
+first-state P g m K c work S E = record {
   servers = λ b lb. rw (before-zero P b lb, S .each b (omega (arith, K .servers))) (record {
     status = refl;
-    kept = ap (λ (p : ℕ). p ∷ []) (ap (recoded 16) (K .first .1) ∙ e);
+    kept = ap (λ (p : ℕ). p ∷ []) (K .first .1);
     short = omega arith;
     fresh = λ j i h n. nobody i;
     old = λ j i h n. nobody i;
@@ -104,7 +104,7 @@ first-state P g m v K e c work S E = record {
     unheard = λ r i a. refl;
     empty = λ y. absurd y;
   });
-  settled = λ b lb. rw (S .each b (omega (arith, K .servers))) (first-settled (λ j. recoded 16 (g j)) m (echoQuorum P) (replyQuorum P) (omega arith) (omega arith) v);
+  settled = λ b lb. rw (S .each b (omega (arith, K .servers))) (first-settled m (echoQuorum P) (replyQuorum P) (omega arith) (omega arith));
   calendar = record {
     votes = λ s b j i a z lb h.
         E .cells (rowOf s b) j i (omega (arith, K .servers)) (omega (arith, K .few))

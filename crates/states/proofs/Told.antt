@@ -11,15 +11,14 @@ use Rattle.register.specs.Plan.{Plan, Read, readEnd}
 use Rattle.register.specs.Server.{isFaulty, Claim, Server, Sent, Out}
 use Rattle.register.specs.Reading.{sameRead}
 use Rattle.calendar.specs.Layout.{depth}
-use Rattle.serving.specs.Stored.{Said, Both, recoded}
+use Rattle.serving.specs.Stored.{Said, Both}
 use Rattle.states.specs.State.{Votes, Rep}
 
 module _ (P : Plan) (g : ℕ → ℕ) (m : ℕ) where
   pub record Told (t : ℕ) (o : Sent) (q : Said) : Type 0 where
-    pub votes : (j : ℕ) → j < m → member (g j) (o .votes) ≡ eqb j (q .wrote) || (q .echoed && member (recoded 16 (g j)) (q .pairs))
+    pub votes : (j : ℕ) → j < m → member (g j) (o .votes) ≡ eqb j (q .wrote) || (q .echoed && member j (q .pairs))
     pub readers : (r : Read) → In r (P .reads) → r .begun < t → t ≤ readEnd P r → any (sameRead r) (o .replyTo) ≡ q .readers (r .reader)
-    pub pairs : map (recoded 16) (o .replyWith) ≡ q .pairs
-    pub short : length (q .pairs) ≤ depth
+    pub pairs : o .replyWith ≡ map g (q .pairs)
     pub early : (r : Read) → In r (P .reads) → t ≤ r .begun → any (sameRead r) (o .replyTo) ≡ false
 
   -- after stages 1 and 2

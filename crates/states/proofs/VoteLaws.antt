@@ -19,62 +19,31 @@ use Rattle.register.specs.Reading.{sameRead}
 use Rattle.register.proofs.Logic.{and-l, T-iff}
 use Rattle.register.proofs.Lists.{in-append, any-in, in-filter, in-map}
 use Rattle.register.proofs.Rising.{member-map}
-use Rattle.register.proofs.Stamped.{number-stamped}
 use Rattle.register.proofs.Good.{Good}
 use Rattle.register.proofs.Claims.{has-append}
 use Rattle.register.proofs.Safety.{FreshSafe, ServerSafe}
 use Rattle.register.proofs.SafetyTick.{cluster-safe, writesIn-genuine, votesIn-safe, reply-genuine}
 use Rattle.register.proofs.Trace.{before, delivered, mid, end, before-suc, sent-row}
-use Rattle.calendar.specs.declared.Stamped.{Stamped}
 use Rattle.calendar.specs.Bits.{bit}
 use Rattle.calendar.specs.Layout.{receivers, rows, depth, rowOf, sender}
-use Rattle.calendar.specs.Posts.{vacant, amongFirst, among}
+use Rattle.calendar.specs.Posts.{among}
 use Rattle.calendar.proofs.Spans.{row-receiver, row-slot}
 use Rattle.cluster.specs.declared.Cluster.{Cluster}
 use Rattle.serving.specs.declared.Rules.{Rules}
 use Rattle.serving.specs.Links.{delayAt}
 use Rattle.serving.specs.Sends.{votesFor, sendsVote, sendsReply, sends}
-use Rattle.serving.specs.Stored.{valueBits, Plain, Both, keyOf, keys, server, both, recoded, pairOf, absent}
-use Rattle.serving.proofs.Recoding.{narrow, recoded-number, recoded-rising, new-recoded}
+use Rattle.serving.specs.Stored.{Plain, Both, keys, server, both, absent}
+use Rattle.serving.proofs.StoreLaws.{among-keys}
+use Rattle.states.proofs.Order.{new-number}
 use Rattle.serving.specs.Stages.{isNew, stageOne, stageTwo, stageFour, stagesOf}
 use Rattle.cluster.specs.Inputs.{pairAt, Knows, Fits, wroteAt, asksAt}
 use Rattle.cluster.specs.Tick.{Feed, Stepped, present, Ticked, endsOf}
 use Rattle.states.specs.Way.{forgedAs, voteWay}
 use Rattle.states.specs.State.{Votes, Rep, State}
 use Rattle.states.proofs.Told.{Mid, End, Came}
-use Rattle.states.proofs.RepLaws.{wide, genuine-known, one-rep, two-rep}
+use Rattle.states.proofs.RepLaws.{one-rep, two-rep}
 use Rattle.states.proofs.MoveLaws.{four-rep, still-rep}
 use Rattle.states.proofs.WayLaws.{votes-arrive, votes-next, votes-far, slot-is, slot-past}
-
--- ---- a store's numbers
-
-module _ (P : Plan) (g : ℕ → ℕ) (m : ℕ) (K : Knows P g m) where
-  abbrev pub AllKnown : List ℕ → Type 0
-  AllKnown l = (p : ℕ) → In p l → (j : ℕ) × (j < m) × (p ≡ recoded 16 (g j))
-
-  same-number : (value number j : ℕ) → value < 2 ^ valueBits → j < m → (i : ℕ) × (i < m) × (stamped valueBits value number ≡ recoded 16 (g i))
-      → eqb j number ≡ eqb (stamped valueBits value number) (recoded 16 (g j))
-  same-number value number j v h (i, l, e) =
-      T-iff (eqb j number) (eqb (stamped valueBits value number) (recoded 16 (g j)))
-      (λ y. rw (eqb→eq j number y ∙ numbered i l e, e) (eqb-refl (recoded 16 (g i))))
-      (λ y. rw (numbered j h (eqb→eq (stamped valueBits value number) (recoded 16 (g j)) y)) (eqb-refl j))
-    where
-      numbered : (i : ℕ) → i < m → stamped valueBits value number ≡ recoded 16 (g i) → number ≡ i
-      numbered i l e = sym (number-stamped valueBits value number v) ∙ ap (numberOf valueBits) e ∙ recoded-number 16 narrow (g i) ∙ K .number i l
-
-  -- the numbers before the first empty place are those of its pairs
-  pub among-names : (n : ℕ) (ps : List Stamped) → ((q : ℕ) → getD ps q vacant .value < 2 ^ valueBits) → length ps ≤ n → AllKnown (keys ps) → (j : ℕ) → j < m
-      → amongFirst n ps j ≡ member (recoded 16 (g j)) (keys ps)
-  unfolding amongFirst keys any
-  among-names zero [] s l k j h = refl
-  among-names (suc n) [] s l k j h = refl
-  among-names zero (p ∷ ps) s l k j h = absurd (omega arith)
-  among-names (suc n) (p ∷ ps) s l k j h = go (p .kept) k (λ q. among-names n ps (λ z. s (suc z)) (omega arith) q j h)
-    where
-      go : (c : Bool) → AllKnown (cond c (keyOf p ∷ keys ps) []) → (AllKnown (keys ps) → amongFirst n ps j ≡ member (recoded 16 (g j)) (keys ps))
-          → c && (eqb j (p .number) || amongFirst n ps j) ≡ member (recoded 16 (g j)) (cond c (keyOf p ∷ keys ps) [])
-      go false q ih = refl
-      go true q ih = rw (same-number (p .value) (p .number) j (s 0) h (q (keyOf p) (inl refl)), ih (λ z i. q z (inr i)))
 
 -- ---- what arrives
 
@@ -93,12 +62,12 @@ reads-later P G t b r h = go (any (sameRead r) (readsIn P t b)) refl
         absurd (omega (arith, G .delay-lo (m .0 .begun) (P .n + m .0 .reader) b))
 
 -- the stages, with the plan's numbers for those that are fed
-stages-law : (g : ℕ → ℕ) (m : ℕ) (rules : Rules) (w : ℕ) (votes : ℕ → ℕ → Bool) (asks live : ℕ → Bool) (mv mv' h h' : Bool) (t : ℕ) (s : Plain) (o : Both) (k2 : Bool) (delta e r : ℕ)
-    → rules .two ≡ k2 → rules .delta ≡ delta → rules .echo ≡ e → rules .reply ≡ r → mv ≡ mv' → (mv' ≡ true → h ≡ h') → o ≡ stagesOf g m rules w votes asks live mv h t s
-    → o ≡ cond mv' (stageFour k2 h' t (stageTwo delta t (stageOne g m e r w votes asks live s))) (stageTwo delta t (stageOne g m e r w votes asks live s))
+stages-law : (m : ℕ) (rules : Rules) (w : ℕ) (votes : ℕ → ℕ → Bool) (asks live : ℕ → Bool) (mv mv' h h' : Bool) (t : ℕ) (s : Plain) (o : Both) (k2 : Bool) (delta e r : ℕ)
+    → rules .two ≡ k2 → rules .delta ≡ delta → rules .echo ≡ e → rules .reply ≡ r → mv ≡ mv' → (mv' ≡ true → h ≡ h') → o ≡ stagesOf m rules w votes asks live mv h t s
+    → o ≡ cond mv' (stageFour k2 h' t (stageTwo delta t (stageOne m e r w votes asks live s))) (stageTwo delta t (stageOne m e r w votes asks live s))
 unfolding stagesOf
-stages-law g m rules w votes asks live mv true h h' t s o k2 delta e r a b c d f i q = rw (← a, ← b, ← c, ← d, ← i refl) (rw f at q)
-stages-law g m rules w votes asks live mv false h h' t s o k2 delta e r a b c d f i q = rw (← b, ← c, ← d) (rw f at q)
+stages-law m rules w votes asks live mv true h h' t s o k2 delta e r a b c d f i q = rw (← a, ← b, ← c, ← d, ← i refl) (rw f at q)
+stages-law m rules w votes asks live mv false h h' t s o k2 delta e r a b c d f i q = rw (← b, ← c, ← d) (rw f at q)
 
 -- ---- one tick
 
@@ -121,7 +90,7 @@ module _ (P : Plan) (G : Good P) (F : Feed) (fit : Fits P (F .t) (F .plan) (F .r
     abbrev s : Plain
     s = server (getD (c .servers) b absent)
 
-    abbrev step : Stepped (F .work) b (F .arrivals) (F .movement) (F .t) (F .rules) (F .known .values) (F .known .m) s (both (D .outs b))
+    abbrev step : Stepped (F .work) b (F .arrivals) (F .movement) (F .t) (F .rules) (F .known .m) s (both (D .outs b))
     step = D .done b lb
 
     R : Rep P g m t x s
@@ -152,14 +121,9 @@ module _ (P : Plan) (G : Good P) (F : Feed) (fit : Fits P (F .t) (F .plan) (F .r
         go (yes l) = rw (le-ltb i (P .n) l)
         go (no l) = rw (votes-arrive P G t b (g j) i (omega arith))
 
-    -- a pair that is new to its store is new to the engine's
-    is-new : (j : ℕ) → isNew (g j) (x .kept) ≡ true → isNew (pairOf (F .known .values) j) (s .kept) ≡ true
-    is-new j n =
-        ap (λ (f : ℕ → ℕ). isNew (f j) (s .kept)) (fit .pairs) ∙ ap (isNew (recoded 16 (g j))) (sym (R .kept)) ∙ new-recoded 16 narrow (g j) (x .kept) ∙ n
-
     tally : isFaulty (x .status) ≡ false → Votes P g m (x .kept) (x .fresh ++ vs) (step .votes)
     tally y j i h n =
-        step .came (sym (ap isFaulty (R .status)) ∙ y) j i (omega (arith, K .few)) (is-new j n) ∙ rw (R .fresh j i h n, arrived j i h, has-append (x .fresh) vs (g j) i)
+        step .came (sym (ap isFaulty (R .status)) ∙ y) j i (omega (arith, K .few)) (rw (R .kept, new-number g (K .rising) j (s .kept)) at n) ∙ rw (R .fresh j i h n, arrived j i h, has-append (x .fresh) vs (g j) i)
         (sym (and-or-distrib-left (ltb i (P .n)) (has (x .fresh) (g j) i) (has vs (g j) i)))
 
     came : Came P g m t x (writesIn P t b) vs (readsIn P t b) wrote (step .votes) asks live
@@ -176,7 +140,7 @@ module _ (P : Plan) (G : Good P) (F : Feed) (fit : Fits P (F .t) (F .plan) (F .r
     fresh-safe v i = elim (in-append v (x .fresh) vs i) [ inl a ↦ ok .fresh v a | inr q ↦ votesIn-safe P G t (cluster P t .log) b (cluster-safe P G t .1) v q ]
 
     abbrev second : Both
-    second = stageTwo (P .delta) t (stageOne (wide P G g m K) m (echoQuorum P) (replyQuorum P) wrote (step .votes) asks live s)
+    second = stageTwo (P .delta) t (stageOne m (echoQuorum P) (replyQuorum P) wrote (step .votes) asks live s)
 
     middle : Mid P g m t (mid P t b) second
     unfolding mid delivered
@@ -186,28 +150,22 @@ module _ (P : Plan) (G : Good P) (F : Feed) (fit : Fits P (F .t) (F .plan) (F .r
     pub ended : End P g m t (end P t b) (both (D .outs b))
     unfolding end
     ended =
-        rw (stages-law (wide P G g m K) m (F .rules) wrote (step .votes) asks live (F .movement .moving) (isMove P t) (bit (15 - b) (F .movement .faulty)) (P .placed (t / P .period) b) t s (both (D .outs b)) _ _ _ _
-        (fit .two) (fit .delta) (fit .echo) (fit .reply) (fit .moving) (λ y. fit .faulty y b lb) (rw (fit .pairs) at (step .stages))) (go (isMove P t) refl)
+        rw (stages-law m (F .rules) wrote (step .votes) asks live (F .movement .moving) (isMove P t) (bit (15 - b) (F .movement .faulty)) (P .placed (t / P .period) b) t s (both (D .outs b)) _ _ _ _
+        (fit .two) (fit .delta) (fit .echo) (fit .reply) (fit .moving) (λ y. fit .faulty y b lb) (step .stages)) (go (isMove P t) refl)
       where
         go : (c : Bool) → isMove P t ≡ c → End P g m t (stage4 P t (stage3 P t b (mid P t b))) (cond c (stageFour (eqb (kk P) 2) (P .placed (t / P .period) b) t second) second)
-        go true e = four-rep P g m t b (mid P t b) second (rw e tt) middle
-        go false e = still-rep P g m t b (mid P t b) second (rw e tt) middle
+        go true e = four-rep P g (K .rising) m t b (mid P t b) second (rw e tt) middle
+        go false e = still-rep P g (K .rising) m t b (mid P t b) second (rw e tt) middle
 
     now-row : sentIn (cluster P (suc t) .log) t b ≡ end P t b .sent
     now-row = sent-row P (suc t) t b lb (omega arith)
 
-    sent-known : AllKnown P g m K (keys (D .outs b .row .kept))
-    sent-known p i =
-        let (q, iq, eq) = in-map (recoded 16) p (end P t b .sent .replyWith) (rw (ended .sent .pairs) i) in
-        let (j, l, e) = genuine-known P G g m K (suc t) q (reply-genuine P G (suc t) t b q (rw now-row iq)) in
-        (j, l, eq ∙ ap (recoded 16) e)
-
     -- the pairs of its store
     pub among-is : (j : ℕ) → j < m → among (D .outs b .row .kept) j ≡ member (g j) (end P t b .sent .replyWith)
-    among-is j h = rw (← member-map (recoded 16) (recoded-rising 16 narrow) (g j) (end P t b .sent .replyWith), ended .sent .pairs) (among-names P g m K depth (D .outs b .row .kept) (D .small b lb .1) (D .small b lb .0) sent-known j h)
+    among-is j h = among-keys (D .outs b .row .kept) j ∙ rw (ended .sent .pairs) (sym (member-map g (K .rising) j (keys (D .outs b .row .kept))))
 
     voted-is : (j : ℕ) → j < m → votesFor (D .outs b .row) j ≡ member (g j) (end P t b .sent .votes)
-    voted-is j h = rw (among-is j h, ← member-map (recoded 16) (recoded-rising 16 narrow) (g j) (end P t b .sent .replyWith), ended .sent .pairs) (sym (ended .sent .votes j h))
+    voted-is j h = rw (among-keys (D .outs b .row .kept) j) (sym (ended .sent .votes j h))
 
     pub new-server : Rep P g m (suc t) (serverOf (cluster P (suc t)) b) (server (getD (r .servers) b absent))
     unfolding before

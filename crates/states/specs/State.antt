@@ -17,7 +17,7 @@ use Rattle.calendar.specs.View.{Spanned}
 use Rattle.cluster.specs.declared.Cluster.{Cluster}
 use Rattle.cluster.specs.declared.Reader.{Reader}
 use Rattle.serving.specs.Bits.{sets}
-use Rattle.serving.specs.Stored.{Plain, server, recoded, absent}
+use Rattle.serving.specs.Stored.{Plain, server, absent}
 use Rattle.serving.specs.Stages.{nobody, isNew}
 use Rattle.cluster.specs.Settled.{Settled}
 use Rattle.cluster.specs.Tick.{noReader}
@@ -42,7 +42,7 @@ module _ (P : Plan) where
     -- a server before tick t
     pub record Rep (t : ℕ) (x : Server) (s : Plain) : Type 0 where
       pub status : x .status ≡ s .status
-      pub kept : map (recoded 16) (x .kept) ≡ s .kept
+      pub kept : x .kept ≡ map g (s .kept)
       pub short : length (x .kept) ≤ depth
       pub fresh : Votes (x .kept) (x .fresh) (s .fresh)
       pub old : Votes (x .kept) (x .old) (s .old)
@@ -70,6 +70,6 @@ module _ (P : Plan) where
     -- the cluster before tick t
     pub record State (t : ℕ) (c : Cluster) (work : List ℕ) : Type 0 where
       pub servers : (b : ℕ) → b < P .n → Rep t (serverOf (cluster P t) b) (server (getD (c .servers) b absent))
-      pub settled : (b : ℕ) → b < P .n → Settled (λ j. recoded 16 (g j)) m (echoQuorum P) (replyQuorum P) (server (getD (c .servers) b absent))
+      pub settled : (b : ℕ) → b < P .n → Settled m (echoQuorum P) (replyQuorum P) (server (getD (c .servers) b absent))
       pub calendar : Calendar t (cluster P t .log) work
       pub readers : Hears t (cluster P t .log) (c .readers)

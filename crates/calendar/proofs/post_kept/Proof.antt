@@ -34,7 +34,7 @@ returns : tie.Need-returns Inv-loop μ-loop
 returns c =
     let a = c .before .before .before .before .before .before .args in
     let l = c .before .before .before .before .loop in
-    kept-stop (a .t3) (a .row) (a .i) _ _ (l .q) depth (l .inv .2) (l .inv .0) (l .inv .3) (not-true _ (c .if1 .taken))
+    kept-stop (a .t3) (a .row) (a .i) _ _ (l .q) (length (a .t3)) (l .inv .2) (omega (arith, l .inv .0, l .inv .1)) (l .inv .3) (not-true _ (c .if1 .taken))
 
 post-requires : tie.Need-post-requires Inv-loop μ-loop
 post-requires c κs =
@@ -64,7 +64,7 @@ same-length-2 : tie.Need-same-length-2 Inv-loop μ-loop
 same-length-2 c = c .before .loop .inv .3 .rest .size
 
 returns-2 : tie.Need-returns-2 Inv-loop μ-loop
-returns-2 c = let e : c .before .loop .q ≡ depth = omega arith in rw e at (c .before .loop .inv .3)
+returns-2 c = let l = c .before .loop in let e : l .q ≡ length (c .before .before .before .args .t3) = omega (arith, l .inv .1) in rw e at (l .inv .3)
 
 pub post-kept-spec : {M : Type 1} → statement M
 post-kept-spec =

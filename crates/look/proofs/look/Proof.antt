@@ -5,7 +5,6 @@ use borrow.Author.Needs.{needs}
 use Rattle.plan.specs.Header.{Header}
 use Rattle.plan.specs.Numbered.{numbered}
 use Rattle.plan.proofs.Accept.{playable, header-there}
-use Rattle.look.proofs.Places.{places-fit}
 use Rattle.look.proofs.LookCases.{look-checked, look-ten, look-server, look-tick, look-done, shown}
 use Rattle.look.proofs.look.Statement.{statement}
 use Rattle.look.proofs.look.Tie as tie
@@ -66,6 +65,9 @@ look-requires c κs =
 condition-requires : tie.Need-condition-requires
 condition-requires c κs = search needs
 
+valued-requires : tie.Need-valued-requires
+valued-requires c κs = search needs
+
 shown-places-requires : tie.Need-shown-places-requires
 shown-places-requires c κs = search needs
 
@@ -77,11 +79,11 @@ same-length c = search needs
 
 returns-5 : tie.Need-returns-5
 returns-5 c =
-    let n = ap (λ (h : Header). h .n) (c .before .before .before .before .before .before .before .before .before .before .before .read .ensures) in
-    let t = ap (λ (h : Header). h .ticks) (c .before .before .before .before .before .before .before .before .before .before .before .read .ensures) in
-    let d = c .before .before .before .before .before .look in
-    look-done _ _ _ _ _ (sym (c .before .before .before .before .before .before .before .before .before .before .before .before .before .before .before .before .check .ensures) ∙ ap numbered (c .before .before .before .before .before .before .before .before .before .before .before .before .before .before .checked2 .given .1)) (c .before .before .before .before .before .before .before .before .before .before .before .before .if1 .left) (omega (arith, n, c .before .before .before .before .before .before .before .before .before .if2 .left)) (omega (arith, t, c .before .before .before .before .before .before .before .if3 .left)) _
-    (shown _ _ _ (d .ensures .status) (d .ensures .kept) (places-fit (d .result) (d .ok)) _ _ _ _ (c .before .condition .ensures) (c .shown-places .ensures) (d .ensures .workspace))
+    let n = ap (λ (h : Header). h .n) (c .before .before .before .before .before .before .before .before .before .before .before .before .before .before .before .read .ensures) in
+    let t = ap (λ (h : Header). h .ticks) (c .before .before .before .before .before .before .before .before .before .before .before .before .before .before .before .read .ensures) in
+    let d = c .before .before .before .before .before .before .before .before .before .look in
+    look-done _ _ _ _ _ (sym (c .before .before .before .before .before .before .before .before .before .before .before .before .before .before .before .before .before .before .before .before .check .ensures) ∙ ap numbered (c .before .before .before .before .before .before .before .before .before .before .before .before .before .before .before .before .before .before .checked2 .given .1)) (c .before .before .before .before .before .before .before .before .before .before .before .before .before .before .before .before .if1 .left) (omega (arith, n, c .before .before .before .before .before .before .before .before .before .before .before .before .before .if2 .left)) (omega (arith, t, c .before .before .before .before .before .before .before .before .before .before .before .if3 .left)) _
+    (shown _ _ (d .result .server .kept) (d .result .known) (d .ensures .status) (d .ensures .kept) (d .ensures .narrow) _ _ _ _ _ (c .before .before .condition .ensures) (c .before .valued .ensures) (c .shown-places .ensures) (d .ensures .workspace))
 
 pub look-spec : {M : Type 1} → statement M
 look-spec =
@@ -103,6 +105,7 @@ look-spec =
     cast-look
     look-requires
     condition-requires
+    valued-requires
     shown-places-requires
     returns-4
     same-length

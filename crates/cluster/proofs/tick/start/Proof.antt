@@ -17,9 +17,7 @@ none-requires-2 c κs = search needs
 
 returns : tie.Need-returns
 unfolding insert
-returns c =
-    let v = c .before .before .before .args .value in
-    started v _ _ (first-server v (c .before .insert .result) (c .none2 .result) (c .before .insert .ensures ∙ rw (c .before .before .none .ensures)) (c .none2 .ensures)) refl
+returns c = started _ _ (first-server (c .before .insert .result) (c .none2 .result) (c .before .insert .ensures ∙ rw (c .before .before .none .ensures)) (c .none2 .ensures)) refl
 
 pub start-spec : {M : Type 1} → statement M
 start-spec = tie.close (tie.spec none-requires insert-requires none-requires-2 returns)

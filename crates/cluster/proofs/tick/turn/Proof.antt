@@ -11,7 +11,7 @@ use borrow.Author.Tests.{not-true, not-false}
 use Rattle.register.specs.Server.{isFaulty, curedAt}
 use Rattle.calendar.specs.Bits.{bit}
 use Rattle.serving.specs.Bits.{sets, listed}
-use Rattle.serving.specs.Stored.{Small, Step, server, both, statusOf, pairOf}
+use Rattle.serving.specs.Stored.{Step, server, both, statusOf}
 use Rattle.serving.specs.Stages.{stageOne, stageTwo, stagesOf}
 use Rattle.cluster.specs.Inputs.{wroteAt, asksAt}
 use Rattle.cluster.specs.Settled.{Settled}
@@ -20,7 +20,6 @@ use Rattle.serving.proofs.StageLaws.{taken-law, lost-law, cure-law, no-cure-law
 use Rattle.cluster.proofs.Settled.{span-enough}
 use Rattle.cluster.proofs.TickLaws.{stages-moving, stages-still}
 use Rattle.cluster.proofs.ServeLaws.{turned-here}
-use Rattle.serving.proofs.Sizes.{row-small, delivery-small}
 use Rattle.cluster.proofs.tick.turn.Statement.{statement}
 use Rattle.cluster.proofs.tick.turn.Tie as tie
 
@@ -31,13 +30,13 @@ row-requires : tie.Need-row-requires
 row-requires c κs = search needs
 
 low-requires : tie.Need-low-requires
-low-requires c κs = (c .before .row .ensures .1, c .before .before .before .before .before .before .before .pre .2 .room)
+low-requires c κs = (c .before .row .ensures .1, c .before .before .before .before .before .before .before .pre .1 .room)
 
 high-requires : tie.Need-high-requires
-high-requires c κs = (c .before .before .before .row .ensures .1, c .before .before .before .before .before .before .before .before .before .pre .2 .room)
+high-requires c κs = (c .before .before .before .row .ensures .1, c .before .before .before .before .before .before .before .before .before .pre .1 .room)
 
 vote-requires : tie.Need-vote-requires
-vote-requires c κs = let p = c .before .before .before .before .before .before .before .before .before .before .before .pre .2 in (c .before .before .before .before .before .row .ensures .1, p .room, p .spans)
+vote-requires c κs = let p = c .before .before .before .before .before .before .before .before .before .before .before .pre .1 in (c .before .before .before .before .before .row .ensures .1, p .room, p .spans)
 
 quiet-requires : tie.Need-quiet-requires
 quiet-requires c κs = search needs
@@ -46,13 +45,13 @@ is-faulty-requires : tie.Need-is-faulty-requires
 is-faulty-requires c κs = search needs
 
 wrote-at-requires : tie.Need-wrote-at-requires
-wrote-at-requires c κs = omega (arith, c .before .before .before .before .before .before .before .before .before .before .before .before .before .before .before .before .pre .0, c .before .before .before .before .before .before .before .before .before .before .before .before .before .before .before .before .pre .2 .servers)
+wrote-at-requires c κs = omega (arith, c .before .before .before .before .before .before .before .before .before .before .before .before .before .before .before .before .pre .0, c .before .before .before .before .before .before .before .before .before .before .before .before .before .before .before .before .pre .1 .servers)
 
 asks-at-requires : tie.Need-asks-at-requires
-asks-at-requires c κs = omega (arith, c .before .before .before .before .before .before .before .before .before .before .before .before .before .before .before .before .before .pre .0, c .before .before .before .before .before .before .before .before .before .before .before .before .before .before .before .before .before .pre .2 .servers)
+asks-at-requires c κs = omega (arith, c .before .before .before .before .before .before .before .before .before .before .before .before .before .before .before .before .before .pre .0, c .before .before .before .before .before .before .before .before .before .before .before .before .before .before .before .before .before .pre .1 .servers)
 
 deliver-requires : tie.Need-deliver-requires
-deliver-requires c κs = let s = c .before .before .before .before .before .before .before .before .before .before .before .before .before .before .before .before .before .before in (s .pre .2 .pairs, s .pre .2 .echo, s .pre .2 .reply)
+deliver-requires c κs = let s = c .before .before .before .before .before .before .before .before .before .before .before .before .before .before .before .before .before .before in (s .pre .1 .pairs, s .pre .1 .echo, s .pre .1 .reply)
 
 is-cured-at-requires : tie.Need-is-cured-at-requires
 is-cured-at-requires c κs = search needs
@@ -64,10 +63,10 @@ sub-has : tie.Need-sub-has
 sub-has c = search needs
 
 sub-has-2 : tie.Need-sub-has-2
-sub-has-2 c = omega (arith, c .before .before .before .before .before .before .before .before .before .before .before .before .before .before .before .before .before .before .pre .0, c .before .before .before .before .before .before .before .before .before .before .before .before .before .before .before .before .before .before .pre .2 .servers)
+sub-has-2 c = omega (arith, c .before .before .before .before .before .before .before .before .before .before .before .before .before .before .before .before .before .before .pre .0, c .before .before .before .before .before .before .before .before .before .before .before .before .before .before .before .before .before .before .pre .1 .servers)
 
 has-requires : tie.Need-has-requires
-has-requires c κs = omega (arith, c .before .before .before .before .before .before .before .before .before .before .before .before .before .before .before .before .before .before .pre .0, c .before .before .before .before .before .before .before .before .before .before .before .before .before .before .before .before .before .before .pre .2 .servers)
+has-requires c κs = omega (arith, c .before .before .before .before .before .before .before .before .before .before .before .before .before .before .before .before .before .before .pre .0, c .before .before .before .before .before .before .before .before .before .before .before .before .before .before .before .before .before .before .pre .1 .servers)
 
 moved-requires : tie.Need-moved-requires
 moved-requires c κs = search needs
@@ -76,13 +75,13 @@ is-correct-requires : tie.Need-is-correct-requires
 is-correct-requires c κs = search needs
 
 clear-requires : tie.Need-clear-requires
-clear-requires c κs = let p = c .before .before .before .before .before .before .before .before .before .before .before .before .before .before .before .before .before .before .before .pre .2 in let r = c .before .before .before .before .before .before .before .before .before .before .before .before .before .row in (r .ensures .1, p .spans .top (r .result) (r .ensures .1), p .room)
+clear-requires c κs = let p = c .before .before .before .before .before .before .before .before .before .before .before .before .before .before .before .before .before .before .before .pre .1 in let r = c .before .before .before .before .before .before .before .before .before .before .before .before .before .row in (r .ensures .1, p .spans .top (r .result) (r .ensures .1), p .room)
 
 cast-send : tie.Need-cast-send
-cast-send c = omega (arith, c .before .before .before .before .before .before .before .before .before .before .before .before .before .before .before .before .before .before .before .before .before .before .before .pre .2 .tick)
+cast-send c = omega (arith, c .before .before .before .before .before .before .before .before .before .before .before .before .before .before .before .before .before .before .before .before .before .before .before .pre .1 .tick)
 
 send-requires : tie.Need-send-requires
-send-requires c κs = let s = c .before .before .before .before .before .before .before .before .before .before .before .before .before .before .before .before .before .before .before .before .before .before .before in let p = s .pre .2 in (omega (arith, p .room, c .before .before .before .clear .ensures .rest .size), rw (add-one (s .args .feed .t)) (p .linked), p .tick, s .pre .0)
+send-requires c κs = let s = c .before .before .before .before .before .before .before .before .before .before .before .before .before .before .before .before .before .before .before .before .before .before .before in let p = s .pre .1 in (omega (arith, p .room, c .before .before .before .clear .ensures .rest .size), rw (add-one (s .args .feed .t)) (p .linked), p .tick, s .pre .0)
 
 same-length : tie.Need-same-length
 same-length c = search needs
@@ -91,8 +90,6 @@ returns : tie.Need-returns
 returns c =
     let s = c .before .before .before .before .before .before .before .before .before .before .before .before .before .before .before .before .before .before .before .before .before .before .before .before .before .before in
     let F = feedOf (now (s .args .plan)) (now (s .args .work)) (s .args .feed) in
-    let g = pairOf (F .known .values) in
-    let h = pairOf (now (s .args .values)) in
     let third = c .before .before .before .before .before .before .before .before in
     let second = third .before in
     let first = third .before .before .before in
@@ -110,12 +107,12 @@ returns c =
     let o₁ : Step = record { server = first .if1 .x; row = first .if1 .row } in
     let o₂ : Step = record { server = second .if2 .x; row = second .if2 .row } in
     let o₃ : Step = record { server = third .if3 .x; row = third .if3 .row } in
-    let calm : Type 0 = Settled g (F .known .m) (F .rules .echo) (F .rules .reply) (server (s .args .s)) in
-    let one : calm → both o₁ ≡ stageOne g (F .known .m) (F .rules .echo) (F .rules .reply) w votes asks live (server (v .result)) = λ K. elim (first .if1 .came) [
+    let calm : Type 0 = Settled (F .known .m) (F .rules .echo) (F .rules .reply) (server (s .args .s)) in
+    let one : calm → both o₁ ≡ stageOne (F .known .m) (F .rules .echo) (F .rules .reply) w votes asks live (server (v .result)) = λ K. elim (first .if1 .came) [
       | inl y ↦ let alive : isFaulty (statusOf (v .result .status)) ≡ false = sym (faulty .ensures) ∙ not-true _ (y .0 .taken) in
-          rw (y .7, y .8, ← s .pre .1, ← y .2 .ensures, ← y .3 .ensures) (taken-law h (F .known .m) (F .rules .echo) (F .rules .reply) (y .2 .result) votes (λ x. bit x (y .3 .result)) live (server (v .result)) _ _ alive (y .4 .ensures)
-          (rw (low .ensures .0, high .ensures .0) (span-enough h (F .known .m) (F .rules .echo) (F .rules .reply) (y .2 .result) (F .work) (row .result) (server (s .args .s)) (server (v .result)) (v .ensures) (rw (← s .pre .1) at K) (sym (ap isFaulty (v .ensures .status)) ∙ alive) (s .pre .2 .pairs) (row .ensures .1) (s .pre .2 .spans))))
-      | inr y ↦ rw (y .1, y .2) (lost-law g (F .known .m) (F .rules .echo) (F .rules .reply) w votes asks live (server (v .result)) _ (sym (faulty .ensures) ∙ not-false _ (y .0 .left)) (quiet .ensures))
+          rw (y .7, y .8, ← y .2 .ensures, ← y .3 .ensures) (taken-law (F .known .m) (F .rules .echo) (F .rules .reply) (y .2 .result) votes (λ x. bit x (y .3 .result)) live (server (v .result)) _ _ alive (y .4 .ensures)
+          (rw (low .ensures .0, high .ensures .0) (span-enough (F .known .m) (F .rules .echo) (F .rules .reply) (y .2 .result) (F .work) (row .result) (server (s .args .s)) (server (v .result)) (v .ensures) K (sym (ap isFaulty (v .ensures .status)) ∙ alive) (s .pre .1 .pairs) (row .ensures .1) (s .pre .1 .spans))))
+      | inr y ↦ rw (y .1, y .2) (lost-law (F .known .m) (F .rules .echo) (F .rules .reply) w votes asks live (server (v .result)) _ (sym (faulty .ensures) ∙ not-false _ (y .0 .left)) (quiet .ensures))
     ] in
     let status : first .if1 .x .status ≡ v .result .status = elim (first .if1 .came) [ inl y ↦ rw (y .7) refl | inr y ↦ rw (y .1) refl ] in
     let kept : curedAt (F .rules .delta) (F .t) (statusOf (v .result .status)) ≡ true → both o₁ .said .pairs ≡ both o₁ .server .kept = elim (first .if1 .came) [
@@ -126,16 +123,13 @@ returns c =
       | inl y ↦ let h = sym (cured .ensures) ∙ y .0 .taken in rw (y .2, y .3) (cure-law (F .rules .delta) (F .t) (both o₁) _ (rw status h) (y .1 .ensures) (kept h))
       | inr y ↦ rw (y .1, y .2) (no-cure-law (F .rules .delta) (F .t) (both o₁) (rw status (sym (cured .ensures) ∙ y .0 .left)))
     ] in
-    let all : calm → both o₃ ≡ stagesOf g (F .known .m) (F .rules) w votes asks live (F .movement .moving) (bit (15 - s .args .b) (F .movement .faulty)) (F .t) (server (s .args .s)) = λ K. elim (third .if3 .came) [
-      | inl y ↦ rw (y .4, y .5) (stages-moving g (F .known .m) (F .rules) w votes asks live (F .movement .moving) _ (F .t) _ _ _ (v .ensures) _ _ (one K) two (y .0 .taken) _ (y .1 .ensures) _ (echo-law (F .rules .two) _ (F .t) (both o₂) _ _ (y .2 .ensures) (y .3 .ensures)))
-      | inr y ↦ rw (y .1, y .2) (stages-still g (F .known .m) (F .rules) w votes asks live (F .movement .moving) _ (F .t) _ _ _ (v .ensures) _ _ (one K) two (y .0 .left))
+    let all : calm → both o₃ ≡ stagesOf (F .known .m) (F .rules) w votes asks live (F .movement .moving) (bit (15 - s .args .b) (F .movement .faulty)) (F .t) (server (s .args .s)) = λ K. elim (third .if3 .came) [
+      | inl y ↦ rw (y .4, y .5) (stages-moving (F .known .m) (F .rules) w votes asks live (F .movement .moving) _ (F .t) _ _ _ (v .ensures) _ _ (one K) two (y .0 .taken) _ (y .1 .ensures) _ (echo-law (F .rules .two) _ (F .t) (both o₂) _ _ (y .2 .ensures) (y .3 .ensures)))
+      | inr y ↦ rw (y .1, y .2) (stages-still (F .known .m) (F .rules) w votes asks live (F .movement .moving) _ (F .t) _ _ _ (v .ensures) _ _ (one K) two (y .0 .left))
     ] in
-    let small₁ : Small (o₁ .row .kept) = elim (first .if1 .came) [ inl y ↦ rw (y .8) (delivery-small (y .4 .result) (y .4 .ok)) | inr y ↦ rw (y .2) (row-small (quiet .result) (quiet .ok)) ] in
-    let small₂ : Small (o₂ .row .kept) = elim (second .if2 .came) [ inl y ↦ rw (y .3) small₁ | inr y ↦ rw (y .2) small₁ ] in
-    let small₃ : Small (o₃ .row .kept) = elim (third .if3 .came) [ inl y ↦ rw (y .5) small₂ | inr y ↦ rw (y .2) small₂ ] in
-    turned-here F (s .args .ends) (s .args .b) (s .args .s) o₃ _ _ (s .pre .2 .spans)
+    turned-here F (s .args .ends) (s .args .b) (s .args .s) o₃ _ _ (s .pre .1 .spans)
     (λ K. record { votes = votes; came = λ d j i l n. v .ensures .fresh d j i l ∙ rw (row .ensures .0); stages = all K })
-    (rw (row .ensures .0) at (c .before .before .before .before .before .before .clear .ensures)) (c .before .before .send .ensures) small₃
+    (rw (row .ensures .0) at (c .before .before .before .before .before .before .clear .ensures)) (c .before .before .send .ensures)
 
 pub turn-spec : {M : Type 1} → statement M
 turn-spec =

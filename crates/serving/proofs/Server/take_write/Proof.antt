@@ -4,20 +4,14 @@ use borrow.Author.Needs.{needs}
 use Rattle.serving.proofs.Server.take_write.Statement.{statement}
 use Rattle.serving.proofs.Server.take_write.Tie as tie
 
-mul-t8 : tie.Need-mul-t8
-mul-t8 c = search needs
-
-element-copy-out-t11 : tie.Need-element-copy-out-t11
-element-copy-out-t11 c = search needs
-
 write-requires : tie.Need-write-requires
 write-requires c κs = search needs
 
 returns : tie.Need-returns
-returns c = rw (lt-ltb _ _ (c .before .before .if1 .taken)) (c .write .ensures)
+returns c = rw (lt-ltb _ _ (c .before .if1 .taken)) (c .write .ensures)
 
 returns-2 : tie.Need-returns-2
 returns-2 c = rw (le-ltb _ _ (c .if1 .left))
 
 pub take-write-spec : {M : Type 1} → statement M
-take-write-spec = tie.close (tie.spec mul-t8 element-copy-out-t11 write-requires returns returns-2)
+take-write-spec = tie.close (tie.spec write-requires returns returns-2)

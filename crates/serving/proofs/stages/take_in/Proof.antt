@@ -7,7 +7,7 @@ use native.Mathlib.Omega.{arith}
 use borrow.Author.Needs.{needs}
 use Rattle.calendar.specs.Layout.{places}
 use Rattle.serving.specs.Bits.{sets, listed}
-use Rattle.serving.specs.Stored.{keys, pairOf}
+use Rattle.serving.specs.Stored.{keys}
 use Rattle.serving.specs.Stages.{within, taken, voting}
 use Rattle.serving.proofs.Sizes.{most-length}
 use Rattle.serving.proofs.StageLaws.{taken-yes, taken-no, voting-at, in-span}
@@ -16,7 +16,7 @@ use Rattle.serving.proofs.stages.take_in.Statement.{statement}
 use Rattle.serving.proofs.stages.take_in.Tie as tie
 
 abbrev Inv-loop : tie.InvT-loop
-Inv-loop values low high m rules fresh old end k₀ j₀ k j =
+Inv-loop low high m rules fresh old end k₀ j₀ k j =
     (j ≤ m)
     × (m ≤ places)
     × (j < m → low ≤ j)
@@ -24,10 +24,10 @@ Inv-loop values low high m rules fresh old end k₀ j₀ k j =
     × (end ≤ m)
     × (high ≤ m → high ≤ end)
     × (m ≤ high → m ≤ end)
-    × (keys k ≡ taken (λ i. within low high i && voting (rules .echo) (rules .reply) (sets (listed fresh)) (sets (listed old)) i) (pairOf values) j (keys k₀))
+    × (keys k ≡ taken (λ i. within low high i && voting (rules .echo) (rules .reply) (sets (listed fresh)) (sets (listed old)) i) j (keys k₀))
 
 abbrev μ-loop : tie.MeasureT-loop
-μ-loop values low high m rules fresh old end k₀ j₀ k j = end - j
+μ-loop low high m rules fresh old end k₀ j₀ k j = end - j
 
 lower-requires : tie.Need-lower-requires Inv-loop μ-loop
 lower-requires c κs = search needs
@@ -47,7 +47,7 @@ loop-holds c =
       e .1,
       e .2,
       e .3,
-      sym (taken-below _ (pairOf (a .values .now)) (a .low) (a .high) _ (keys (a .kept)) (f .0)),
+      sym (taken-below _ (a .low) (a .high) _ (keys (a .kept)) (f .0)),
     )
 
 at-requires : tie.Need-at-requires Inv-loop μ-loop
@@ -63,14 +63,8 @@ at-requires-2 c κs = let s = c .before .before .before .before .before .before 
 is-voted-requires : tie.Need-is-voted-requires Inv-loop μ-loop
 is-voted-requires c κs = search needs
 
-cast-t23 : tie.Need-cast-t23 Inv-loop μ-loop
-cast-t23 c = search needs
-
-mul-t24 : tie.Need-mul-t24 Inv-loop μ-loop
-mul-t24 c = search needs
-
-element-copy-out-t27 : tie.Need-element-copy-out-t27 Inv-loop μ-loop
-element-copy-out-t27 c = search needs
+cast-t22 : tie.Need-cast-t22 Inv-loop μ-loop
+cast-t22 c = search needs
 
 insert-requires : tie.Need-insert-requires Inv-loop μ-loop
 insert-requires c κs = search needs
@@ -98,15 +92,15 @@ loop-again c = let h = c .before .before .before .before .before .before .before
       h .5,
       h .6,
       elim (c .if1 .came) [
-        | inl w ↦ rw (w .3) (taken-yes C (pairOf (a .values .now)) j (keys (a .kept)) (keys k) _ (h .7) (voted ∙ w .0 .taken) (w .2 .ensures))
-        | inr w ↦ rw (w .1) (taken-no C (pairOf (a .values .now)) j (keys (a .kept)) (keys k) _ (h .7) (voted ∙ w .0 .left) refl)
+        | inl w ↦ rw (w .2) (taken-yes C j (keys (a .kept)) (keys k) _ (h .7) (voted ∙ w .0 .taken) (w .1 .ensures))
+        | inr w ↦ rw (w .1) (taken-no C j (keys (a .kept)) (keys k) _ (h .7) (voted ∙ w .0 .left) refl)
       ],
     )
 
 returns : tie.Need-returns Inv-loop μ-loop
 returns c = let h = c .before .loop .inv in
     let a = c .before .before .before .before .args in
-    h .7 ∙ sym (taken-beyond _ (pairOf (a .values .now)) (a .low) (a .high) _ (a .m) (keys (a .kept)) (h .0)
+    h .7 ∙ sym (taken-beyond _ (a .low) (a .high) _ (a .m) (keys (a .kept)) (h .0)
     (λ l. omega (arith, h .5 l, c .loop-test .left)) (λ l. omega (arith, h .6 l, c .loop-test .left)))
 
 pub take-in-spec : {M : Type 1} → statement M
@@ -121,9 +115,7 @@ take-in-spec =
     at-requires
     at-requires-2
     is-voted-requires
-    cast-t23
-    mul-t24
-    element-copy-out-t27
+    cast-t22
     insert-requires
     add-j
     loop-less
