@@ -1,6 +1,6 @@
 -- The readers note what arrives one after the other, and their rows of the calendar are taken. It stands on the calendar's laws of clearing.
 use mathlib.Core.Path.{_≡_, refl, sym, ap, _∙_}
-use mathlib.Core.Bool.{Bool, true, false, not, _&&_, and-false, or-false, and-true, true≢false}
+use mathlib.Core.Bool.{Bool, true, false, not, _&&_, and-false, or-false, and-true}
 use mathlib.Core.List.{List}
 use Prim.Native.Nat.{ℕ, _+_, _-_, _/_, _%_, _≤_, _<_}
 use native.Mathlib.Omega.{arith}
@@ -8,15 +8,13 @@ use native.Mathlib.Decide.{decLe, ℕ-discrete}
 use lib.Dec.{eqb, leb, ltb}
 use lib.ListN.{length, getD, set, length-set}
 use lib.Seq.{getD-set-same, getD-set-other}
-use borrow.Author.Tests.{eq-eqb, ne-eqb, lt-ltb, le-ltb, le-leb, lt-leb}
-use Rattle.register.proofs.Logic.{T-eq}
-use Rattle.register.proofs.Counting.{anyUpTo-i}
+use borrow.Author.Tests.{lt-ltb, le-ltb, lt-leb}
 use Rattle.calendar.specs.Layout.{receivers, rows, places, rowOf, highOf, sender}
-use Rattle.calendar.specs.View.{SamePast, Spanned, Cleared}
-use Rattle.calendar.proofs.Spans.{cleared-cells, cleared-spanned}
+use Rattle.calendar.specs.View.{SamePast, Spanned}
 use Rattle.calendar.proofs.Clearing.{row-more}
 use Rattle.cluster.specs.declared.Reader.{Reader}
-use Rattle.cluster.specs.Tick.{noReader, anyHeard, Noted, Hearing, Heard}
+use Rattle.cluster.specs.Tick.{noReader, Noted, Hearing, Heard, Emptied}
+use Rattle.cluster.proofs.IdleLaws.{empty-row, emptied-before}
 
 -- the rows of the first n readers in tick t
 unfoldable pub taken : ℕ → ℕ → ℕ → Bool
@@ -55,26 +53,39 @@ module _ (work : List ℕ) (t : ℕ) (s r : List Reader) (now : List ℕ) (x : �
       H .cells (rowOf t (16 + x)) j i (omega arith) h
       ∙ rw (e, le-ltb (16 + x) (16 + x) (omega arith), and-false (leb 16 (16 + x)), and-false (eqb (rowOf t (16 + x) / receivers) (t % 16)))
 
-  pub hearing-more : (q : Reader) (after : List ℕ) → Noted now (rowOf t (16 + x)) (getD r x noReader) q → Cleared now after (rowOf t (16 + x))
-      → Hearing-to work t s (set r x q) after (x + 1)
-  hearing-more q after N C = record {
-    readers = record {
-      size = length-set r x q ∙ H .readers .size;
-      each = λ y h. each y h (ℕ-discrete y x);
-      rest = λ y h. getD-set-other r x y q noReader (λ e. omega arith) ∙ H .readers .rest y (omega arith);
-    };
-    rest = record { size = C .rest .size ∙ H .rest .size; past = λ k h. C .rest .past k h ∙ H .rest .past k h };
-    spans = cleared-spanned now after (rowOf t (16 + x)) places (omega arith) C (H .spans);
-    cells = λ y j i h d. cleared-cells now after (rowOf t (16 + x)) places (omega arith) C (H .spans) y j i h d ∙ rw (H .cells y j i h d) (taken-more t x y h l (sender work y j i));
-  }
-    where
-      here : Noted work (rowOf t (16 + x)) (getD s x noReader) q
-      here = let e = H .readers .rest x (omega arith) in
-          record { end = rw (← e) (N .end); named = λ j i h. rw (← e, ← still j i h) (N .named j i h) }
+  -- the readers with reader x as q, after its row was emptied
+  module _ (z : List Reader) (q : Reader) (after : List ℕ) (size : length z ≡ length r) (at : getD z x noReader ≡ q) (others : (y : ℕ) → (y ≡ x → ⊥) → getD z y noReader ≡ getD r y noReader)
+      (N : Noted now (rowOf t (16 + x)) (getD r x noReader) q) (E : Emptied now after (rowOf t (16 + x))) where
+    here : Noted work (rowOf t (16 + x)) (getD s x noReader) q
+    here = let e = H .readers .rest x (omega arith) in
+        record { end = rw (← e) (N .end); named = λ j i h. rw (← e, ← still j i h) (N .named j i h) }
 
-      each : (y : ℕ) → y < x + 1 → Dec (y ≡ x) → Noted work (rowOf t (16 + y)) (getD s y noReader) (getD (set r x q) y noReader)
-      each y h (yes e) = rw (e, getD-set-same r x q noReader (omega (arith, H .readers .size))) here
-      each y h (no d) = rw (getD-set-other r x y q noReader d) (H .readers .each y (omega arith))
+    each : (y : ℕ) → y < x + 1 → Dec (y ≡ x) → Noted work (rowOf t (16 + y)) (getD s y noReader) (getD z y noReader)
+    each y h (yes e) = rw (e, at) here
+    each y h (no d) = rw (others y d) (H .readers .each y (omega arith))
+
+    hearing-on : Hearing-to work t s z after (x + 1)
+    hearing-on = record {
+      readers = record {
+        size = size ∙ H .readers .size;
+        each = λ y h. each y h (ℕ-discrete y x);
+        rest = λ y h. others y (λ e. omega arith) ∙ H .readers .rest y (omega arith);
+      };
+      rest = record { size = E .rest .size ∙ H .rest .size; past = λ k h. E .rest .past k h ∙ H .rest .past k h };
+      spans = E .spans;
+      cells = λ y j i h d. E .cells y j i h d ∙ rw (H .cells y j i h d) (taken-more t x y h l (sender work y j i));
+    }
+
+  -- something reaches it
+  pub hearing-more : (q : Reader) (after : List ℕ) → Noted now (rowOf t (16 + x)) (getD r x noReader) q × Emptied now after (rowOf t (16 + x)) → Hearing-to work t s (set r x q) after (x + 1)
+  hearing-more q after (N, E) =
+      hearing-on (set r x q) q after (length-set r x q) (getD-set-same r x q noReader (omega (arith, H .readers .size))) (λ y d. getD-set-other r x y q noReader d) N E
+
+  -- nothing does
+  pub hearing-same : highOf now (rowOf t (16 + x)) ≡ 0 → Hearing-to work t s r now (x + 1)
+  hearing-same e =
+      hearing-on r (getD r x noReader) now refl refl (λ y d. refl) (record { end = refl; named = λ j i h. rw (empty-row now (rowOf t (16 + x)) (H .spans) (omega arith) e j i h) (sym (or-false _)) })
+      (emptied-before now (rowOf t (16 + x)) (H .spans) (omega arith) e)
 
 pub hearing-all : (work : List ℕ) (t : ℕ) (s r : List Reader) (after : List ℕ) → Hearing-to work t s r after 4 → Heard work after t s r
 unfolding taken
@@ -84,40 +95,3 @@ hearing-all work t s r after H = record {
   spans = H .spans;
   cells = λ y j i h d. H .cells y j i h d ∙ rw (lt-ltb (y % receivers) (16 + 4) (omega arith)) (ap (λ (b : Bool). not (eqb (y / receivers) (t % 16) && b) && sender work y j i) (and-true (leb 16 (y % receivers))));
 }
-
--- ---- nothing arrives
-
-pub some-heard : (work : List ℕ) (t x : ℕ) → x < 4 → (highOf work (rowOf t (16 + x)) ≡ 0 → ⊥) → anyHeard work t ≡ true
-some-heard work t x l h = T-eq (anyHeard work t) (anyUpTo-i 4 (λ x. not (eqb (highOf work (rowOf t (16 + x))) 0)) x l (rw (ne-eqb (highOf work (rowOf t (16 + x))) 0 h) tt))
-
--- then hearing changes nothing
-module _ (work : List ℕ) (t : ℕ) (S : Spanned work places) (none : anyHeard work t ≡ false) where
-  high-none : (x : ℕ) → x < 4 → highOf work (rowOf t (16 + x)) ≡ 0
-  high-none x l = elim (ℕ-discrete (highOf work (rowOf t (16 + x))) 0) [ yes e ↦ e | no d ↦ absurd (true≢false (sym (some-heard work t x l d) ∙ none)) ]
-
-  row-none : (x j i : ℕ) → x < 4 → j < places → sender work (rowOf t (16 + x)) j i ≡ false
-  row-none x j i l m = go (sender work (rowOf t (16 + x)) j i) refl
-    where
-      go : (c : Bool) → sender work (rowOf t (16 + x)) j i ≡ c → c ≡ false
-      go true e = absurd (omega (arith, S .within (rowOf t (16 + x)) j i (omega arith) m e .1, high-none x l))
-      go false e = refl
-
-  pub heard-none : (s : List Reader) → Heard work work t s s
-  heard-none s = record {
-    readers = record {
-      size = refl;
-      each = λ x l. record { end = refl; named = λ j i h. rw (row-none x j i l h) (sym (or-false _)) };
-      rest = λ x l. refl;
-    };
-    rest = record { size = refl; past = λ k l. refl };
-    spans = S;
-    cells = λ y j i l h. cells y j i l h (ℕ-discrete (y / receivers) (t % 16)) (decLe 16 (y % receivers));
-  }
-    where
-      cells : (y j i : ℕ) → y < rows → j < places → Dec (y / receivers ≡ t % 16) → Dec (16 ≤ y % receivers)
-          → sender work y j i ≡ not (eqb (y / receivers) (t % 16) && leb 16 (y % receivers)) && sender work y j i
-      cells y j i l h (no d) q = rw (ne-eqb (y / receivers) (t % 16) d)
-      cells y j i l h (yes d) (no q) = rw (lt-leb 16 (y % receivers) (omega arith), and-false (eqb (y / receivers) (t % 16)))
-      cells y j i l h (yes d) (yes q) =
-          let e : y ≡ rowOf t (16 + (y % receivers - 16)) = omega arith in
-          rw (eq-eqb (y / receivers) (t % 16) d, le-leb 16 (y % receivers) q) (rw (← e) at (row-none (y % receivers - 16) j i (omega arith) h))

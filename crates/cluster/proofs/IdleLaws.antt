@@ -79,6 +79,13 @@ module _ (work : List ℕ) (row : ℕ) (S : Spanned work places) where
   }
 
   -- nothing arrives in a row without a span
+  pub empty-row : row < rows → highOf work row ≡ 0 → (j i : ℕ) → j < places → sender work row j i ≡ false
+  empty-row l none j i m = go (sender work row j i) refl
+    where
+      go : (c : Bool) → sender work row j i ≡ c → c ≡ false
+      go true e = absurd (omega (arith, S .within row j i l m e .1))
+      go false e = refl
+
   pub emptied-before : row < rows → highOf work row ≡ 0 → Emptied work work row
   emptied-before l none = record {
     rest = record { size = refl; past = λ k h. refl };
@@ -86,12 +93,8 @@ module _ (work : List ℕ) (row : ℕ) (S : Spanned work places) where
     cells = λ x j i h m. go x j i m (eqb x row) refl;
   }
     where
-      empty : (j i : ℕ) → j < places → (c : Bool) → sender work row j i ≡ c → c ≡ false
-      empty j i m true e = absurd (omega (arith, S .within row j i l m e .1))
-      empty j i m false e = refl
-
       go : (x j i : ℕ) → j < places → (c : Bool) → eqb x row ≡ c → sender work x j i ≡ not c && sender work x j i
-      go x j i m true e = rw (eqb-true x row e) (empty j i m (sender work row j i) refl)
+      go x j i m true e = rw (eqb-true x row e) (empty-row l none j i m)
       go x j i m false e = refl
 
 -- ---- what it sends

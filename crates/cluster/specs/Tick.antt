@@ -6,10 +6,9 @@ use mathlib.Core.List.{List, [], _∷_, map}
 use Prim.Native.Nat.{ℕ, _+_, _-_, _/_, _%_, _<_, _≤_}
 use lib.Dec.{eqb, leb, ltb}
 use lib.ListN.{length, getD}
-use Rattle.register.specs.Lists.{anyUpTo}
 use Rattle.register.specs.Server.{correct, isFaulty}
 use Rattle.calendar.specs.Bits.{bit}
-use Rattle.calendar.specs.Layout.{receivers, rows, places, rowOf, highOf, sender}
+use Rattle.calendar.specs.Layout.{receivers, rows, places, rowOf, sender}
 use Rattle.calendar.specs.View.{SamePast, Spanned}
 use Rattle.serving.specs.declared.Server.{Server}
 use Rattle.cluster.specs.declared.Reader.{Reader}
@@ -45,10 +44,6 @@ pub record Hearing (work : List ℕ) (t : ℕ) (s r : List Reader) (n : ℕ) : T
   pub size : length r ≡ length s
   pub each : (x : ℕ) → x < n → Noted work (rowOf t (16 + x)) (getD s x noReader) (getD r x noReader)
   pub rest : (x : ℕ) → n ≤ x → getD r x noReader ≡ getD s x noReader
-
--- something is in a reader's row of tick t
-abbrev pub anyHeard : List ℕ → ℕ → Bool
-anyHeard work t = anyUpTo 4 (λ x. not (eqb (highOf work (rowOf t (16 + x))) 0))
 
 -- all readers have, and their rows are empty now; the other rows are as they were
 pub record Heard (work after : List ℕ) (t : ℕ) (s r : List Reader) : Type 0 where

@@ -1,14 +1,16 @@
 // Stages 1 to 4 of a tick of the whole cluster: the readers note what arrives, each server goes through its stages, and what it sends is posted.
 ghost use mathlib.Core.Path.{_≡_};
-ghost use Prim.Native.Nat.{_<_, _≤_};
+ghost use mathlib.Core.Bool.{not};
+ghost use Prim.Native.Nat.{_+_, _<_, _≤_};
+ghost use lib.Dec.{eqb};
 ghost use lib.ListN.{length};
 ghost use Rattle.calendar.specs.Bits.{bit};
-ghost use Rattle.calendar.specs.Layout.{rows, places, calendarSize, rowOf};
+ghost use Rattle.calendar.specs.Layout.{places, calendarSize, rowOf, highOf};
 ghost use Rattle.calendar.specs.View.{Spanned};
 ghost use Rattle.serving.specs.Stored.{statusOf, keys};
 ghost use Rattle.cluster.specs.Inputs.{Tickable, isAsked, wroteAt, asksAt};
 ghost use Rattle.cluster.specs.Settled.{called, reached, CalmlyTurned, CalmlyServed};
-ghost use Rattle.cluster.specs.Tick.{anyHeard, Heard, Emptied, Started, endsOf, feedOf};
+ghost use Rattle.cluster.specs.Tick.{Noted, Emptied, Started, endsOf, feedOf};
 use super::Arrivals;
 use super::Cluster;
 use super::Feed;
@@ -37,35 +39,22 @@ fn has(set: u16, b: usize) -> bool
     (set >> b) % 2 == 1
 }
 
-// Does anything reach a reader in tick t. In most ticks: no.
-pub fn is_heard(work: &[u8], t: usize) -> bool
-    requires { ⌜ calendarSize ≤ length (now work) ⌝ }
-    ensures { λ r. ⌜ r ≡ anyHeard (now (work .entry)) t ⌝ }
+// Does anything reach reader x in tick t. Most often: no.
+pub fn is_heard(work: &[u8], t: usize, x: usize) -> bool
+    requires { ⌜ (x < 4) × (calendarSize ≤ length (now work)) ⌝ }
+    ensures { λ r. ⌜ r ≡ not (eqb (highOf (now (work .entry)) (rowOf t (16 + x))) 0) ⌝ }
 {
-    let mut x: usize = 0;
-    while x < READERS {
-        if calendar::high(work, calendar::row(t, SERVERS + x)) != 0 {
-            return true;
-        }
-        x += 1;
-    }
-    false
+    calendar::high(work, calendar::row(t, SERVERS + x)) != 0
 }
 
-// The readers note the replies that arrive in tick t, which are then no longer under way.
-pub fn hear(readers: [Reader; READERS], work: &mut [u8], t: usize) -> [Reader; READERS]
-    requires { ⌜ (calendarSize ≤ length (now work)) × Spanned (now work) places ⌝ }
-    ensures { λ r. ⌜ Heard (now (work .entry)) (now (work .exit)) t readers r ⌝ }
+// Reader x notes the replies that arrive in tick t, which are then no longer under way.
+pub fn hear(reader: Reader, work: &mut [u8], t: usize, x: usize) -> Reader
+    requires { ⌜ (x < 4) × (calendarSize ≤ length (now work)) × Spanned (now work) places ⌝ }
+    ensures { λ r. ⌜ Noted (now (work .entry)) (rowOf t (16 + x)) reader r × Emptied (now (work .entry)) (now (work .exit)) (rowOf t (16 + x)) ⌝ }
 {
-    let mut heard = readers;
-    let mut x: usize = 0;
-    while x < READERS {
-        let row = calendar::row(t, SERVERS + x);
-        let r = heard[x];
-        heard[x] = r.note(work, row);
-        calendar::clear(work, row);
-        x += 1;
-    }
+    let row = calendar::row(t, SERVERS + x);
+    let heard = reader.note(work, row);
+    calendar::clear(work, row);
     heard
 }
 

@@ -10,6 +10,7 @@ use super::tick::write_on;
 use cluster::Cluster;
 use cluster::tick;
 use script::Script;
+use serving::READERS;
 
 // The ticks from the next one to before tick `to`; the reads that end in them are answered. Most ticks bring the readers nothing, and no read ends or
 // begins in them: then the readers stay where they are.
@@ -37,10 +38,13 @@ pub fn run(
         let ends = r.ends;
         let feed = feed_of(plan, work, script, written, ends, t);
         let due = tick::together(feed.arrivals);
-        if tick::is_heard(work, t as usize) {
-            let readers = r.readers;
-            let heard = tick::hear(readers, work, t as usize);
-            r.readers = heard;
+        let mut x: usize = 0;
+        while x < READERS {
+            if tick::is_heard(work, t as usize, x) {
+                let q = r.readers[x];
+                r.readers[x] = tick::hear(q, work, t as usize, x);
+            }
+            x += 1;
         }
         let mut b: usize = 0;
         while b < rules.n {
