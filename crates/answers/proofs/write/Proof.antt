@@ -7,41 +7,17 @@ use borrow.Author.Needs.{needs}
 use Rattle.answers.proofs.write.Statement.{statement}
 use Rattle.answers.proofs.write.Tie as tie
 
-packed-requires : tie.Need-packed-requires
-packed-requires c κs = search needs
-
-cast-out : tie.Need-cast-out
-cast-out c = search needs
-
-slice-write-out : tie.Need-slice-write-out
-slice-write-out c = search needs
-
-cast-out-2 : tie.Need-cast-out-2
-cast-out-2 c = search needs
-
 slice-write-out-2 : tie.Need-slice-write-out-2
 slice-write-out-2 c = simp length-set (omega arith)
-
-cast-out-3 : tie.Need-cast-out-3
-cast-out-3 c = search needs
 
 slice-write-out-3 : tie.Need-slice-write-out-3
 slice-write-out-3 c = simp length-set (omega arith)
 
-cast-out-4 : tie.Need-cast-out-4
-cast-out-4 c = search needs
-
 slice-write-out-4 : tie.Need-slice-write-out-4
 slice-write-out-4 c = simp length-set (omega arith)
 
-cast-out-5 : tie.Need-cast-out-5
-cast-out-5 c = search needs
-
 slice-write-out-5 : tie.Need-slice-write-out-5
 slice-write-out-5 c = search needs
-
-same-length : tie.Need-same-length
-same-length c = search needs
 
 returns : tie.Need-returns
 returns c =
@@ -52,17 +28,5 @@ returns c =
 pub write-spec : {M : Type 1} → statement M
 write-spec =
     tie.close
-    (tie.spec
-    packed-requires
-    cast-out
-    slice-write-out
-    cast-out-2
-    slice-write-out-2
-    cast-out-3
-    slice-write-out-3
-    cast-out-4
-    slice-write-out-4
-    cast-out-5
-    slice-write-out-5
-    same-length
-    returns)
+    (tie.spec (search needs) (search needs) (search needs) (search needs) slice-write-out-2 (search needs) slice-write-out-3 (search needs) slice-write-out-4
+    (search needs) slice-write-out-5 (search needs) returns)

@@ -18,40 +18,14 @@ Inv-loop work₀ i₀ work i = (i ≤ workspaceSize) × (length work ≡ length 
 abbrev μ-loop : tie.MeasureT-loop
 μ-loop work₀ i₀ work i = workspaceSize - i
 
-loop-holds : tie.Need-loop-holds Inv-loop μ-loop
-loop-holds c = search needs
-
-slice-write-work : tie.Need-slice-write-work Inv-loop μ-loop
-slice-write-work c = search needs
-
-add-i : tie.Need-add-i Inv-loop μ-loop
-add-i c = search needs
-
-loop-less : tie.Need-loop-less Inv-loop μ-loop
-loop-less c = search needs
-
 loop-again : tie.Need-loop-again Inv-loop μ-loop
 loop-again c =
     let l = c .before .loop in
     let w = now (c .before .before .args .work) in
     (search needs, simp length-set (l .inv .1), ap (λ (s : List ℕ). set s (l .i) 0) (l .inv .2) ∙ fill-more (l .i) 0 w (omega arith))
 
-same-length : tie.Need-same-length Inv-loop μ-loop
-same-length c = search needs
-
 returns : tie.Need-returns Inv-loop μ-loop
 returns c = zeroed-at (c .before .loop .i) (now (c .before .before .args .work)) _ (omega arith) (c .before .loop .inv .2)
 
 pub zero-spec : {M : Type 1} → statement M
-zero-spec =
-    tie.close
-    (tie.spec
-    Inv-loop
-    μ-loop
-    loop-holds
-    slice-write-work
-    add-i
-    loop-less
-    loop-again
-    same-length
-    returns)
+zero-spec = tie.close (tie.spec Inv-loop μ-loop (search needs) (search needs) (search needs) (search needs) loop-again (search needs) returns)

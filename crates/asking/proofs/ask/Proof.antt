@@ -8,9 +8,6 @@ use Rattle.asking.proofs.Laws.{asked-sent}
 use Rattle.asking.proofs.ask.Statement.{statement}
 use Rattle.asking.proofs.ask.Tie as tie
 
-add-row-bit : tie.Need-add-row-bit
-add-row-bit c = search needs
-
 row-bit-requires : tie.Need-row-bit-requires
 row-bit-requires c κs = let s = c .before .before in let L = s .pre .0 in (L .start, parties-few _ (s .args .links) (s .args .n) (s .args .t) L, omega (arith, L .ticks), s .pre .1)
 
@@ -27,12 +24,8 @@ post-requires c κs = let s = c .before .before .before .before .before in
     let L = s .pre .0 in
     (sent-sendable _ _ (s .args .n) (s .args .t) (s .args .p) _ (L .servers) (omega (arith, L .ticks)) (c .before .of .ensures), omega (arith, s .pre .1, L .readers), s .pre .2)
 
-same-length : tie.Need-same-length
-same-length c = search needs
-
 returns : tie.Need-returns
 returns c = let s = c .before .before .before .before .before .before .before .before in asked-sent _ (s .args .links) (s .args .n) (s .args .t) (s .args .p) _ (rw (c .before .before .before .before .before .row-bit .ensures) at (c .before .before .before .before .of .ensures)) _ _ (c .before .before .post .ensures)
 
 pub ask-spec : {M : Type 1} → statement M
-ask-spec =
-    tie.close (tie.spec add-row-bit row-bit-requires of-requires post-requires same-length returns)
+ask-spec = tie.close (tie.spec (search needs) row-bit-requires of-requires post-requires (search needs) returns)

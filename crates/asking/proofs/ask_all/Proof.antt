@@ -21,18 +21,12 @@ loop-holds c = (omega arith, c .before .before .pre .1 .ordered, between-none _ 
 element-copy-out-size-of : tie.Need-element-copy-out-size-of Inv-loop μ-loop
 element-copy-out-size-of c = let h : c .before .before .loop .i < 255 = omega (arith, c .before .loop-test .taken, c .before .before .before .before .before .pre .1 .few) in search needs
 
-size-of-requires : tie.Need-size-of-requires Inv-loop μ-loop
-size-of-requires c κs = search needs
-
 ask-requires : tie.Need-ask-requires Inv-loop μ-loop
 ask-requires c κs = let l = c .before .before .before .before .loop in
     (c .before .before .before .before .before .before .before .pre .0, rw (c .size-of .ensures .0) (c .before .before .before .before .before .before .before .pre .1 .each (l .i) (l .inv .0) (c .before .before .before .loop-test .taken)), omega (arith, c .before .before .before .before .before .before .before .pre .2, l .inv .2 .outside .rest .size))
 
 add-i : tie.Need-add-i Inv-loop μ-loop
 add-i c = let h : c .before .before .before .before .before .before .before .loop .i < 255 = omega (arith, c .before .before .before .before .before .before .loop-test .taken, c .before .before .before .before .before .before .before .before .before .before .pre .1 .few) in search needs
-
-loop-less : tie.Need-loop-less Inv-loop μ-loop
-loop-less c = search needs
 
 loop-again : tie.Need-loop-again Inv-loop μ-loop
 loop-again c = let l = c .before .before .before .before .before .before .before .loop in
@@ -46,17 +40,4 @@ returns : tie.Need-returns Inv-loop μ-loop
 returns c = let e : c .before .loop .i ≡ c .before .before .before .before .args .to = omega (arith, c .before .loop .inv .1, c .loop-test .left) in rw e at (c .before .loop .inv .2)
 
 pub ask-all-spec : {M : Type 1} → statement M
-ask-all-spec =
-    tie.close
-    (tie.spec
-    Inv-loop
-    μ-loop
-    loop-holds
-    element-copy-out-size-of
-    size-of-requires
-    ask-requires
-    add-i
-    loop-less
-    loop-again
-    same-length
-    returns)
+ask-all-spec = tie.close (tie.spec Inv-loop μ-loop loop-holds element-copy-out-size-of (search needs) ask-requires add-i (search needs) loop-again same-length returns)

@@ -8,18 +8,6 @@ use Rattle.asking.proofs.Laws.{wrote-on}
 use Rattle.asking.proofs.write_on.Statement.{statement}
 use Rattle.asking.proofs.write_on.Tie as tie
 
-clear-requires : tie.Need-clear-requires
-clear-requires c κs = search needs
-
-size-of-requires : tie.Need-size-of-requires
-size-of-requires c κs = search needs
-
-add-next : tie.Need-add-next
-add-next c = search needs
-
-same-length : tie.Need-same-length
-same-length c = search needs
-
 returns : tie.Need-returns
 returns c =
     let h = le-ltb _ _ (rw (c .before .size-of .ensures .0, add-one) at (c .if1 .taken)) in
@@ -27,12 +15,6 @@ returns c =
 
 element-copy-out-size-of : tie.Need-element-copy-out-size-of
 element-copy-out-size-of c = omega (arith, c .if1 .left, c .before .before .before .before .before .before .before .before .pre .1)
-
-size-of-requires-2 : tie.Need-size-of-requires-2
-size-of-requires-2 c κs = search needs
-
-same-length-2 : tie.Need-same-length-2
-same-length-2 c = search needs
 
 returns-2 : tie.Need-returns-2
 returns-2 c =
@@ -47,9 +29,6 @@ ask-requires c κs = (c .before .before .before .before .before .before .before 
 add-result : tie.Need-add-result
 add-result c = omega (arith, c .before .before .before .before .before .before .before .if1 .left, c .before .before .before .before .before .before .before .before .before .before .before .before .before .before .before .pre .1, c .before .before .before .before .before .before .before .before .size-of .ensures .0)
 
-same-length-3 : tie.Need-same-length-3
-same-length-3 c = search needs
-
 returns-3 : tie.Need-returns-3
 returns-3 c =
     let a = c .before .before .before .before .before .before .before .before .before .before .before .before .before .before .before .args in
@@ -60,17 +39,5 @@ returns-3 c =
 pub write-on-spec : {M : Type 1} → statement M
 write-on-spec =
     tie.close
-    (tie.spec
-    clear-requires
-    size-of-requires
-    add-next
-    same-length
-    returns
-    element-copy-out-size-of
-    size-of-requires-2
-    same-length-2
-    returns-2
-    ask-requires
-    add-result
-    same-length-3
-    returns-3)
+    (tie.spec (search needs) (search needs) (search needs) (search needs) returns element-copy-out-size-of (search needs) (search needs) returns-2 ask-requires
+    add-result (search needs) returns-3)

@@ -13,18 +13,6 @@ returns c =
     let a = c .before .before .args in
     posted-none (a .work .now) _ (λ x y k l h. rw (ne-eqb y (a .j) (λ e. omega (arith, c .if1 .taken)), and-false (eqb k (a .i))) (and-false (eqb x (a .row))))
 
-cell-requires : tie.Need-cell-requires
-cell-requires c κs = search needs
-
-add-requires : tie.Need-add-requires
-add-requires c κs = search needs
-
-widen-requires : tie.Need-widen-requires
-widen-requires c κs = search needs
-
-same-length : tie.Need-same-length
-same-length c = search needs
-
 returns-2 : tie.Need-returns-2
 unfolding added
 returns-2 c =
@@ -34,5 +22,4 @@ returns-2 c =
     (posted-one (a .work .now) (a .row) (a .j) (a .i) (s .pre .0) (omega arith) (s .pre .2))
 
 pub post-spec : {M : Type 1} → statement M
-post-spec =
-    tie.close (tie.spec returns cell-requires add-requires widen-requires same-length returns-2)
+post-spec = tie.close (tie.spec returns (search needs) (search needs) (search needs) (search needs) returns-2)

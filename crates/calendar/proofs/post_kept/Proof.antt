@@ -21,12 +21,6 @@ abbrev μ-loop : tie.MeasureT-loop
 loop-holds : tie.Need-loop-holds Inv-loop μ-loop
 loop-holds c = let a = c .before .args in (omega arith, c .before .good .1 .1 .0 .1 .0 .1, λ q h. absurd (omega arith), kept-first (a .t3) (a .row) (a .i) _)
 
-mul-p : tie.Need-mul-p Inv-loop μ-loop
-mul-p c = search needs
-
-array-copy-out-p : tie.Need-array-copy-out-p Inv-loop μ-loop
-array-copy-out-p c = search needs
-
 same-length : tie.Need-same-length Inv-loop μ-loop
 same-length c = c .before .before .before .before .loop .inv .3 .rest .size
 
@@ -41,12 +35,6 @@ post-requires c κs =
     let s = c .before .before .before .before .before .before .before in
     let l = c .before .before .before .before .before .loop in
     (s .pre .0, s .pre .1, omega (arith, l .inv .3 .rest .size))
-
-add-q : tie.Need-add-q Inv-loop μ-loop
-add-q c = search needs
-
-loop-less : tie.Need-loop-less Inv-loop μ-loop
-loop-less c = search needs
 
 loop-again : tie.Need-loop-again Inv-loop μ-loop
 loop-again c =
@@ -69,17 +57,5 @@ returns-2 c = let l = c .before .loop in let e : l .q ≡ length (c .before .bef
 pub post-kept-spec : {M : Type 1} → statement M
 post-kept-spec =
     tie.close
-    (tie.spec
-    Inv-loop
-    μ-loop
-    loop-holds
-    mul-p
-    array-copy-out-p
-    same-length
-    returns
-    post-requires
-    add-q
-    loop-less
-    loop-again
-    same-length-2
+    (tie.spec Inv-loop μ-loop loop-holds (search needs) (search needs) same-length returns post-requires (search needs) (search needs) loop-again same-length-2
     returns-2)

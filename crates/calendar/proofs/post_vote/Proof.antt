@@ -29,12 +29,6 @@ row-requires c κs = omega (arith, c .before .before .before .before .before .be
 post-requires : tie.Need-post-requires Inv-loop μ-loop
 post-requires c κs = let p = c .before .before .before .before .before .before .before .pre in (c .row .ensures .1, p .1, omega (arith, c .before .before .before .before .before .loop .inv .1 .rest .size))
 
-add-b : tie.Need-add-b Inv-loop μ-loop
-add-b c = search needs
-
-loop-less : tie.Need-loop-less Inv-loop μ-loop
-loop-less c = search needs
-
 loop-again : tie.Need-loop-again Inv-loop μ-loop
 loop-again c = let s = c .before .before .before .before in
     let l = c .before .before .loop in
@@ -53,17 +47,4 @@ returns : tie.Need-returns Inv-loop μ-loop
 returns c = let e : c .before .loop .b ≡ c .before .before .before .args .sending .n = omega arith in rw e at (c .before .loop .inv .1)
 
 pub post-vote-spec : {M : Type 1} → statement M
-post-vote-spec =
-    tie.close
-    (tie.spec
-    Inv-loop
-    μ-loop
-    loop-holds
-    arrival-requires
-    row-requires
-    post-requires
-    add-b
-    loop-less
-    loop-again
-    same-length
-    returns)
+post-vote-spec = tie.close (tie.spec Inv-loop μ-loop loop-holds arrival-requires row-requires post-requires (search needs) (search needs) loop-again same-length returns)

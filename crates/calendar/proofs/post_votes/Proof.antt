@@ -31,12 +31,6 @@ post-kept-requires c κs =
     let l = c .before .before .before .before .before .loop in
     (c .row .ensures .1, omega (arith, p .0 .servers, p .1, c .before .before .before .before .loop-test .taken), omega (arith, l .inv .1 .rest .size))
 
-add-b : tie.Need-add-b Inv-loop μ-loop
-add-b c = search needs
-
-loop-less : tie.Need-loop-less Inv-loop μ-loop
-loop-less c = search needs
-
 loop-again : tie.Need-loop-again Inv-loop μ-loop
 loop-again c = let s = c .before .before .before .before in
     let l = c .before .before .loop in
@@ -57,15 +51,4 @@ returns c = let e : c .before .loop .b ≡ c .before .before .before .args .send
 pub post-votes-spec : {M : Type 1} → statement M
 post-votes-spec =
     tie.close
-    (tie.spec
-    Inv-loop
-    μ-loop
-    loop-holds
-    arrival-requires
-    row-requires
-    post-kept-requires
-    add-b
-    loop-less
-    loop-again
-    same-length
-    returns)
+    (tie.spec Inv-loop μ-loop loop-holds arrival-requires row-requires post-kept-requires (search needs) (search needs) loop-again same-length returns)

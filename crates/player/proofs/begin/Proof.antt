@@ -5,18 +5,6 @@ use Rattle.requests.proofs.Requesting.{behind-trans, past-behind, outside-empty
 use Rattle.player.proofs.begin.Statement.{statement}
 use Rattle.player.proofs.begin.Tie as tie
 
-start-requires : tie.Need-start-requires
-start-requires c κs = search needs
-
-start-requires-2 : tie.Need-start-requires-2
-start-requires-2 c κs = search needs
-
-start-requires-3 : tie.Need-start-requires-3
-start-requires-3 c κs = search needs
-
-same-length : tie.Need-same-length
-same-length c = search needs
-
 returns : tie.Need-returns
 returns c =
     let calendar = c .before .before .before .before .before .before .before .start .ensures in
@@ -30,5 +18,4 @@ returns c =
     }
 
 pub begin-spec : {M : Type 1} → statement M
-begin-spec =
-    tie.close (tie.spec start-requires start-requires-2 start-requires-3 same-length returns)
+begin-spec = tie.close (tie.spec (search needs) (search needs) (search needs) (search needs) returns)

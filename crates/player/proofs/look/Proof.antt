@@ -13,9 +13,6 @@ read-requires c κs = search needs
 begin-requires : tie.Need-begin-requires
 begin-requires c κs = omega (arith, c .before .before .before .before .before .before .before .pre .1, c .before .before .before .read .ensures .forged .filled .size)
 
-slice-aggregate-run : tie.Need-slice-aggregate-run
-slice-aggregate-run c = search needs
-
 run-requires : tie.Need-run-requires
 run-requires c κs = (
   ready _ _ _ _ _ (c .before .before .before .before .before .before .before .before .before .before .before .before .pre .0) (c .before .before .before .before .before .before .before .before .before .before .before .before .pre .1) (c .before .before .before .before .before .before .before .before .read .ensures) _ (c .before .before .before .before .begin .ensures),
@@ -24,9 +21,6 @@ run-requires c κs = (
   omega (arith, c .before .before .before .before .before .before .before .before .before .before .before .before .pre .3, ticks-are _ _ _ _ _ (c .before .before .before .before .before .before .before .before .before .before .before .before .pre .0) (c .before .before .before .before .before .before .before .before .before .before .before .before .pre .1) (c .before .before .before .before .before .before .before .before .read .ensures) _ (c .before .before .before .before .begin .ensures)),
   omega (arith, c .before .before .before .before .before .before .before .before .read .ensures .reads .few),
 )
-
-slice-aggregate-next : tie.Need-slice-aggregate-next
-slice-aggregate-next c = search needs
 
 next-requires : tie.Need-next-requires
 next-requires c κs = (
@@ -62,15 +56,5 @@ returns c =
 pub look-spec : {M : Type 1} → statement M
 look-spec =
     tie.close
-    (tie.spec
-    read-requires
-    begin-requires
-    slice-aggregate-run
-    run-requires
-    slice-aggregate-next
-    next-requires
-    zero-requires
-    mul-seen
-    element-copy-out-seen
-    same-length
+    (tie.spec read-requires begin-requires (search needs) run-requires (search needs) next-requires zero-requires mul-seen element-copy-out-seen same-length
     returns)

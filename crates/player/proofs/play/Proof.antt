@@ -23,23 +23,8 @@ run-requires c κs = (
 zero-requires : tie.Need-zero-requires
 zero-requires c κs = omega (arith, c .before .before .before .before .before .before .before .before .before .before .before .before .before .before .before .before .before .before .before .pre .2, c .before .before .before .before .before .before .before .before .before .before .before .before .before .before .read .ensures .forged .filled .size, c .before .before .before .before .before .before .before .before .before .before .begin .ensures .kept .size, c .before .before .before .before .before .run .ensures .0 .kept .size)
 
-same-length : tie.Need-same-length
-same-length c = search needs
-
-same-length-2 : tie.Need-same-length-2
-same-length-2 c = search needs
-
 returns : tie.Need-returns
 returns c = all-there _ _ _ _ _ (c .before .before .before .before .before .before .before .before .before .before .before .before .before .before .before .before .before .before .before .before .before .before .pre .0) (c .before .before .before .before .before .before .before .before .before .before .before .before .before .before .before .before .before .before .before .before .before .before .pre .2) (c .before .before .before .before .before .before .before .before .before .before .before .before .before .before .before .before .before .read .ensures) _ (c .before .before .before .before .before .before .before .before .before .before .before .before .before .begin .ensures) _ _ _ _ (c .before .before .before .before .before .before .before .before .run .ensures .0) (c .before .before .before .before .before .before .before .before .run .ensures .1) _ (c .before .before .zero .ensures)
 
 pub play-spec : {M : Type 1} → statement M
-play-spec =
-    tie.close
-    (tie.spec
-    read-requires
-    begin-requires
-    run-requires
-    zero-requires
-    same-length
-    same-length-2
-    returns)
+play-spec = tie.close (tie.spec read-requires begin-requires run-requires zero-requires (search needs) (search needs) returns)

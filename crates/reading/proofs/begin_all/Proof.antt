@@ -21,9 +21,6 @@ loop-holds c = (omega arith, c .pre .ordered, c .good .0 .1 .0 .1, begun-none _ 
 element-copy-out-size-of : tie.Need-element-copy-out-size-of Inv-loop μ-loop
 element-copy-out-size-of c = let h : c .before .loop .i < 255 = omega (arith, c .loop-test .taken, c .before .before .pre .few) in search needs
 
-size-of-requires : tie.Need-size-of-requires Inv-loop μ-loop
-size-of-requires c κs = search needs
-
 sub-x : tie.Need-sub-x Inv-loop μ-loop
 sub-x c =
     let l = c .before .before .before .loop in
@@ -46,9 +43,6 @@ array-set-from-rs c =
 add-i : tie.Need-add-i Inv-loop μ-loop
 add-i c = let h : c .before .before .before .loop .i < 255 = omega (arith, c .before .before .loop-test .taken, c .before .before .before .before .pre .few) in search needs
 
-loop-less : tie.Need-loop-less Inv-loop μ-loop
-loop-less c = search needs
-
 loop-again : tie.Need-loop-again Inv-loop μ-loop
 loop-again c =
     let l = c .before .before .before .loop in (
@@ -64,16 +58,4 @@ returns c = let e : c .before .loop .i ≡ c .before .before .args .to = omega (
 pub begin-all-spec : {M : Type 1} → statement M
 begin-all-spec =
     tie.close
-    (tie.spec
-    Inv-loop
-    μ-loop
-    loop-holds
-    element-copy-out-size-of
-    size-of-requires
-    sub-x
-    mul-rs
-    array-set-from-rs
-    add-i
-    loop-less
-    loop-again
-    returns)
+    (tie.spec Inv-loop μ-loop loop-holds element-copy-out-size-of (search needs) sub-x mul-rs array-set-from-rs add-i (search needs) loop-again returns)

@@ -25,9 +25,6 @@ element-copy-out-reader c = let h : c .before .loop .i < 255 = omega (arith, c .
 element-copy-out-begun : tie.Need-element-copy-out-begun Inv-loop μ-loop
 element-copy-out-begun c = let h : c .before .before .loop .i < 255 = omega (arith, c .before .loop-test .taken, c .before .before .before .before .before .before .before .pre .0 .few) in search needs
 
-size-of-requires : tie.Need-size-of-requires Inv-loop μ-loop
-size-of-requires c κs = search needs
-
 sub-r : tie.Need-sub-r Inv-loop μ-loop
 sub-r c =
     let l = c .before .before .before .before .loop in
@@ -75,9 +72,6 @@ answer-requires c κs =
 add-i : tie.Need-add-i Inv-loop μ-loop
 add-i c = let h : c .before .before .before .before .before .before .before .before .before .before .loop .i < 255 = omega (arith, c .before .before .before .before .before .before .before .before .before .loop-test .taken, c .before .before .before .before .before .before .before .before .before .before .before .before .before .before .before .pre .0 .few) in search needs
 
-loop-less : tie.Need-loop-less Inv-loop μ-loop
-loop-less c = search needs
-
 loop-again : tie.Need-loop-again Inv-loop μ-loop
 loop-again c =
     let l = c .before .before .before .before .before .before .before .before .before .before .loop in (
@@ -97,23 +91,5 @@ returns c = let e : c .before .loop .i ≡ c .before .before .before .before .be
 pub end-all-spec : {M : Type 1} → statement M
 end-all-spec =
     tie.close
-    (tie.spec
-    Inv-loop
-    μ-loop
-    loop-holds
-    element-copy-out-reader
-    element-copy-out-begun
-    size-of-requires
-    sub-r
-    mul-r
-    array-copy-out-r
-    mul-answer
-    sub-answer
-    part-answer-start
-    part-answer-end
-    answer-requires
-    add-i
-    loop-less
-    loop-again
-    same-length
-    returns)
+    (tie.spec Inv-loop μ-loop loop-holds element-copy-out-reader element-copy-out-begun (search needs) sub-r mul-r array-copy-out-r mul-answer sub-answer
+    part-answer-start part-answer-end answer-requires add-i (search needs) loop-again same-length returns)

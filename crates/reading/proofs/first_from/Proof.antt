@@ -19,9 +19,6 @@ loop-holds c = (omega arith, c .pre .0, λ j a b. absurd (omega arith))
 element-copy-out-size-of : tie.Need-element-copy-out-size-of Inv-loop μ-loop
 element-copy-out-size-of c = let h : c .before .loop .i < 255 = omega (arith, c .loop-test .taken, c .before .before .pre .1) in search needs
 
-size-of-requires : tie.Need-size-of-requires Inv-loop μ-loop
-size-of-requires c κs = search needs
-
 returns : tie.Need-returns Inv-loop μ-loop
 returns c =
     let l = c .before .before .before .before .loop in
@@ -42,16 +39,4 @@ returns-2 : tie.Need-returns-2 Inv-loop μ-loop
 returns-2 c = let l = c .before .loop in until-last _ _ _ _ (l .i) (l .inv .0) (l .inv .2) (c .loop-test .left) (l .inv .1)
 
 pub first-from-spec : {M : Type 1} → statement M
-first-from-spec =
-    tie.close
-    (tie.spec
-    Inv-loop
-    μ-loop
-    loop-holds
-    element-copy-out-size-of
-    size-of-requires
-    returns
-    add-i
-    loop-less
-    loop-again
-    returns-2)
+first-from-spec = tie.close (tie.spec Inv-loop μ-loop loop-holds element-copy-out-size-of (search needs) returns add-i loop-less loop-again returns-2)

@@ -7,14 +7,8 @@ use Rattle.reading.proofs.is_before.Tie as tie
 returns : tie.Need-returns
 returns c = rw (le-ltb _ _ (c .if1 .taken))
 
-element-copy-out-size-of : tie.Need-element-copy-out-size-of
-element-copy-out-size-of c = search needs
-
-size-of-requires : tie.Need-size-of-requires
-size-of-requires c κs = search needs
-
 returns-2 : tie.Need-returns-2
 returns-2 c = rw (c .size-of .ensures, lt-ltb _ _ (c .before .before .if1 .left))
 
 pub is-before-spec : {M : Type 1} → statement M
-is-before-spec = tie.close (tie.spec returns element-copy-out-size-of size-of-requires returns-2)
+is-before-spec = tie.close (tie.spec returns (search needs) (search needs) returns-2)

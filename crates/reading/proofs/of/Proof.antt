@@ -3,11 +3,8 @@ use borrow.Author.Needs.{needs}
 use Rattle.reading.proofs.of.Statement.{statement}
 use Rattle.reading.proofs.of.Tie as tie
 
-ends-of-requires : tie.Need-ends-of-requires
-ends-of-requires c κs = search needs
-
 returns : tie.Need-returns
 returns c = rw (c .ends-of .ensures)
 
 pub of-spec : {M : Type 1} → statement M
-of-spec = tie.close (tie.spec ends-of-requires returns)
+of-spec = tie.close (tie.spec (search needs) returns)

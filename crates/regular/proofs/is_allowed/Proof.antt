@@ -16,19 +16,10 @@ known c P x W d r =
     let a = c .before .args in
     record { tables = W; found = c .last-finished .ensures .1 P x (writeAt (now (a .values)) (now (a .begun))) d r (λ j. refl) }
 
-last-finished-requires : tie.Need-last-finished-requires
-last-finished-requires c κs = search needs
-
 returns : tie.Need-returns
 returns c = λ P x W d r.
     let f = c .before in
     sym (unknown-number (known f P x W d r) (f .before .args .value) (f .before .args .number) (search needs) (c .if1 .taken))
-
-mul-if2 : tie.Need-mul-if2
-mul-if2 c = search needs
-
-element-copy-out-if2 : tie.Need-element-copy-out-if2
-element-copy-out-if2 c = search needs
 
 returns-2 : tie.Need-returns-2
 returns-2 c = λ P x W d r.
@@ -45,12 +36,6 @@ returns-4 c = λ P x W d r.
     let f = c .before .before .before .before .before in
     sym (too-early (known f P x W d r) (f .before .args .value) (f .before .args .number) (c .before .before .if2 .left) (c .if4 .taken))
 
-element-copy-out-is-begun-by-end : tie.Need-element-copy-out-is-begun-by-end
-element-copy-out-is-begun-by-end c = search needs
-
-is-begun-by-end-requires : tie.Need-is-begun-by-end-requires
-is-begun-by-end-requires c κs = search needs
-
 returns-5 : tie.Need-returns-5
 returns-5 c = λ P x W d r.
     let f = c .before .before .before .before .before .before .before in
@@ -58,16 +43,4 @@ returns-5 c = λ P x W d r.
     c .is-begun-by-end .ensures ∙ rw (← d, ← r) (sym later)
 
 pub is-allowed-spec : {M : Type 1} → statement M
-is-allowed-spec =
-    tie.close
-    (tie.spec
-    last-finished-requires
-    returns
-    mul-if2
-    element-copy-out-if2
-    returns-2
-    returns-3
-    returns-4
-    element-copy-out-is-begun-by-end
-    is-begun-by-end-requires
-    returns-5)
+is-allowed-spec = tie.close (tie.spec (search needs) returns (search needs) (search needs) returns-2 returns-3 returns-4 (search needs) (search needs) returns-5)

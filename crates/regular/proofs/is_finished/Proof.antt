@@ -5,12 +5,9 @@ use borrow.Author.Needs.{needs}
 use Rattle.regular.proofs.is_finished.Statement.{statement}
 use Rattle.regular.proofs.is_finished.Tie as tie
 
-add-result : tie.Need-add-result
-add-result c = search needs
-
 returns : tie.Need-returns
 unfolding finished
 returns c = λ P x w d b e. rw (d, b, e)
 
 pub is-finished-spec : {M : Type 1} → statement M
-is-finished-spec = tie.close (tie.spec add-result returns)
+is-finished-spec = tie.close (tie.spec (search needs) returns)

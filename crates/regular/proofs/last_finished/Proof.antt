@@ -28,18 +28,6 @@ abbrev μ-loop : tie.MeasureT-loop
 loop-holds : tie.Need-loop-holds Inv-loop μ-loop
 loop-holds c = (search needs, search needs, search needs, λ P x w d b e. last-none (λ j. finished P x (w j)))
 
-element-copy-out-is-finished : tie.Need-element-copy-out-is-finished Inv-loop μ-loop
-element-copy-out-is-finished c = search needs
-
-is-finished-requires : tie.Need-is-finished-requires Inv-loop μ-loop
-is-finished-requires c κs = search needs
-
-add-j : tie.Need-add-j Inv-loop μ-loop
-add-j c = search needs
-
-loop-less : tie.Need-loop-less Inv-loop μ-loop
-loop-less c = search needs
-
 loop-again : tie.Need-loop-again Inv-loop μ-loop
 loop-again c =
     let h = c .before .before .before .before .loop in
@@ -67,15 +55,4 @@ returns c =
     (omega arith, rw e at (c .before .loop .inv .3))
 
 pub last-finished-spec : {M : Type 1} → statement M
-last-finished-spec =
-    tie.close
-    (tie.spec
-    Inv-loop
-    μ-loop
-    loop-holds
-    element-copy-out-is-finished
-    is-finished-requires
-    add-j
-    loop-less
-    loop-again
-    returns)
+last-finished-spec = tie.close (tie.spec Inv-loop μ-loop loop-holds (search needs) (search needs) (search needs) (search needs) loop-again returns)

@@ -26,12 +26,6 @@ word-requires c κs = c .before .before .before .before .before .pre .1
 add-requires : tie.Need-add-requires Inv-loop μ-loop
 add-requires c κs = (omega (arith, c .word .ensures .1, c .before .before .before .before .loop .inv .1 .outside .rest .size, c .before .before .before .before .before .before .pre .2), omega (arith, c .before .before .before .before .before .before .pre .0 .servers, c .before .before .before .loop-test .taken))
 
-add-b : tie.Need-add-b Inv-loop μ-loop
-add-b c = search needs
-
-loop-less : tie.Need-loop-less Inv-loop μ-loop
-loop-less c = search needs
-
 loop-again : tie.Need-loop-again Inv-loop μ-loop
 unfolding reaching
 loop-again c = let s = c .before .before .before .before .before .before .before .before .before in
@@ -48,17 +42,4 @@ returns : tie.Need-returns Inv-loop μ-loop
 returns c = let e : c .before .loop .b ≡ c .before .before .before .args .sending .n = omega arith in rw e at (c .before .loop .inv .1)
 
 pub post-spec : {M : Type 1} → statement M
-post-spec =
-    tie.close
-    (tie.spec
-    Inv-loop
-    μ-loop
-    loop-holds
-    arrival-requires
-    word-requires
-    add-requires
-    add-b
-    loop-less
-    loop-again
-    same-length
-    returns)
+post-spec = tie.close (tie.spec Inv-loop μ-loop loop-holds arrival-requires word-requires add-requires (search needs) (search needs) loop-again same-length returns)

@@ -10,12 +10,6 @@ use Rattle.script.proofs.forge.Tie as tie
 forgeries-at-requires : tie.Need-forgeries-at-requires
 forgeries-at-requires c κs = let s = c .before .before in shape-ranged (s .args .plan .now) (s .pre .0) (s .args .header) (s .pre .1)
 
-cast-count : tie.Need-cast-count
-cast-count c = search needs
-
-cast-fill : tie.Need-cast-fill
-cast-fill c = search needs
-
 sub-fill : tie.Need-sub-fill
 sub-fill c =
     let s = c .before .before .before .before .before .before .before in
@@ -29,9 +23,6 @@ part-fill-start c =
     (c .before .before .before .before .forgeries-at .ensures .0 ∙ ap (λ (h : Header). operationAt 16 h (h .operations)) (s .pre .1)) (ap (λ (h : Header). h .forgeries) (s .pre .1)) in
     search needs
 
-part-fill-end : tie.Need-part-fill-end
-part-fill-end c = search needs
-
 fill-requires : tie.Need-fill-requires
 fill-requires c κs =
     let s = c .before .before .before .before .before .before .before .before .before .before in
@@ -43,9 +34,6 @@ starts-requires : tie.Need-starts-requires
 starts-requires c κs =
     let s = c .before .before .before .before .before .before .before .before .before .before .before .before .before .before in
     (shape-ranged (s .args .plan .now) (s .pre .0) (s .args .header) (s .pre .1) .forgeries-hi, omega (arith, s .pre .3, c .before .before .before .fill .ensures .size))
-
-same-length : tie.Need-same-length
-same-length c = search needs
 
 returns : tie.Need-returns
 returns c =
@@ -59,14 +47,4 @@ returns c =
 pub forge-spec : {M : Type 1} → statement M
 forge-spec =
     tie.close
-    (tie.spec
-    forgeries-at-requires
-    cast-count
-    sub-fill
-    part-fill-start
-    part-fill-end
-    cast-fill
-    fill-requires
-    starts-requires
-    same-length
-    returns)
+    (tie.spec forgeries-at-requires (search needs) sub-fill part-fill-start (search needs) (search needs) fill-requires starts-requires (search needs) returns)

@@ -10,18 +10,12 @@ use Rattle.script.proofs.read.Tie as tie
 read-requires : tie.Need-read-requires
 read-requires c κs = header-there 16 (c .before .before .args .plan .now) (c .before .before .pre .0)
 
-rules-of-requires : tie.Need-rules-of-requires
-rules-of-requires c κs = search needs
-
 links-of-requires : tie.Need-links-of-requires
 links-of-requires c κs = shape-ranged (c .before .before .before .before .args .plan .now) (c .before .before .before .before .pre .0) (c .before .read .result) (c .before .read .ensures)
 
 operations-at-requires : tie.Need-operations-at-requires
 operations-at-requires c κs =
     shape-ranged (c .before .before .before .before .before .args .plan .now) (c .before .before .before .before .before .pre .0) (c .before .before .read .result) (c .before .before .read .ensures)
-
-cast-count : tie.Need-cast-count
-cast-count c = search needs
 
 writes-of-requires : tie.Need-writes-of-requires
 writes-of-requires c κs =
@@ -38,9 +32,6 @@ reads-of-requires c κs =
 forge-requires : tie.Need-forge-requires
 forge-requires c κs = search needs
 
-same-length : tie.Need-same-length
-same-length c = search needs
-
 returns : tie.Need-returns
 returns c =
     let s = c .before .before .before .before .before .before .before .before .before .before .before .before .before in
@@ -56,14 +47,5 @@ returns c =
 pub read-spec : {M : Type 1} → statement M
 read-spec =
     tie.close
-    (tie.spec
-    read-requires
-    rules-of-requires
-    links-of-requires
-    operations-at-requires
-    cast-count
-    writes-of-requires
-    reads-of-requires
-    forge-requires
-    same-length
-    returns)
+    (tie.spec read-requires (search needs) links-of-requires operations-at-requires (search needs) writes-of-requires reads-of-requires forge-requires
+    (search needs) returns)

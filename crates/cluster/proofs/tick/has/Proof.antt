@@ -8,15 +8,9 @@ use Rattle.calendar.specs.Bits.{bit}
 use Rattle.cluster.proofs.tick.has.Statement.{statement}
 use Rattle.cluster.proofs.tick.has.Tie as tie
 
-cast-result : tie.Need-cast-result
-cast-result c = search needs
-
-shr-result : tie.Need-shr-result
-shr-result c = search needs
-
 returns : tie.Need-returns
 unfolding bit
 returns c = let a = c .args in bit-shift 0 (a .b) (a .set) ∙ ap (λ (k : ℕ). bit k (a .set)) (add-zero (a .b))
 
 pub has-spec : {M : Type 1} → statement M
-has-spec = tie.close (tie.spec cast-result shr-result returns)
+has-spec = tie.close (tie.spec (search needs) (search needs) returns)

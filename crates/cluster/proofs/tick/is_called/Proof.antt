@@ -10,9 +10,6 @@ returns : tie.Need-returns
 unfolding called
 returns c = rw (c .if1 .taken)
 
-has-requires : tie.Need-has-requires
-has-requires c κs = search needs
-
 returns-2 : tie.Need-returns-2
 unfolding called
 returns-2 c = rw (c .before .before .if1 .left, sym (c .before .has .ensures) ∙ c .if2 .taken)
@@ -21,13 +18,9 @@ returns-3 : tie.Need-returns-3
 unfolding called
 returns-3 c = rw (c .before .before .before .if1 .left, sym (c .before .before .has .ensures) ∙ c .before .if2 .left, ne-eqb _ _ (c .if3 .taken))
 
-is-cured-at-requires : tie.Need-is-cured-at-requires
-is-cured-at-requires c κs = search needs
-
 returns-4 : tie.Need-returns-4
 unfolding called
 returns-4 c = rw (c .before .before .before .before .if1 .left, sym (c .before .before .before .has .ensures) ∙ c .before .before .if2 .left, eq-eqb _ _ (c .before .if3 .left)) (c .is-cured-at .ensures)
 
 pub is-called-spec : {M : Type 1} → statement M
-is-called-spec =
-    tie.close (tie.spec returns has-requires returns-2 returns-3 is-cured-at-requires returns-4)
+is-called-spec = tie.close (tie.spec returns (search needs) returns-2 returns-3 (search needs) returns-4)

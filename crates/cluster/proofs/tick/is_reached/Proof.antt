@@ -5,31 +5,13 @@ use Rattle.cluster.specs.Settled.{reached}
 use Rattle.cluster.proofs.tick.is_reached.Statement.{statement}
 use Rattle.cluster.proofs.tick.is_reached.Tie as tie
 
-is-called-requires : tie.Need-is-called-requires
-is-called-requires c κs = search needs
-
 returns : tie.Need-returns
 unfolding reached
 returns c = rw (sym (c .before .is-called .ensures) ∙ c .if1 .taken)
 
-is-faulty-requires : tie.Need-is-faulty-requires
-is-faulty-requires c κs = search needs
-
 returns-2 : tie.Need-returns-2
 unfolding reached
 returns-2 c = rw (sym (c .before .before .before .is-called .ensures) ∙ c .before .before .if1 .left, sym (c .before .is-faulty .ensures) ∙ c .if2 .taken)
-
-cast-row : tie.Need-cast-row
-cast-row c = search needs
-
-row-requires : tie.Need-row-requires
-row-requires c κs = search needs
-
-low-requires : tie.Need-low-requires
-low-requires c κs = search needs
-
-high-requires : tie.Need-high-requires
-high-requires c κs = search needs
 
 is-any-new-requires : tie.Need-is-any-new-requires
 is-any-new-requires c κs =
@@ -43,14 +25,4 @@ returns-3 c = rw (sym (c .before .before .before .before .before .before .before
 pub is-reached-spec : {M : Type 1} → statement M
 is-reached-spec =
     tie.close
-    (tie.spec
-    is-called-requires
-    returns
-    is-faulty-requires
-    returns-2
-    cast-row
-    row-requires
-    low-requires
-    high-requires
-    is-any-new-requires
-    returns-3)
+    (tie.spec (search needs) returns (search needs) returns-2 (search needs) (search needs) (search needs) (search needs) is-any-new-requires returns-3)

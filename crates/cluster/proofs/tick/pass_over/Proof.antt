@@ -5,14 +5,6 @@ use borrow.Author.Needs.{needs}
 use Rattle.cluster.proofs.tick.pass_over.Statement.{statement}
 use Rattle.cluster.proofs.tick.pass_over.Tie as tie
 
--- src/tick.rt:132:9
-row-requires : tie.Need-row-requires
-row-requires c κs = search needs
-
--- src/tick.rt:133:8
-high-requires : tie.Need-high-requires
-high-requires c κs = search needs
-
 -- src/tick.rt:134:9
 clear-requires : tie.Need-clear-requires
 clear-requires c κs =
@@ -21,18 +13,10 @@ clear-requires c κs =
     (r .ensures .1, p .2 .top (r .result) (r .ensures .1), p .1)
 
 -- src/tick.rt:128:1
-same-length : tie.Need-same-length
-same-length c = search needs
-
--- src/tick.rt:128:1
 returns : tie.Need-returns
 returns c =
     let s = c .before .before .before .before .before .before .before .before .before in
     emptied-now _ _ (s .pre .2) _ (rw (c .before .before .before .before .before .before .before .row .ensures .0) at (c .before .before .clear .ensures))
-
--- src/tick.rt:128:1
-same-length-2 : tie.Need-same-length-2
-same-length-2 c = search needs
 
 -- src/tick.rt:128:1
 returns-2 : tie.Need-returns-2
@@ -41,13 +25,4 @@ returns-2 c =
     rw (← r .ensures .0) (emptied-before _ (r .result) (c .before .before .before .before .before .pre .2) (r .ensures .1) (sym (c .before .high .ensures .0) ∙ c .if1 .left))
 
 pub pass-over-spec : {M : Type 1} → statement M
-pass-over-spec =
-    tie.close
-    (tie.spec
-    row-requires
-    high-requires
-    clear-requires
-    same-length
-    returns
-    same-length-2
-    returns-2)
+pass-over-spec = tie.close (tie.spec (search needs) (search needs) clear-requires (search needs) returns (search needs) returns-2)

@@ -21,18 +21,6 @@ abbrev μ-loop : tie.MeasureT-loop
 loop-holds : tie.Need-loop-holds Inv-loop μ-loop
 loop-holds c = (search needs, joined-none (c .before .args .arrivals .requests))
 
-mul-r : tie.Need-mul-r Inv-loop μ-loop
-mul-r c = search needs
-
-array-read-r : tie.Need-array-read-r Inv-loop μ-loop
-array-read-r c = search needs
-
-add-p : tie.Need-add-p Inv-loop μ-loop
-add-p c = search needs
-
-loop-less : tie.Need-loop-less Inv-loop μ-loop
-loop-less c = search needs
-
 loop-again : tie.Need-loop-again Inv-loop μ-loop
 loop-again c = let h = c .before .loop in (omega arith, rw (add-one (h .p)) (joined-more (c .before .before .before .args .arrivals .requests) (h .r) (h .p) (h .inv .1)))
 
@@ -41,6 +29,4 @@ unfolding isAsked
 returns c = let e : c .before .loop .p ≡ requesters = omega (arith, c .loop-test .left, c .before .loop .inv .0) in fun-ext (rw e at (c .before .loop .inv .1))
 
 pub together-spec : {M : Type 1} → statement M
-together-spec =
-    tie.close
-    (tie.spec Inv-loop μ-loop loop-holds mul-r array-read-r add-p loop-less loop-again returns)
+together-spec = tie.close (tie.spec Inv-loop μ-loop loop-holds (search needs) (search needs) (search needs) (search needs) loop-again returns)

@@ -23,12 +23,6 @@ use Rattle.cluster.proofs.ServeLaws.{turned-here}
 use Rattle.cluster.proofs.tick.turn.Statement.{statement}
 use Rattle.cluster.proofs.tick.turn.Tie as tie
 
-cast-row : tie.Need-cast-row
-cast-row c = search needs
-
-row-requires : tie.Need-row-requires
-row-requires c κs = search needs
-
 low-requires : tie.Need-low-requires
 low-requires c κs = (c .before .row .ensures .1, c .before .before .before .before .before .before .before .pre .1 .room)
 
@@ -37,12 +31,6 @@ high-requires c κs = (c .before .before .before .row .ensures .1, c .before .be
 
 vote-requires : tie.Need-vote-requires
 vote-requires c κs = let p = c .before .before .before .before .before .before .before .before .before .before .before .pre .1 in (c .before .before .before .before .before .row .ensures .1, p .room, p .spans)
-
-quiet-requires : tie.Need-quiet-requires
-quiet-requires c κs = search needs
-
-is-faulty-requires : tie.Need-is-faulty-requires
-is-faulty-requires c κs = search needs
 
 wrote-at-requires : tie.Need-wrote-at-requires
 wrote-at-requires c κs = omega (arith, c .before .before .before .before .before .before .before .before .before .before .before .before .before .before .before .before .pre .0, c .before .before .before .before .before .before .before .before .before .before .before .before .before .before .before .before .pre .1 .servers)
@@ -53,26 +41,11 @@ asks-at-requires c κs = omega (arith, c .before .before .before .before .before
 deliver-requires : tie.Need-deliver-requires
 deliver-requires c κs = let s = c .before .before .before .before .before .before .before .before .before .before .before .before .before .before .before .before .before .before in (s .pre .1 .pairs, s .pre .1 .echo, s .pre .1 .reply)
 
-is-cured-at-requires : tie.Need-is-cured-at-requires
-is-cured-at-requires c κs = search needs
-
-cure-end-requires : tie.Need-cure-end-requires
-cure-end-requires c κs = search needs
-
-sub-has : tie.Need-sub-has
-sub-has c = search needs
-
 sub-has-2 : tie.Need-sub-has-2
 sub-has-2 c = omega (arith, c .before .before .before .before .before .before .before .before .before .before .before .before .before .before .before .before .before .before .pre .0, c .before .before .before .before .before .before .before .before .before .before .before .before .before .before .before .before .before .before .pre .1 .servers)
 
 has-requires : tie.Need-has-requires
 has-requires c κs = omega (arith, c .before .before .before .before .before .before .before .before .before .before .before .before .before .before .before .before .before .before .pre .0, c .before .before .before .before .before .before .before .before .before .before .before .before .before .before .before .before .before .before .pre .1 .servers)
-
-moved-requires : tie.Need-moved-requires
-moved-requires c κs = search needs
-
-is-correct-requires : tie.Need-is-correct-requires
-is-correct-requires c κs = search needs
 
 clear-requires : tie.Need-clear-requires
 clear-requires c κs = let p = c .before .before .before .before .before .before .before .before .before .before .before .before .before .before .before .before .before .before .before .pre .1 in let r = c .before .before .before .before .before .before .before .before .before .before .before .before .before .row in (r .ensures .1, p .spans .top (r .result) (r .ensures .1), p .room)
@@ -82,9 +55,6 @@ cast-send c = omega (arith, c .before .before .before .before .before .before .b
 
 send-requires : tie.Need-send-requires
 send-requires c κs = let s = c .before .before .before .before .before .before .before .before .before .before .before .before .before .before .before .before .before .before .before .before .before .before .before in let p = s .pre .1 in (omega (arith, p .room, c .before .before .before .clear .ensures .rest .size), rw (add-one (s .args .feed .t)) (p .linked), p .tick, s .pre .0)
-
-same-length : tie.Need-same-length
-same-length c = search needs
 
 returns : tie.Need-returns
 returns c =
@@ -134,26 +104,6 @@ returns c =
 pub turn-spec : {M : Type 1} → statement M
 turn-spec =
     tie.close
-    (tie.spec
-    cast-row
-    row-requires
-    low-requires
-    high-requires
-    vote-requires
-    quiet-requires
-    is-faulty-requires
-    wrote-at-requires
-    asks-at-requires
-    deliver-requires
-    is-cured-at-requires
-    cure-end-requires
-    sub-has
-    sub-has-2
-    has-requires
-    moved-requires
-    is-correct-requires
-    clear-requires
-    cast-send
-    send-requires
-    same-length
-    returns)
+    (tie.spec (search needs) (search needs) low-requires high-requires vote-requires (search needs) (search needs) wrote-at-requires asks-at-requires
+    deliver-requires (search needs) (search needs) (search needs) sub-has-2 has-requires (search needs) (search needs) clear-requires cast-send send-requires
+    (search needs) returns)

@@ -5,12 +5,6 @@ use Rattle.cluster.specs.Inputs.{wroteAt}
 use Rattle.cluster.proofs.tick.wrote_at.Statement.{statement}
 use Rattle.cluster.proofs.tick.wrote_at.Tie as tie
 
-array-read-has : tie.Need-array-read-has
-array-read-has c = search needs
-
-has-requires : tie.Need-has-requires
-has-requires c κs = search needs
-
 returns : tie.Need-returns
 unfolding wroteAt
 returns c = rw (sym (c .before .has .ensures) ∙ c .if1 .taken)
@@ -20,4 +14,4 @@ unfolding wroteAt
 returns-2 c = rw (sym (c .before .has .ensures) ∙ c .if1 .left)
 
 pub wrote-at-spec : {M : Type 1} → statement M
-wrote-at-spec = tie.close (tie.spec array-read-has has-requires returns returns-2)
+wrote-at-spec = tie.close (tie.spec (search needs) (search needs) returns returns-2)

@@ -11,14 +11,8 @@ add-run c = let h = few-ticks _ _ (c .before .before .before .before .before .be
 run-requires : tie.Need-run-requires
 run-requires c κs = search needs
 
-same-length : tie.Need-same-length
-same-length c = search needs
-
-same-length-2 : tie.Need-same-length-2
-same-length-2 c = search needs
-
 returns : tie.Need-returns
 returns c = search needs
 
 pub one-spec : {M : Type 1} → statement M
-one-spec = tie.close (tie.spec add-run run-requires same-length same-length-2 returns)
+one-spec = tie.close (tie.spec add-run run-requires (search needs) (search needs) returns)

@@ -56,17 +56,11 @@ module _ (c : tie.In-loop Inv-loop2 μ-loop2 Inv-loop3 μ-loop3 Inv-loop μ-loop
   below : c .before .loop .t < c .before .before .before .before .before .before .before .before .before .before .before .args .t5 .shape .ticks
   below = omega (arith, c .loop-test .taken, c .before .before .before .before .before .before .before .before .before .before .before .pre .3)
 
-of-requires : tie.Need-of-requires Inv-loop2 μ-loop2 Inv-loop3 μ-loop3 Inv-loop μ-loop
-of-requires c κs = search needs
-
 loop-holds : tie.Need-loop-holds Inv-loop2 μ-loop2 Inv-loop3 μ-loop3 Inv-loop μ-loop
 loop-holds c = rw (c .of .ensures) (c .before .before .before .before .before .before .before .before .before .pre .2, refl, refl, went-none _ _ _ _ _ (c .before .before .before .before .before .before .before .before .before .pre .1))
 
 feed-of-requires : tie.Need-feed-of-requires Inv-loop2 μ-loop2 Inv-loop3 μ-loop3 Inv-loop μ-loop
 feed-of-requires c κs = (c .before .before .before .before .before .before .before .before .before .before .before .before .before .pre .0 .decoded, below (c .before .before), omega (arith, ready (c .before .before) .room))
-
-together-requires : tie.Need-together-requires Inv-loop2 μ-loop2 Inv-loop3 μ-loop3 Inv-loop μ-loop
-together-requires c κs = search needs
 
 loop2-holds : tie.Need-loop2-holds Inv-loop2 μ-loop2 Inv-loop3 μ-loop3 Inv-loop μ-loop
 loop2-holds c =
@@ -245,9 +239,7 @@ returns c = (rw (c .before .before .before .of .ensures) at (c .before .before .
 pub run-spec : {M : Type 1} → statement M
 run-spec =
     tie.close
-    (tie.spec
-    Inv-loop2 μ-loop2 Inv-loop3 μ-loop3 Inv-loop μ-loop of-requires loop-holds feed-of-requires together-requires loop2-holds cast-is-heard
-    is-heard-requires (search needs) (search needs) cast-hear hear-requires (search needs) (search needs) (search needs) (search needs) loop2-again
-    loop3-holds mul-s array-copy-out-s is-reached-requires turn-requires mul-servers array-set-from-servers cast-pass-over pass-over-requires add-b
-    loop3-less loop3-again write-on-requires is-due-requires go-on-requires cast-forge forge-requires add-t loop-less loop-again same-length
-    same-length-2 returns)
+    (tie.spec Inv-loop2 μ-loop2 Inv-loop3 μ-loop3 Inv-loop μ-loop (search needs) loop-holds feed-of-requires (search needs) loop2-holds cast-is-heard
+    is-heard-requires (search needs) (search needs) cast-hear hear-requires (search needs) (search needs) (search needs) (search needs) loop2-again loop3-holds
+    mul-s array-copy-out-s is-reached-requires turn-requires mul-servers array-set-from-servers cast-pass-over pass-over-requires add-b loop3-less loop3-again
+    write-on-requires is-due-requires go-on-requires cast-forge forge-requires add-t loop-less loop-again same-length same-length-2 returns)

@@ -5,9 +5,6 @@ use Rattle.player.proofs.Feeding.{movement-there}
 use Rattle.player.proofs.tick.feed_of.Statement.{statement}
 use Rattle.player.proofs.tick.feed_of.Tie as tie
 
-arrivals-requires : tie.Need-arrivals-requires
-arrivals-requires c κs = search needs
-
 movement-requires : tie.Need-movement-requires
 movement-requires c κs = let s = c .before .before .before .before .before .before .before in movement-there _ _ (s .pre .0) _ (s .pre .1)
 
@@ -15,4 +12,4 @@ returns : tie.Need-returns
 returns c = record { same = refl; comes = c .before .arrivals .ensures; moves = c .movement .ensures }
 
 pub feed-of-spec : {M : Type 1} → statement M
-feed-of-spec = tie.close (tie.spec arrivals-requires movement-requires returns)
+feed-of-spec = tie.close (tie.spec (search needs) movement-requires returns)

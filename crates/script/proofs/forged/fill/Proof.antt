@@ -19,27 +19,6 @@ abbrev μ-loop : tie.MeasureT-loop
 loop-holds : tie.Need-loop-holds Inv-loop μ-loop
 loop-holds c = (search needs, filled-none _ _ _ _)
 
-mul-message-at : tie.Need-mul-message-at Inv-loop μ-loop
-mul-message-at c = search needs
-
-add-message-at : tie.Need-add-message-at Inv-loop μ-loop
-add-message-at c = search needs
-
-message-at-requires : tie.Need-message-at-requires Inv-loop μ-loop
-message-at-requires c κs = search needs
-
-known-number-requires : tie.Need-known-number-requires Inv-loop μ-loop
-known-number-requires c κs = search needs
-
-cast-delay : tie.Need-cast-delay Inv-loop μ-loop
-cast-delay c = search needs
-
-cast-delay-2 : tie.Need-cast-delay-2 Inv-loop μ-loop
-cast-delay-2 c = search needs
-
-cast-delay-3 : tie.Need-cast-delay-3 Inv-loop μ-loop
-cast-delay-3 c = search needs
-
 delay-requires : tie.Need-delay-requires Inv-loop μ-loop
 delay-requires c κs =
     let s = c .before .before .before .before .before .before .before .before .before .before in
@@ -47,15 +26,6 @@ delay-requires c κs =
     let R = reach-same (s .args .plan .now) (s .args .links) (s .args .n) _ _ _ _ _ _ (s .pre .reach (c .before .before .before .before .before .before .loop .e) (c .before .before .before .before .before .loop-test .taken))
     (E .sent) (E .sender) (E .receiver) in
     (R .linked, R .sender, R .receiver)
-
-mul-put-entry : tie.Need-mul-put-entry Inv-loop μ-loop
-mul-put-entry c = search needs
-
-add-put-entry : tie.Need-add-put-entry Inv-loop μ-loop
-add-put-entry c = search needs
-
-cast-put-entry : tie.Need-cast-put-entry Inv-loop μ-loop
-cast-put-entry c = search needs
 
 add-put-entry-2 : tie.Need-add-put-entry-2 Inv-loop μ-loop
 add-put-entry-2 c =
@@ -73,9 +43,6 @@ put-entry-requires c κs =
 
 add-e : tie.Need-add-e Inv-loop μ-loop
 add-e c = omega (arith, c .before .before .before .before .before .before .before .before .before .before .before .loop-test .taken, c .before .before .before .before .before .before .before .before .before .before .before .before .before .before .before .before .pre .few)
-
-loop-less : tie.Need-loop-less Inv-loop μ-loop
-loop-less c = search needs
 
 loop-again : tie.Need-loop-again Inv-loop μ-loop
 loop-again c =
@@ -107,25 +74,5 @@ returns c =
 pub fill-spec : {M : Type 1} → statement M
 fill-spec =
     tie.close
-    (tie.spec
-    Inv-loop
-    μ-loop
-    loop-holds
-    mul-message-at
-    add-message-at
-    message-at-requires
-    known-number-requires
-    cast-delay
-    cast-delay-2
-    cast-delay-3
-    delay-requires
-    mul-put-entry
-    add-put-entry
-    cast-put-entry
-    add-put-entry-2
-    put-entry-requires
-    add-e
-    loop-less
-    loop-again
-    same-length
-    returns)
+    (tie.spec Inv-loop μ-loop loop-holds (search needs) (search needs) (search needs) (search needs) (search needs) (search needs) (search needs) delay-requires
+    (search needs) (search needs) (search needs) add-put-entry-2 put-entry-requires add-e (search needs) loop-again same-length returns)

@@ -5,12 +5,6 @@ use Rattle.script.specs.Forged.{numberIn}
 use Rattle.script.proofs.forged.known_number.Statement.{statement}
 use Rattle.script.proofs.forged.known_number.Tie as tie
 
-mul-if2 : tie.Need-mul-if2
-mul-if2 c = search needs
-
-element-copy-out-if2 : tie.Need-element-copy-out-if2
-element-copy-out-if2 c = search needs
-
 returns : tie.Need-returns
 unfolding numberIn
 returns c = rw (lt-ltb _ _ (c .before .before .if1 .taken), eq-eqb _ _ (c .if2 .taken))
@@ -24,4 +18,4 @@ unfolding numberIn
 returns-3 c = rw (le-ltb _ _ (c .if1 .left))
 
 pub known-number-spec : {M : Type 1} → statement M
-known-number-spec = tie.close (tie.spec mul-if2 element-copy-out-if2 returns returns-2 returns-3)
+known-number-spec = tie.close (tie.spec (search needs) (search needs) returns returns-2 returns-3)

@@ -8,12 +8,6 @@ use Rattle.bits.proofs.Laws.{field-first, field-inner, field-last}
 use Rattle.script.proofs.forged.message_at.Statement.{statement}
 use Rattle.script.proofs.forged.message_at.Tie as tie
 
-field-requires : tie.Need-field-requires
-field-requires c κs = search needs
-
-of-requires : tie.Need-of-requires
-of-requires c κs = search needs
-
 returns : tie.Need-returns
 returns c =
     let s = now (c .before .before .before .args .part) in
@@ -29,5 +23,4 @@ returns c =
     }
 
 pub message-at-spec : {M : Type 1} → statement M
-message-at-spec =
-    tie.close (tie.spec field-requires of-requires returns)
+message-at-spec = tie.close (tie.spec (search needs) (search needs) returns)

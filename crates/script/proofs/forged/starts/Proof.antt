@@ -20,26 +20,8 @@ abbrev μ-loop : tie.MeasureT-loop
 loop-holds : tie.Need-loop-holds Inv-loop μ-loop
 loop-holds c = (search needs, search needs, search needs, (λ i l. absurd (omega arith)), λ k l. absurd (omega arith))
 
-cast-next-start : tie.Need-cast-next-start Inv-loop μ-loop
-cast-next-start c = search needs
-
-next-start-requires : tie.Need-next-start-requires Inv-loop μ-loop
-next-start-requires c κs = search needs
-
 cast-r : tie.Need-cast-r Inv-loop μ-loop
 cast-r c = omega (arith, c .next-start .ensures .1 .few)
-
-mul-r : tie.Need-mul-r Inv-loop μ-loop
-mul-r c = search needs
-
-array-write-r : tie.Need-array-write-r Inv-loop μ-loop
-array-write-r c = search needs
-
-add-u : tie.Need-add-u Inv-loop μ-loop
-add-u c = search needs
-
-loop-less : tie.Need-loop-less Inv-loop μ-loop
-loop-less c = search needs
 
 loop-again : tie.Need-loop-again Inv-loop μ-loop
 loop-again c =
@@ -60,16 +42,4 @@ returns c = record { each = λ u l. c .before .loop .inv .4 u (omega (arith, c .
 pub starts-spec : {M : Type 1} → statement M
 starts-spec =
     tie.close
-    (tie.spec
-    Inv-loop
-    μ-loop
-    loop-holds
-    cast-next-start
-    next-start-requires
-    cast-r
-    mul-r
-    array-write-r
-    add-u
-    loop-less
-    loop-again
-    returns)
+    (tie.spec Inv-loop μ-loop loop-holds (search needs) (search needs) cast-r (search needs) (search needs) (search needs) (search needs) loop-again returns)

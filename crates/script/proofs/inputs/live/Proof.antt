@@ -21,38 +21,8 @@ Inv-loop t delta ends fresh r₀ x₀ r x = (1 ≤ x) × (x ≤ requesters) × (
 abbrev μ-loop : tie.MeasureT-loop
 μ-loop t delta ends fresh r₀ x₀ r x = requesters - x
 
-mul-fresh : tie.Need-mul-fresh Inv-loop μ-loop
-mul-fresh c = search needs
-
-add-fresh : tie.Need-add-fresh Inv-loop μ-loop
-add-fresh c = search needs
-
 loop-holds : tie.Need-loop-holds Inv-loop μ-loop
 loop-holds c = (search needs, search needs, set-none _)
-
-sub-size-of : tie.Need-sub-size-of Inv-loop μ-loop
-sub-size-of c = search needs
-
-array-read-size-of : tie.Need-array-read-size-of Inv-loop μ-loop
-array-read-size-of c = search needs
-
-size-of-requires : tie.Need-size-of-requires Inv-loop μ-loop
-size-of-requires c κs = search needs
-
-add-if1 : tie.Need-add-if1 Inv-loop μ-loop
-add-if1 c = search needs
-
-cast-r : tie.Need-cast-r Inv-loop μ-loop
-cast-r c = search needs
-
-shl-r : tie.Need-shl-r Inv-loop μ-loop
-shl-r c = search needs
-
-add-x : tie.Need-add-x Inv-loop μ-loop
-add-x c = search needs
-
-loop-less : tie.Need-loop-less Inv-loop μ-loop
-loop-less c = search needs
 
 loop-again : tie.Need-loop-again Inv-loop μ-loop
 loop-again c =
@@ -71,19 +41,5 @@ returns c = let e : c .before .loop .x ≡ requesters = omega (arith, c .loop-te
 pub live-spec : {M : Type 1} → statement M
 live-spec =
     tie.close
-    (tie.spec
-    Inv-loop
-    μ-loop
-    mul-fresh
-    add-fresh
-    loop-holds
-    sub-size-of
-    array-read-size-of
-    size-of-requires
-    add-if1
-    cast-r
-    shl-r
-    add-x
-    loop-less
-    loop-again
-    returns)
+    (tie.spec Inv-loop μ-loop (search needs) (search needs) loop-holds (search needs) (search needs) (search needs) (search needs) (search needs) (search needs)
+    (search needs) (search needs) loop-again returns)

@@ -8,17 +8,8 @@ use borrow.Author.Needs.{needs}
 use Rattle.script.proofs.inputs.movement.Statement.{statement}
 use Rattle.script.proofs.inputs.movement.Tie as tie
 
-rem-if1 : tie.Need-rem-if1
-rem-if1 c = search needs
-
 returns : tie.Need-returns
 returns c = record { moving = sym (ne-eqb _ _ (c .if1 .taken)); faulty = λ e. let z : _≡_ {A = ℕ} 0 1 = cc in absurd (omega arith) }
-
-div-field : tie.Need-div-field
-div-field c = search needs
-
-cast-field : tie.Need-cast-field
-cast-field c = search needs
 
 mul-field : tie.Need-mul-field
 mul-field c = omega (arith, div-le-self (c .before .before .args .t) (c .before .before .args .period))
@@ -29,22 +20,8 @@ add-field c = omega (arith, div-le-self (c .before .before .args .t) (c .before 
 field-requires : tie.Need-field-requires
 field-requires c κs = (omega arith, c .before .before .pre .1, omega (arith, div-le-self (c .before .before .args .t) (c .before .before .args .period)))
 
-cast-t10 : tie.Need-cast-t10
-cast-t10 c = search needs
-
 returns-2 : tie.Need-returns-2
 returns-2 c = record { moving = sym (eq-eqb _ _ (c .before .if1 .left)); faulty = λ e. c .field .ensures .0 }
 
 pub movement-spec : {M : Type 1} → statement M
-movement-spec =
-    tie.close
-    (tie.spec
-    rem-if1
-    returns
-    div-field
-    cast-field
-    mul-field
-    add-field
-    field-requires
-    cast-t10
-    returns-2)
+movement-spec = tie.close (tie.spec (search needs) returns (search needs) (search needs) mul-field add-field field-requires (search needs) returns-2)

@@ -28,9 +28,6 @@ left c =
     number-left (c .before .before .before .before .before .before .args .plan .now) (c .before .before .before .before .before .before .args .at) _
     (c .before .before .before .before .before .before .pre .0) (h .i) (c .before .before .before .loop-test .taken) _ (h .values) (h .begun) (h .m) (h .inv .3) (sym (c .before .before .read .ensures .party) ∙ c .if1 .taken)
 
-array-write-values : tie.Need-array-write-values Inv-loop μ-loop
-array-write-values c = search needs
-
 loop-holds : tie.Need-loop-holds Inv-loop μ-loop
 loop-holds c = (
   search needs,
@@ -40,32 +37,11 @@ loop-holds c = (
       (set-below (replicate 65 0) 0 (c .before .args .initial) 65536 (c .before .pre .1) (λ j. rw (getD-replicate-same {A = ℕ} 65 j 0) (omega arith))),
 )
 
-mul-read : tie.Need-mul-read Inv-loop μ-loop
-mul-read c = search needs
-
-add-read : tie.Need-add-read Inv-loop μ-loop
-add-read c = search needs
-
-read-requires : tie.Need-read-requires Inv-loop μ-loop
-read-requires c κs = search needs
-
-mul-values : tie.Need-mul-values Inv-loop μ-loop
-mul-values c = search needs
-
 array-write-values-2 : tie.Need-array-write-values-2 Inv-loop μ-loop
 array-write-values-2 c = let h : c .before .before .before .before .loop .m ≤ 64 = left c in search needs
 
 array-write-begun : tie.Need-array-write-begun Inv-loop μ-loop
 array-write-begun c = let h : c .before .before .before .before .loop .m ≤ 64 = left c in search needs
-
-add-m : tie.Need-add-m Inv-loop μ-loop
-add-m c = search needs
-
-add-i : tie.Need-add-i Inv-loop μ-loop
-add-i c = search needs
-
-loop-less : tie.Need-loop-less Inv-loop μ-loop
-loop-less c = search needs
 
 loop-again : tie.Need-loop-again Inv-loop μ-loop
 loop-again c =
@@ -89,19 +65,5 @@ returns c =
 pub writes-of-spec : {M : Type 1} → statement M
 writes-of-spec =
     tie.close
-    (tie.spec
-    Inv-loop
-    μ-loop
-    array-write-values
-    loop-holds
-    mul-read
-    add-read
-    read-requires
-    mul-values
-    array-write-values-2
-    array-write-begun
-    add-m
-    add-i
-    loop-less
-    loop-again
-    returns)
+    (tie.spec Inv-loop μ-loop (search needs) loop-holds (search needs) (search needs) (search needs) (search needs) array-write-values-2 array-write-begun
+    (search needs) (search needs) (search needs) loop-again returns)

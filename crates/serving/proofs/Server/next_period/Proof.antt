@@ -6,9 +6,6 @@ use Rattle.serving.specs.Stored.{server}
 use Rattle.serving.proofs.StageLaws.{turned-law}
 use Rattle.serving.proofs.Server.next_period.Tie as tie
 
-none-requires : tie.Need-none-requires
-none-requires c κs = search needs
-
 returns : tie.Need-returns
 returns c = let a = c .before .before .before .args in turned-law (a .two) (server (a .self)) _ _ (c .before .before .none .ensures) (rw (c .if1 .taken) refl)
 
@@ -16,4 +13,4 @@ returns-2 : tie.Need-returns-2
 returns-2 c = let a = c .before .before .before .args in turned-law (a .two) (server (a .self)) _ _ (c .before .before .none .ensures) (rw (c .if1 .left) (c .before .before .none .ensures))
 
 pub next-period-spec : {M : Type 1} → statement M
-next-period-spec = tie.close (tie.spec none-requires returns returns-2)
+next-period-spec = tie.close (tie.spec (search needs) returns returns-2)

@@ -17,15 +17,6 @@ Inv-loop self work row most₀ high end j₀ most j =
 abbrev μ-loop : tie.MeasureT-loop
 μ-loop self work row most₀ high end j₀ most j = end - j
 
-high-requires : tie.Need-high-requires Inv-loop μ-loop
-high-requires c κs = search needs
-
-lower-requires : tie.Need-lower-requires Inv-loop μ-loop
-lower-requires c κs = search needs
-
-low-requires : tie.Need-low-requires Inv-loop μ-loop
-low-requires c κs = search needs
-
 loop-holds : tie.Need-loop-holds Inv-loop μ-loop
 loop-holds c =
     let s = c .before .before .before .before .before in
@@ -54,12 +45,6 @@ mul-most c = let h : c .before .before .loop .j < 64 = omega (arith, c .before .
 
 array-write-most : tie.Need-array-write-most Inv-loop μ-loop
 array-write-most c = omega (arith, c .before .loop-test .taken, c .before .before .loop .inv .2)
-
-add-j : tie.Need-add-j Inv-loop μ-loop
-add-j c = search needs
-
-loop-less : tie.Need-loop-less Inv-loop μ-loop
-loop-less c = search needs
 
 loop-again : tie.Need-loop-again Inv-loop μ-loop
 loop-again c =
@@ -96,21 +81,5 @@ returns-2 c =
 pub joined-spec : {M : Type 1} → statement M
 joined-spec =
     tie.close
-    (tie.spec
-    Inv-loop
-    μ-loop
-    high-requires
-    lower-requires
-    low-requires
-    loop-holds
-    mul-m
-    array-read-m
-    senders-requires
-    mul-most
-    array-write-most
-    add-j
-    loop-less
-    loop-again
-    senders-requires-2
-    returns
-    returns-2)
+    (tie.spec Inv-loop μ-loop (search needs) (search needs) (search needs) loop-holds mul-m array-read-m senders-requires mul-most array-write-most
+    (search needs) (search needs) loop-again senders-requires-2 returns returns-2)

@@ -5,12 +5,6 @@ use Rattle.serving.proofs.delays.delay.Statement.{statement}
 use Rattle.serving.proofs.delays.delay.Tie as tie
 use Rattle.serving.proofs.SendLaws.{parties-few, link-at, link-small, link-inside}
 
-row-bit-requires : tie.Need-row-bit-requires
-row-bit-requires c κs = search needs
-
-mul-nibble : tie.Need-mul-nibble
-mul-nibble c = search needs
-
 add-nibble : tie.Need-add-nibble
 add-nibble c = let s = c .before .before in
     omega (arith, c .row-bit .ensures, link-small _ (s .args .links) (s .args .n) (s .args .u) (s .pre .0) (s .args .i) (s .pre .1), s .pre .2, parties-few _ (s .args .links) (s .args .n) (s .args .u) (s .pre .0))
@@ -19,13 +13,9 @@ nibble-requires : tie.Need-nibble-requires
 nibble-requires c κs = let s = c .before .before in
     omega (arith, c .row-bit .ensures, link-inside _ (s .args .links) (s .args .n) (s .args .u) (s .pre .0) (s .args .i) (s .pre .1), s .pre .2)
 
-cast-result : tie.Need-cast-result
-cast-result c = search needs
-
 returns : tie.Need-returns
 returns c = let a = c .before .before .before .args in
     (rw (c .before .row-bit .ensures, link-at (a .links) (a .u) (a .i) (a .b)) at (c .nibble .ensures .0), c .nibble .ensures .1)
 
 pub delay-spec : {M : Type 1} → statement M
-delay-spec =
-    tie.close (tie.spec row-bit-requires mul-nibble add-nibble nibble-requires cast-result returns)
+delay-spec = tie.close (tie.spec (search needs) (search needs) add-nibble nibble-requires (search needs) returns)

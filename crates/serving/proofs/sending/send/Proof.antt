@@ -5,21 +5,9 @@ use Rattle.serving.proofs.SendLaws.{sent-both, replies-nobody}
 use Rattle.serving.proofs.sending.send.Statement.{statement}
 use Rattle.serving.proofs.sending.send.Tie as tie
 
-send-votes-requires : tie.Need-send-votes-requires
-send-votes-requires c κs = search needs
-
-send-replies-requires : tie.Need-send-replies-requires
-send-replies-requires c κs = search needs
-
-same-length : tie.Need-same-length
-same-length c = search needs
-
 returns : tie.Need-returns
 returns c = let a = c .before .before .before .before .before .before .before .before .before .before .before .before .args in
     sent-both _ (a .links) (a .n) (a .t) (a .ends) (a .i) (a .row) _ _ _ (c .before .before .before .before .before .before .before .before .send-votes .ensures) (c .before .before .send-replies .ensures)
-
-same-length-2 : tie.Need-same-length-2
-same-length-2 c = search needs
 
 returns-2 : tie.Need-returns-2
 returns-2 c = let a = c .before .before .before .before .before .before .before .before .args in
@@ -27,12 +15,4 @@ returns-2 c = let a = c .before .before .before .before .before .before .before 
     (replies-nobody _ (a .links) (a .n) (a .t) (a .ends) (a .i) (a .row) _ (c .if1 .left))
 
 pub send-spec : {M : Type 1} → statement M
-send-spec =
-    tie.close
-    (tie.spec
-    send-votes-requires
-    send-replies-requires
-    same-length
-    returns
-    same-length-2
-    returns-2)
+send-spec = tie.close (tie.spec (search needs) (search needs) (search needs) returns (search needs) returns-2)

@@ -18,12 +18,6 @@ abbrev μ-loop : tie.MeasureT-loop
 loop-holds : tie.Need-loop-holds Inv-loop μ-loop
 loop-holds c = let a = c .before .before .before .args in (omega arith, omega arith, replies-first _ (a .links) (a .n) (a .t) (a .t8) (a .i) _ _)
 
-cast-if1 : tie.Need-cast-if1 Inv-loop μ-loop
-cast-if1 c = search needs
-
-shr-if1 : tie.Need-shr-if1 Inv-loop μ-loop
-shr-if1 c = search needs
-
 add-if2 : tie.Need-add-if2 Inv-loop μ-loop
 add-if2 c = let s = c .before .before .before .before .before .before in omega (arith, s .pre .1 .servers)
 
@@ -55,12 +49,6 @@ post-kept-requires : tie.Need-post-kept-requires Inv-loop μ-loop
 post-kept-requires c κs = let s = c .before .before .before .before .before .before .before .before .before .before .before .before in
     (c .row .ensures .1, omega (arith, s .pre .3, s .pre .1 .servers), omega (arith, s .pre .0, c .before .before .before .before .before .before .before .before .loop .inv .2 .rest .size))
 
-add-y : tie.Need-add-y Inv-loop μ-loop
-add-y c = search needs
-
-loop-less : tie.Need-loop-less Inv-loop μ-loop
-loop-less c = search needs
-
 loop-again : tie.Need-loop-again Inv-loop μ-loop
 loop-again c = let a = c .before .before .before .before .before .before .args in
     let l = c .before .before .loop in (
@@ -85,24 +73,5 @@ returns c = let a = c .before .before .before .before .before .args in
 pub send-replies-spec : {M : Type 1} → statement M
 send-replies-spec =
     tie.close
-    (tie.spec
-    Inv-loop
-    μ-loop
-    loop-holds
-    cast-if1
-    shr-if1
-    add-if2
-    add-delay
-    delay-requires
-    add-at
-    sub-if3
-    array-read-if3
-    cast-if3
-    add-row
-    row-requires
-    post-kept-requires
-    add-y
-    loop-less
-    loop-again
-    same-length
-    returns)
+    (tie.spec Inv-loop μ-loop loop-holds (search needs) (search needs) add-if2 add-delay delay-requires add-at sub-if3 array-read-if3 cast-if3 add-row
+    row-requires post-kept-requires (search needs) (search needs) loop-again same-length returns)

@@ -8,9 +8,6 @@ use Rattle.serving.proofs.SendLaws.{parties-few, link-small, link-insid
 use Rattle.serving.proofs.sending.send_votes.Statement.{statement}
 use Rattle.serving.proofs.sending.send_votes.Tie as tie
 
-is-voting-requires : tie.Need-is-voting-requires
-is-voting-requires c κs = search needs
-
 returns : tie.Need-returns
 returns c = let a = c .before .before .before .before .args in votes-nobody _ (a .links) (a .n) (a .t) (a .ends) (a .i) (a .row) _ (sym (not-true _ (c .if1 .taken)) ∙ c .before .is-voting .ensures)
 
@@ -40,9 +37,6 @@ post-votes-requires c κs = let s = c .before .before .before .before .before .b
       omega (arith, s .pre .0, c .before .before .before .before .before .post-vote .ensures .rest .size),
     )
 
-same-length : tie.Need-same-length
-same-length c = search needs
-
 returns-2 : tie.Need-returns-2
 returns-2 c = let s = c .before .before .before .before .before .before .before .before .before .before .before .before .before .before .before .before in
     let a = s .args in
@@ -50,9 +44,6 @@ returns-2 c = let s = c .before .before .before .before .before .before .before 
     let e = c .before .before .before .before .before .before .before .before .before .before .before .row-bit .ensures in
     votes-echo _ (a .links) (a .n) (a .t) (a .ends) (a .i) (a .row) _ (rw e at S) _ _ (c .before .before .before .before .before .before .before .before .post-vote .ensures) _
     (c .before .before .before .before .before .if2 .taken) (c .before .before .post-votes .ensures)
-
-same-length-2 : tie.Need-same-length-2
-same-length-2 c = search needs
 
 returns-3 : tie.Need-returns-3
 returns-3 c = let s = c .before .before .before .before .before .before .before .before .before .before .before in
@@ -64,14 +55,4 @@ returns-3 c = let s = c .before .before .before .before .before .before .before 
 pub send-votes-spec : {M : Type 1} → statement M
 send-votes-spec =
     tie.close
-    (tie.spec
-    is-voting-requires
-    returns
-    row-bit-requires
-    of-requires
-    post-vote-requires
-    post-votes-requires
-    same-length
-    returns-2
-    same-length-2
-    returns-3)
+    (tie.spec (search needs) returns row-bit-requires of-requires post-vote-requires post-votes-requires (search needs) returns-2 (search needs) returns-3)

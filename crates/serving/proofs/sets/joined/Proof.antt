@@ -16,12 +16,6 @@ Inv-loop work row more₀ high j₀ more j =
 abbrev μ-loop : tie.MeasureT-loop
 μ-loop work row more₀ high j₀ more j = high - j
 
-high-requires : tie.Need-high-requires Inv-loop μ-loop
-high-requires c κs = search needs
-
-low-requires : tie.Need-low-requires Inv-loop μ-loop
-low-requires c κs = search needs
-
 loop-holds : tie.Need-loop-holds Inv-loop μ-loop
 loop-holds c =
     let s = c .before .before .before in
@@ -50,12 +44,6 @@ mul-more c = let h : c .before .before .loop .j < 65 = omega (arith, c .before .
 array-write-more : tie.Need-array-write-more Inv-loop μ-loop
 array-write-more c = omega (arith, c .before .loop-test .taken, c .before .before .loop .inv .2)
 
-add-j : tie.Need-add-j Inv-loop μ-loop
-add-j c = search needs
-
-loop-less : tie.Need-loop-less Inv-loop μ-loop
-loop-less c = search needs
-
 loop-again : tie.Need-loop-again Inv-loop μ-loop
 loop-again c =
     let l = c .before .before .loop in
@@ -78,18 +66,5 @@ returns c =
 pub joined-spec : {M : Type 1} → statement M
 joined-spec =
     tie.close
-    (tie.spec
-    Inv-loop
-    μ-loop
-    high-requires
-    low-requires
-    loop-holds
-    mul-m
-    array-read-m
-    senders-requires
-    mul-more
-    array-write-more
-    add-j
-    loop-less
-    loop-again
-    returns)
+    (tie.spec Inv-loop μ-loop (search needs) (search needs) loop-holds mul-m array-read-m senders-requires mul-more array-write-more (search needs)
+    (search needs) loop-again returns)

@@ -7,21 +7,6 @@ use Rattle.serving.specs.Stored.{Plain, server}
 use Rattle.serving.proofs.stages.deliver.Statement.{statement}
 use Rattle.serving.proofs.stages.deliver.Tie as tie
 
-take-write-requires : tie.Need-take-write-requires
-take-write-requires c κs = search needs
-
-take-in-requires : tie.Need-take-in-requires
-take-in-requires c κs = search needs
-
-is-correct-requires : tie.Need-is-correct-requires
-is-correct-requires c κs = search needs
-
-is-same-requires : tie.Need-is-same-requires
-is-same-requires c κs = search needs
-
-replied-requires : tie.Need-replied-requires
-replied-requires c κs = search needs
-
 returns : tie.Need-returns
 returns c = let a = c .before .before .before .before .before .before .before .before .before .before .args in
     delivered-law (a .m) _ (a .wrote) (server (a .s) .fresh) (λ x. bit x (a .asks)) (λ x. bit x (a .live)) (server (a .s)) _ _ _ _
@@ -29,12 +14,4 @@ returns c = let a = c .before .before .before .before .before .before .before .b
     (replied-law (c .replied .result) (a .asks) _ _ _ _ _ (c .replied .ensures) (c .before .before .is-correct .ensures) (c .before .is-same .ensures))
 
 pub deliver-spec : {M : Type 1} → statement M
-deliver-spec =
-    tie.close
-    (tie.spec
-    take-write-requires
-    take-in-requires
-    is-correct-requires
-    is-same-requires
-    replied-requires
-    returns)
+deliver-spec = tie.close (tie.spec (search needs) (search needs) (search needs) (search needs) (search needs) returns)

@@ -4,11 +4,8 @@ use Rattle.serving.proofs.stages.quiet.Tie as tie
 use Rattle.serving.proofs.stages.quiet.Statement.{statement}
 use Rattle.serving.proofs.StageLaws.{zero-set}
 
-none-requires : tie.Need-none-requires
-none-requires c κs = search needs
-
 returns : tie.Need-returns
 returns c = rw (c .none .ensures, zero-set)
 
 pub quiet-spec : {M : Type 1} → statement M
-quiet-spec = tie.close (tie.spec none-requires returns)
+quiet-spec = tie.close (tie.spec (search needs) returns)

@@ -29,12 +29,6 @@ Inv-loop low high m rules fresh old end k₀ j₀ k j =
 abbrev μ-loop : tie.MeasureT-loop
 μ-loop low high m rules fresh old end k₀ j₀ k j = end - j
 
-lower-requires : tie.Need-lower-requires Inv-loop μ-loop
-lower-requires c κs = search needs
-
-lower-requires-2 : tie.Need-lower-requires-2 Inv-loop μ-loop
-lower-requires-2 c κs = search needs
-
 loop-holds : tie.Need-loop-holds Inv-loop μ-loop
 loop-holds c =
     let a = c .before .before .args in
@@ -59,21 +53,6 @@ at-requires-2 : tie.Need-at-requires-2 Inv-loop μ-loop
 at-requires-2 c κs = let s = c .before .before .before .before .before .before .before .before .before in
     let i = c .before .before .before .before .before .before .loop .inv in
     (most-length (s .args .t3) (s .good .1 .1 .0), omega (arith, c .before .before .before .before .before .loop-test .taken, i .4, i .1))
-
-is-voted-requires : tie.Need-is-voted-requires Inv-loop μ-loop
-is-voted-requires c κs = search needs
-
-cast-t22 : tie.Need-cast-t22 Inv-loop μ-loop
-cast-t22 c = search needs
-
-insert-requires : tie.Need-insert-requires Inv-loop μ-loop
-insert-requires c κs = search needs
-
-add-j : tie.Need-add-j Inv-loop μ-loop
-add-j c = search needs
-
-loop-less : tie.Need-loop-less Inv-loop μ-loop
-loop-less c = search needs
 
 loop-again : tie.Need-loop-again Inv-loop μ-loop
 loop-again c = let h = c .before .before .before .before .before .before .before .before .before .loop .inv in
@@ -106,18 +85,5 @@ returns c = let h = c .before .loop .inv in
 pub take-in-spec : {M : Type 1} → statement M
 take-in-spec =
     tie.close
-    (tie.spec
-    Inv-loop
-    μ-loop
-    lower-requires
-    lower-requires-2
-    loop-holds
-    at-requires
-    at-requires-2
-    is-voted-requires
-    cast-t22
-    insert-requires
-    add-j
-    loop-less
-    loop-again
-    returns)
+    (tie.spec Inv-loop μ-loop (search needs) (search needs) loop-holds at-requires at-requires-2 (search needs) (search needs) (search needs) (search needs)
+    (search needs) loop-again returns)

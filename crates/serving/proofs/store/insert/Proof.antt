@@ -16,20 +16,8 @@ Inv-loop p kept mine i₀ i = (i ≤ depth) × (length kept ≡ depth) × (mine 
 abbrev μ-loop : tie.MeasureT-loop
 μ-loop p kept mine i₀ i = depth - i
 
-place-requires : tie.Need-place-requires Inv-loop μ-loop
-place-requires c κs = search needs
-
 loop-holds : tie.Need-loop-holds Inv-loop μ-loop
 loop-holds c = (omega arith, c .before .good .0 .1 .0 .1, c .place .ensures, λ j h. absurd (omega arith))
-
-mul-place : tie.Need-mul-place Inv-loop μ-loop
-mul-place c = search needs
-
-array-copy-out-place : tie.Need-array-copy-out-place Inv-loop μ-loop
-array-copy-out-place c = search needs
-
-place-requires-2 : tie.Need-place-requires-2 Inv-loop μ-loop
-place-requires-2 c κs = search needs
 
 returns : tie.Need-returns Inv-loop μ-loop
 returns c =
@@ -45,12 +33,6 @@ returns-2 c =
     let s = c .before .before .before .before .before .before .before .before in
     let l = c .before .before .before .before .before .before .loop in
     put-lower (s .args .p) (s .pre) depth (s .args .t1) (l .inv .1) (l .i) (c .before .before .before .before .before .loop-test .taken) (l .inv .3) (rw (c .before .before .before .place2 .ensures, l .inv .2) at (c .before .if2 .taken)) _ (c .put-at .ensures)
-
-add-i : tie.Need-add-i Inv-loop μ-loop
-add-i c = search needs
-
-loop-less : tie.Need-loop-less Inv-loop μ-loop
-loop-less c = search needs
 
 loop-again : tie.Need-loop-again Inv-loop μ-loop
 loop-again c =
@@ -69,4 +51,5 @@ returns-3 c =
 pub insert-spec : {M : Type 1} → statement M
 insert-spec =
     tie.close
-    (tie.spec Inv-loop μ-loop place-requires loop-holds mul-place array-copy-out-place place-requires-2 returns put-at-requires returns-2 add-i loop-less loop-again returns-3)
+    (tie.spec Inv-loop μ-loop (search needs) loop-holds (search needs) (search needs) (search needs) returns put-at-requires returns-2 (search needs)
+    (search needs) loop-again returns-3)

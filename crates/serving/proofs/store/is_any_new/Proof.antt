@@ -18,23 +18,11 @@ abbrev μ-loop : tie.MeasureT-loop
 loop-holds : tie.Need-loop-holds Inv-loop μ-loop
 loop-holds c = (omega arith, c .pre, λ k h l. absurd (omega arith))
 
-cast-t7 : tie.Need-cast-t7 Inv-loop μ-loop
-cast-t7 c = search needs
-
-is-new-requires : tie.Need-is-new-requires Inv-loop μ-loop
-is-new-requires c κs = search needs
-
 returns : tie.Need-returns Inv-loop μ-loop
 returns c =
     let a = c .before .before .before .before .args in
     let l = c .before .before .before .loop in
     sym (some-new (keys (a .kept)) (a .low) (a .high) (l .j) (l .inv .0) (c .before .before .loop-test .taken) (sym (c .before .is-new .ensures) ∙ c .if1 .taken))
-
-add-j : tie.Need-add-j Inv-loop μ-loop
-add-j c = search needs
-
-loop-less : tie.Need-loop-less Inv-loop μ-loop
-loop-less c = search needs
 
 loop-again : tie.Need-loop-again Inv-loop μ-loop
 loop-again c =
@@ -49,16 +37,4 @@ returns-2 c =
     sym (none-new (keys (a .kept)) (a .low) (a .high) (λ k h q. l .inv .2 k h (omega (arith, c .loop-test .left))))
 
 pub is-any-new-spec : {M : Type 1} → statement M
-is-any-new-spec =
-    tie.close
-    (tie.spec
-    Inv-loop
-    μ-loop
-    loop-holds
-    cast-t7
-    is-new-requires
-    returns
-    add-j
-    loop-less
-    loop-again
-    returns-2)
+is-any-new-spec = tie.close (tie.spec Inv-loop μ-loop loop-holds (search needs) (search needs) returns (search needs) (search needs) loop-again returns-2)

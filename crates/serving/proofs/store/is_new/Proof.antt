@@ -17,25 +17,9 @@ Inv-loop kept mine i₀ i = (i ≤ depth) × (length kept ≡ depth) × ((j : �
 abbrev μ-loop : tie.MeasureT-loop
 μ-loop kept mine i₀ i = depth - i
 
--- src/store.rt:71:9
-place-requires : tie.Need-place-requires Inv-loop μ-loop
-place-requires c κs = search needs
-
 -- src/store.rt:73:5
 loop-holds : tie.Need-loop-holds Inv-loop μ-loop
 loop-holds c = (omega arith, c .before .good .0 .1 .0 .1, λ j h. absurd (omega arith))
-
--- src/store.rt:74:26
-mul-place : tie.Need-mul-place Inv-loop μ-loop
-mul-place c = search needs
-
--- src/store.rt:74:26
-array-copy-out-place : tie.Need-array-copy-out-place Inv-loop μ-loop
-array-copy-out-place c = search needs
-
--- src/store.rt:74:13
-place-requires-2 : tie.Need-place-requires-2 Inv-loop μ-loop
-place-requires-2 c κs = search needs
 
 -- src/store.rt:76:13
 returns : tie.Need-returns Inv-loop μ-loop
@@ -44,14 +28,6 @@ returns c =
     let m = c .before .before .before .before .before .place .ensures in
     let l = c .before .before .before .before .loop in
     rw (m, c .before .place2 .ensures) (new-first (s .args .p) (s .pre) (s .args .t1) (l .inv .1) (l .i) (c .before .before .before .loop-test .taken) (rw m at (l .inv .2)) (rw (m, c .before .place2 .ensures) at (c .if1 .taken)))
-
--- src/store.rt:78:9
-add-i : tie.Need-add-i Inv-loop μ-loop
-add-i c = search needs
-
--- src/store.rt:73:5
-loop-less : tie.Need-loop-less Inv-loop μ-loop
-loop-less c = search needs
 
 -- src/store.rt:73:5
 loop-again : tie.Need-loop-again Inv-loop μ-loop
@@ -73,16 +49,4 @@ returns-2 c =
 pub is-new-spec : {M : Type 1} → statement M
 is-new-spec =
     tie.close
-    (tie.spec
-    Inv-loop
-    μ-loop
-    place-requires
-    loop-holds
-    mul-place
-    array-copy-out-place
-    place-requires-2
-    returns
-    add-i
-    loop-less
-    loop-again
-    returns-2)
+    (tie.spec Inv-loop μ-loop (search needs) loop-holds (search needs) (search needs) (search needs) returns (search needs) (search needs) loop-again returns-2)

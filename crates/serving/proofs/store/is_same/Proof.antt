@@ -18,24 +18,6 @@ abbrev μ-loop : tie.MeasureT-loop
 loop-holds : tie.Need-loop-holds Inv-loop μ-loop
 loop-holds c = (omega arith, c .good .0 .1 .0 .1, c .good .1 .0 .1 .0 .1, refl)
 
-mul-place : tie.Need-mul-place Inv-loop μ-loop
-mul-place c = search needs
-
-array-copy-out-place : tie.Need-array-copy-out-place Inv-loop μ-loop
-array-copy-out-place c = search needs
-
-place-requires : tie.Need-place-requires Inv-loop μ-loop
-place-requires c κs = search needs
-
-mul-place-2 : tie.Need-mul-place-2 Inv-loop μ-loop
-mul-place-2 c = search needs
-
-array-copy-out-place-2 : tie.Need-array-copy-out-place-2 Inv-loop μ-loop
-array-copy-out-place-2 c = search needs
-
-place-requires-2 : tie.Need-place-requires-2 Inv-loop μ-loop
-place-requires-2 c κs = search needs
-
 returns : tie.Need-returns Inv-loop μ-loop
 returns c =
     let s = c .before .before .before .before .before .before .before .args in
@@ -52,12 +34,6 @@ returns-2 c =
     let e = rw (c .before .before .before .before .place .ensures, c .before .before .place2 .ensures) at (c .before .if1 .left) in
     let z = rw (c .before .before .before .before .place .ensures) at (c .if2 .taken) in
     sym (same-end (s .t1) (s .t2) (l .i) (omega (arith, h, l .inv .1)) (omega (arith, h, l .inv .2)) e z) ∙ l .inv .3
-
-add-i : tie.Need-add-i Inv-loop μ-loop
-add-i c = search needs
-
-loop-less : tie.Need-loop-less Inv-loop μ-loop
-loop-less c = search needs
 
 loop-again : tie.Need-loop-again Inv-loop μ-loop
 loop-again c =
@@ -77,4 +53,5 @@ returns-3 c =
 pub is-same-spec : {M : Type 1} → statement M
 is-same-spec =
     tie.close
-    (tie.spec Inv-loop μ-loop loop-holds mul-place array-copy-out-place place-requires mul-place-2 array-copy-out-place-2 place-requires-2 returns returns-2 add-i loop-less loop-again returns-3)
+    (tie.spec Inv-loop μ-loop loop-holds (search needs) (search needs) (search needs) (search needs) (search needs) (search needs) returns returns-2
+    (search needs) (search needs) loop-again returns-3)

@@ -4,12 +4,6 @@ use borrow.Author.Needs.{needs}
 use Rattle.serving.proofs.store.place.Statement.{statement}
 use Rattle.serving.proofs.store.place.Tie as tie
 
-cast-result : tie.Need-cast-result
-cast-result c = search needs
-
-add-result : tie.Need-add-result
-add-result c = search needs
-
 returns : tie.Need-returns
 returns c = rw (c .before .if1 .taken) (omega arith)
 
@@ -17,4 +11,4 @@ returns-2 : tie.Need-returns-2
 returns-2 c = search needs
 
 pub place-spec : {M : Type 1} → statement M
-place-spec = tie.close (tie.spec cast-result add-result returns returns-2)
+place-spec = tie.close (tie.spec (search needs) (search needs) returns returns-2)

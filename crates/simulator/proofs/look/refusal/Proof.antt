@@ -3,11 +3,8 @@ use borrow.Author.Needs.{needs}
 use Rattle.simulator.proofs.look.refusal.Statement.{statement}
 use Rattle.simulator.proofs.look.refusal.Tie as tie
 
-empty-places-requires : tie.Need-empty-places-requires
-empty-places-requires c κs = search needs
-
 returns : tie.Need-returns
 returns c = cc
 
 pub refusal-spec : {M : Type 1} → statement M
-refusal-spec = tie.close (tie.spec empty-places-requires returns)
+refusal-spec = tie.close (tie.spec (search needs) returns)

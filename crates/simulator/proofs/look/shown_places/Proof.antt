@@ -16,35 +16,14 @@ Inv-loop kept shown₀ i₀ shown i = (i ≤ storeDepth) × Passed kept i × (sh
 abbrev μ-loop : tie.MeasureT-loop
 μ-loop kept shown₀ i₀ shown i = storeDepth - i
 
-empty-places-requires : tie.Need-empty-places-requires Inv-loop μ-loop
-empty-places-requires c κs = search needs
-
 loop-holds : tie.Need-loop-holds Inv-loop μ-loop
 loop-holds c = (search needs, none-passed _, c .empty-places .ensures)
-
-mul-p : tie.Need-mul-p Inv-loop μ-loop
-mul-p c = search needs
-
-array-copy-out-p : tie.Need-array-copy-out-p Inv-loop μ-loop
-array-copy-out-p c = search needs
 
 returns : tie.Need-returns Inv-loop μ-loop
 returns c =
     let h = c .before .before .before .before .loop .inv in
     let n = c .before .before .before .before .before .before .good .0 .1 .0 .1 in
     h .2 ∙ ap placesOf (at-empty _ _ (h .1) _ (omega (arith, n)) (not-true _ (c .if1 .taken)) .1)
-
-mul-shown : tie.Need-mul-shown Inv-loop μ-loop
-mul-shown c = search needs
-
-array-set-from-shown : tie.Need-array-set-from-shown Inv-loop μ-loop
-array-set-from-shown c = search needs
-
-add-i : tie.Need-add-i Inv-loop μ-loop
-add-i c = search needs
-
-loop-less : tie.Need-loop-less Inv-loop μ-loop
-loop-less c = search needs
 
 loop-again : tie.Need-loop-again Inv-loop μ-loop
 loop-again c =
@@ -62,17 +41,5 @@ returns-2 c =
 pub shown-places-spec : {M : Type 1} → statement M
 shown-places-spec =
     tie.close
-    (tie.spec
-    Inv-loop
-    μ-loop
-    empty-places-requires
-    loop-holds
-    mul-p
-    array-copy-out-p
-    returns
-    mul-shown
-    array-set-from-shown
-    add-i
-    loop-less
-    loop-again
-    returns-2)
+    (tie.spec Inv-loop μ-loop (search needs) loop-holds (search needs) (search needs) returns (search needs) (search needs) (search needs) (search needs)
+    loop-again returns-2)
