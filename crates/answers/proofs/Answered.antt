@@ -13,10 +13,8 @@ use Rattle.register.specs.Lists.{count, filter, In}
 use Rattle.register.specs.Plan.{Plan, Write, Read, replyQuorum, readEnd}
 use Rattle.register.specs.Server.{Claim, has, pairsOf}
 use Rattle.register.specs.Reading.{Answer, notedBy, countIn, countOf, best, answerFrom, answerOf}
-use Rattle.register.proofs.Logic.{cond-e}
-use Rattle.register.proofs.Counting.{count-cong}
+use Rattle.register.proofs as register-laws
 use Rattle.register.proofs.Good.{Good}
-use Rattle.register.proofs.Genuine.{genuine-cases}
 use Rattle.register.proofs.ReadSafety.{quorum-genuine, answer-from}
 use Rattle.cluster.specs.Inputs.{Knows}
 use Rattle.states.proofs.RepLaws.{count-cut}
@@ -73,7 +71,7 @@ module _ (named : ℕ → ℕ → Bool) (reply : ℕ) where
 filter-none : (f : ℕ → Bool) (l : List ℕ) → ((p : ℕ) → T (f p) → ⊥) → filter f l ≡ []
 unfolding filter
 filter-none f [] none = refl
-filter-none f (p ∷ l) none = cond-e (λ (x : List ℕ). x ≡ []) (f p) (p ∷ filter f l) (filter f l) (λ t. absurd (none p t)) (λ t. filter-none f l none)
+filter-none f (p ∷ l) none = register-laws.Logic.cond-e (λ (x : List ℕ). x ≡ []) (f p) (p ∷ filter f l) (filter f l) (λ t. absurd (none p t)) (λ t. filter-none f l none)
 
 -- no pair has a quorum: there is no answer
 no-answer : (P : Plan) (cs : List Claim) → ((p : ℕ) → replyQuorum P ≤ countIn P cs p → ⊥) → answerFrom P cs ≡ record { pair = 0; count = 0 }
@@ -86,7 +84,7 @@ both-parts a p c e d = rw (← e, ← d)
 module _ (P : Plan) (g : ℕ → ℕ) (m : ℕ) (G : Good P) (K : Knows P g m) (r : Read) where
   -- a pair with a quorum is a known one
   quorum-known : (p : ℕ) → replyQuorum P ≤ countOf P r p → (j : ℕ) × (j < m) × (p ≡ g j)
-  quorum-known p h = go (genuine-cases P (readEnd P r) p (quorum-genuine P G r p h))
+  quorum-known p h = go (register-laws.Genuine.genuine-cases P (readEnd P r) p (quorum-genuine P G r p h))
     where
       go : (p ≡ P .initial) ⊎ ((w : Write) × In w (P .writes) × (w .pair ≡ p) × (w .begun < readEnd P r)) → (j : ℕ) × (j < m) × (p ≡ g j)
       go (inl e) = (0, K .first .0, e ∙ K .first .1)
@@ -119,7 +117,7 @@ module _ (P : Plan) (g : ℕ → ℕ) (m : ℕ) (G : Good P) (K : Knows P g m) (
   counted-same : (j : ℕ) → j < m → votes named j ≡ countOf P r (g j)
   unfolding votes countIn
   counted-same j l =
-      count-cong (named j) (λ i. ltb i (P .n) && has (notedBy P r) (g j) i) 16 (λ i _. noted j i l)
+      register-laws.Counting.count-cong (named j) (λ i. ltb i (P .n) && has (notedBy P r) (g j) i) 16 (λ i _. noted j i l)
       ∙ count-cut (λ i. has (notedBy P r) (g j) i) (P .n) 16 (K .servers)
 
   pub answered : answerOf P r ≡ answerBy g (highestOf named (replyQuorum P) m)

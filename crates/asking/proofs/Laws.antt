@@ -10,32 +10,29 @@ use lib.Dec.{eqb, leb, ltb, leb→le}
 use lib.ListN.{getD}
 use borrow.Author.Tests.{le-ltb, le-leb}
 use Rattle.register.specs.Lists.{anyUpTo}
-use Rattle.register.proofs.Counting.{anyUpTo-e}
-use Rattle.register.proofs.Logic.{T-iff, and-l}
-use Rattle.calendar.specs.declared.Sending.{Sending}
-use Rattle.calendar.specs.Posts.{arrivalOf, Sent}
-use Rattle.serving.specs.declared.Links.{Links}
-use Rattle.serving.specs.Links.{linkBit, delayAt}
+use Rattle.register.proofs as register-laws
+use Rattle.calendar.specs as calendar-specs
+use Rattle.serving.specs as serving-specs
 use Rattle.serving.proofs.SendLaws.{link-at}
 use Rattle.requests.specs.Requests.{askedFirst, Asked, Taken}
 use Rattle.requests.proofs.Requesting.{outside-trans, asked-none, asked-eq, asked-trans}
 use Rattle.asking.specs.Asking.{askedBy, askedBetween, begins, WroteOn}
 
-module _ (plan : List ℕ) (links : Links) (n t : ℕ) where
-  pub asked-sent : (p : ℕ) (s : Sending) → Sent plan (linkBit links t (n + p) 0) n t p s → (a r : List ℕ) → Asked a r (askedFirst s p (s .n)) → Asked a r (askedBy plan links n t p)
+module _ (plan : List ℕ) (links : serving-specs.declared.Links.Links) (n t : ℕ) where
+  pub asked-sent : (p : ℕ) (s : calendar-specs.declared.Sending.Sending) → calendar-specs.Posts.Sent plan (serving-specs.Links.linkBit links t (n + p) 0) n t p s → (a r : List ℕ) → Asked a r (askedFirst s p (s .n)) → Asked a r (askedBy plan links n t p)
   unfolding askedBy
-  asked-sent p s S a r A = asked-eq a r _ (askedBy plan links n t p) A (λ u q b l. ap (λ (m : ℕ). ltb b m && (eqb q p && eqb (arrivalOf s b % 16) (u % 16))) (S .servers) ∙ go u q b (decLe n b))
+  asked-sent p s S a r A = asked-eq a r _ (askedBy plan links n t p) A (λ u q b l. ap (λ (m : ℕ). ltb b m && (eqb q p && eqb (calendar-specs.Posts.arrivalOf s b % 16) (u % 16))) (S .servers) ∙ go u q b (decLe n b))
     where
-      go : (u q b : ℕ) → Dec (n ≤ b) → ltb b n && (eqb q p && eqb (arrivalOf s b % 16) (u % 16)) ≡ ltb b n && (eqb q p && eqb ((t + delayAt plan links t (n + p) b) % 16) (u % 16))
+      go : (u q b : ℕ) → Dec (n ≤ b) → ltb b n && (eqb q p && eqb (calendar-specs.Posts.arrivalOf s b % 16) (u % 16)) ≡ ltb b n && (eqb q p && eqb ((t + serving-specs.Links.delayAt plan links t (n + p) b) % 16) (u % 16))
       go u q b (yes h) = rw (le-ltb b n h)
       go u q b (no h) = rw (S .arrives b (omega arith), link-at links t (n + p) b)
 
   module _ (by : List ℕ) (from : ℕ) where
     pub between-none : (a : List ℕ) → Asked a a (askedBetween plan links n t by from from)
     unfolding askedBetween
-    between-none a = asked-none a _ (λ s q b. T-iff _ false (λ y.
-        let (i, l, z) = anyUpTo-e from (λ i. leb from i && askedBy plan links n t (getD by i 0) s q b) y in
-        absurd (let h = leb→le from i (and-l (leb from i) _ z) in omega arith)) (λ y. absurd y))
+    between-none a = asked-none a _ (λ s q b. register-laws.Logic.T-iff _ false (λ y.
+        let (i, l, z) = register-laws.Counting.anyUpTo-e from (λ i. leb from i && askedBy plan links n t (getD by i 0) s q b) y in
+        absurd (let h = leb→le from i (register-laws.Logic.and-l (leb from i) _ z) in omega arith)) (λ y. absurd y))
 
     pub between-more : (a b c : List ℕ) (i : ℕ) → from ≤ i → Asked a b (askedBetween plan links n t by from i) → Asked b c (askedBy plan links n t (getD by i 0))
         → Asked a c (askedBetween plan links n t by from (i + 1))
@@ -44,7 +41,7 @@ module _ (plan : List ℕ) (links : Links) (n t : ℕ) where
         (or-comm (anyUpTo i (λ i. leb from i && askedBy plan links n t (getD by i 0) s q x)) (askedBy plan links n t (getD by i 0) s q x)))
 
 -- the requests of the tick are taken, then one may be sent
-pub wrote-on : (plan : List ℕ) (links : Links) (n t : ℕ) (begun : List ℕ) (m number r : ℕ) (a b c : List ℕ) → Taken a b t → Asked b c (λ s q x. begins begun m t number && askedBy plan links n t 0 s q x)
+pub wrote-on : (plan : List ℕ) (links : serving-specs.declared.Links.Links) (n t : ℕ) (begun : List ℕ) (m number r : ℕ) (a b c : List ℕ) → Taken a b t → Asked b c (λ s q x. begins begun m t number && askedBy plan links n t 0 s q x)
     → r ≡ cond (begins begun m t number) (suc number) number → WroteOn plan links n t begun m number r a c
 wrote-on plan links n t begun m number r a b c T A e = record {
   next = e;

@@ -13,32 +13,20 @@ use Rattle.register.proofs.Logic.{neither}
 use Rattle.calendar.specs.Bits.{bit}
 use Rattle.calendar.specs.Layout.{receivers, rows, places, noPair, rowOf, lowOf, highOf, sender}
 use Rattle.calendar.specs.View.{Inside, Spanned, Cleared}
-use Rattle.calendar.proofs.Spans.{cleared-cells, cleared-spanned}
-use Rattle.calendar.proofs.Laws.{bit-zero}
-use Rattle.serving.specs.declared.Server.{Server}
-use Rattle.serving.specs.declared.Rules.{Rules}
-use Rattle.serving.specs.declared.Row.{Row}
-use Rattle.serving.specs.declared.Links.{Links}
-use Rattle.cluster.specs.declared.Arrivals.{Arrivals}
-use Rattle.cluster.specs.declared.Movement.{Movement}
-use Rattle.serving.specs.Sends.{reaches, sendsVote, sendsReply, sends}
+use Rattle.calendar.proofs as calendar-laws
+use Rattle.serving.specs as serving-specs
+use Rattle.cluster.specs as cluster-specs
 use Rattle.serving.specs.Stored.{Plain, Both, server, saidBy, statusOf, keys}
 use Rattle.serving.specs.Stages.{nobody, voting, isNew, anyNew, taken, withWrite, repliesTo, stageOne, stageTwo, stagesOf}
-use Rattle.cluster.specs.Inputs.{isAsked, wroteAt, asksAt}
-use Rattle.cluster.specs.Settled.{Settled, called, reached}
-use Rattle.cluster.proofs.Asking.{none-wrote, none-asks}
-use Rattle.cluster.specs.Tick.{Feed, Emptied, Turned}
-use Rattle.serving.proofs.BitLaws.{bit-and}
-use Rattle.serving.proofs.StoreLaws.{same-as-itself, some-new}
-use Rattle.serving.proofs.StageLaws.{zero-set, write-kept, delivered-law, taken-law, lost-law}
-use Rattle.cluster.proofs.Settled.{taken-none}
+use Rattle.cluster.proofs as cluster-laws
+use Rattle.serving.proofs as serving-laws
 
 -- what it means that nothing reaches a server; `due` has the servers that some request reaches
-module _ (work : List ℕ) (b : ℕ) (arrivals : Arrivals) (movement : Movement) (t delta : ℕ) (status : Status) (pending : ℕ) (kept : List ℕ) where
+module _ (work : List ℕ) (b : ℕ) (arrivals : cluster-specs.declared.Arrivals.Arrivals) (movement : cluster-specs.declared.Movement.Movement) (t delta : ℕ) (status : Status) (pending : ℕ) (kept : List ℕ) where
   pub record Unreached : Type 0 where
     pub moving : movement .moving ≡ false
-    pub asks : (x : ℕ) → asksAt (arrivals .requests) b x ≡ false
-    pub wrote : places ≤ wroteAt (arrivals .requests) (arrivals .number) b
+    pub asks : (x : ℕ) → cluster-specs.Inputs.asksAt (arrivals .requests) b x ≡ false
+    pub wrote : places ≤ cluster-specs.Inputs.wroteAt (arrivals .requests) (arrivals .number) b
     pub live : bitAnd pending (arrivals .live) ≡ pending
     pub cured : curedAt delta t status ≡ false
     pub known : isFaulty status ≡ false → (j : ℕ) → Inside work (rowOf t b) j → isNew j kept ≡ false
@@ -47,12 +35,12 @@ module _ (work : List ℕ) (b : ℕ) (arrivals : Arrivals) (movement : Movement)
   none-arrives f e h j i = go (isNew j kept) refl
     where
       go : (c : Bool) → isNew j kept ≡ c → c ≡ false
-      go true n = sym (some-new kept _ _ j (i .0) (i .1) n) ∙ rw h at e
+      go true n = sym (serving-laws.StoreLaws.some-new kept _ _ j (i .0) (i .1) n) ∙ rw h at e
       go false n = refl
 
-  pub unreached : (due : ℕ) → bit b due ≡ isAsked (arrivals .requests) b → (busy : Bool) → busy ≡ called b due (arrivals .live) (movement .moving) t delta status pending
-      → reached busy work (rowOf t b) status kept ≡ false → Unreached
-  unfolding called reached
+  pub unreached : (due : ℕ) → bit b due ≡ cluster-specs.Inputs.isAsked (arrivals .requests) b → (busy : Bool) → busy ≡ cluster-specs.Settled.called b due (arrivals .live) (movement .moving) t delta status pending
+      → cluster-specs.Settled.reached busy work (rowOf t b) status kept ≡ false → Unreached
+  unfolding cluster-specs.Settled.called cluster-specs.Settled.reached
   unreached due all busy q e =
       let v = neither _ _ e in
       let a = neither _ _ (sym q ∙ v .0) in
@@ -61,8 +49,8 @@ module _ (work : List ℕ) (b : ℕ) (arrivals : Arrivals) (movement : Movement)
       let none = sym all ∙ c .0 in
       record {
         moving = a .0;
-        asks = none-asks (arrivals .requests) b none;
-        wrote = none-wrote (arrivals .requests) b none (arrivals .number);
+        asks = cluster-laws.Asking.none-asks (arrivals .requests) b none;
+        wrote = cluster-laws.Asking.none-wrote (arrivals .requests) b none (arrivals .number);
         live = eqb-true _ _ (not-false _ (d .0));
         cured = d .1;
         known = none-arrives (isFaulty status) (v .1);
@@ -71,11 +59,11 @@ module _ (work : List ℕ) (b : ℕ) (arrivals : Arrivals) (movement : Movement)
 -- ---- its row
 
 module _ (work : List ℕ) (row : ℕ) (S : Spanned work places) where
-  pub emptied-now : (after : List ℕ) → Cleared work after row → Emptied work after row
+  pub emptied-now : (after : List ℕ) → Cleared work after row → cluster-specs.Tick.Emptied work after row
   emptied-now after C = record {
     rest = C .rest;
-    spans = cleared-spanned work after row places (omega arith) C S;
-    cells = λ x j i h m. cleared-cells work after row places (omega arith) C S x j i h m;
+    spans = calendar-laws.Spans.cleared-spanned work after row places (omega arith) C S;
+    cells = λ x j i h m. calendar-laws.Spans.cleared-cells work after row places (omega arith) C S x j i h m;
   }
 
   -- nothing arrives in a row without a span
@@ -86,7 +74,7 @@ module _ (work : List ℕ) (row : ℕ) (S : Spanned work places) where
       go true e = absurd (omega (arith, S .within row j i l m e .1))
       go false e = refl
 
-  pub emptied-before : row < rows → highOf work row ≡ 0 → Emptied work work row
+  pub emptied-before : row < rows → highOf work row ≡ 0 → cluster-specs.Tick.Emptied work work row
   emptied-before l none = record {
     rest = record { size = refl; past = λ k h. refl };
     spans = S;
@@ -100,16 +88,16 @@ module _ (work : List ℕ) (row : ℕ) (S : Spanned work places) where
 -- ---- what it sends
 
 -- no vote for a known pair, and no reply
-module _ (plan : List ℕ) (links : Links) (n t : ℕ) (ends : List ℕ) (i : ℕ) (row : Row) (wrote : places ≤ row .wrote) (echoed : row .echoed ≡ false) (readers : row .readers ≡ 0) where
-  pub sends-none : (x j : ℕ) → j < places → sends plan links n t ends i row x j ≡ false
-  unfolding sendsVote sendsReply
+module _ (plan : List ℕ) (links : serving-specs.declared.Links.Links) (n t : ℕ) (ends : List ℕ) (i : ℕ) (row : serving-specs.declared.Row.Row) (wrote : places ≤ row .wrote) (echoed : row .echoed ≡ false) (readers : row .readers ≡ 0) where
+  pub sends-none : (x j : ℕ) → j < places → serving-specs.Sends.sends plan links n t ends i row x j ≡ false
+  unfolding serving-specs.Sends.sendsVote serving-specs.Sends.sendsReply
   sends-none x j l =
       rw (
         ne-eqb j (row .wrote) (λ e. omega arith),
         echoed,
         readers,
-        bit-zero (x % receivers - 15),
-        and-false (eqb (reaches plan links n t ends i row (x % receivers) % 16) (x / receivers)),
+        calendar-laws.Laws.bit-zero (x % receivers - 15),
+        and-false (eqb (serving-specs.Sends.reaches plan links n t ends i row (x % receivers) % 16) (x / receivers)),
         and-false (not (eqb (x % receivers) i)),
         and-false (ltb (x % receivers) n),
       )
@@ -122,7 +110,7 @@ no-replies true asks list e = sym e
 no-replies false asks list e = refl
 
 -- without a movement and the end of a cure, stage 1 is all
-only-first : (m : ℕ) (rules : Rules) (w : ℕ) (votes : ℕ → ℕ → Bool) (asks live : ℕ → Bool) (moving h : Bool) (t : ℕ) (s : Plain) (o : Both)
+only-first : (m : ℕ) (rules : serving-specs.declared.Rules.Rules) (w : ℕ) (votes : ℕ → ℕ → Bool) (asks live : ℕ → Bool) (moving h : Bool) (t : ℕ) (s : Plain) (o : Both)
     → moving ≡ false → curedAt (rules .delta) t (o .server .status) ≡ false → o ≡ stageOne m (rules .echo) (rules .reply) w votes asks live s
     → o ≡ stagesOf m rules w votes asks live moving h t s
 unfolding stagesOf stageTwo
@@ -131,9 +119,9 @@ only-first m rules w votes asks live moving h t s o e d one = rw (e, ← one) (s
     still : (o : Both) → curedAt (rules .delta) t (o .server .status) ≡ false → o ≡ stageTwo (rules .delta) t o
     still o d = rw d
 
-module _ (F : Feed) (ends : List ℕ) (b : ℕ) (s : Server) (l : b < 16) (S : Spanned (F .work) places) (few : F .known .m ≤ places)
+module _ (F : cluster-specs.Tick.Feed) (ends : List ℕ) (b : ℕ) (s : serving-specs.declared.Server.Server) (l : b < 16) (S : Spanned (F .work) places) (few : F .known .m ≤ places)
     (U : Unreached (F .work) b (F .arrivals) (F .movement) (F .t) (F .rules .delta) (statusOf (s .status)) (s .pending) (keys (s .kept)))
-    (K : Settled (F .known .m) (F .rules .echo) (F .rules .reply) (server s)) where
+    (K : cluster-specs.Settled.Settled (F .known .m) (F .rules .echo) (F .rules .reply) (server s)) where
   -- no vote for a new pair arrives
   none-new : isFaulty (statusOf (s .status)) ≡ false → (j i : ℕ) → j < places → isNew j (keys (s .kept)) ≡ true → sender (F .work) (rowOf (F .t) b) j i ≡ false
   none-new h j i m n = go (sender (F .work) (rowOf (F .t) b) j i) refl
@@ -143,10 +131,10 @@ module _ (F : Feed) (ends : List ℕ) (b : ℕ) (s : Server) (l : b < 16) (S : S
       go false e = refl
 
   abbrev w : ℕ
-  w = wroteAt (F .arrivals .requests) (F .arrivals .number) b
+  w = cluster-specs.Inputs.wroteAt (F .arrivals .requests) (F .arrivals .number) b
 
   abbrev asked : ℕ → Bool
-  asked x = asksAt (F .arrivals .requests) b x
+  asked x = cluster-specs.Inputs.asksAt (F .arrivals .requests) b x
 
   abbrev going : ℕ → Bool
   going x = bit x (F .arrivals .live)
@@ -158,26 +146,26 @@ module _ (F : Feed) (ends : List ℕ) (b : ℕ) (s : Server) (l : b < 16) (S : S
   pend = fun-ext (λ x. rw (U .asks x) (each x))
     where
       each : (x : ℕ) → bit x (s .pending) ≡ (bit x (s .pending) && bit x (F .arrivals .live)) || false
-      each x = ap (bit x) (sym (U .live)) ∙ (bit-and x (s .pending) (F .arrivals .live) ∙ sym (or-false _))
+      each x = ap (bit x) (sym (U .live)) ∙ (serving-laws.BitLaws.bit-and x (s .pending) (F .arrivals .live) ∙ sym (or-false _))
 
   no-write : server s ≡ withWrite (F .known .m) w (server s)
   no-write = rw (le-ltb w (F .known .m) (omega (arith, U .wrote)))
 
   none-taken : server s .kept ≡ taken (voting (F .rules .echo) (F .rules .reply) (server s .fresh) (server s .old)) (F .known .m) (server s .kept)
-  none-taken = sym (taken-none _ (F .known .m) (server s .kept) (K .same))
+  none-taken = sym (cluster-laws.Settled.taken-none _ (F .known .m) (server s .kept) (K .same))
 
   -- the row of a server that says nothing
-  quiet : Bool → Row
+  quiet : Bool → serving-specs.declared.Row.Row
   quiet true = record { wrote = noPair; echoed = false; readers = 0; kept = [] }
   quiet false = record { wrote = w; echoed = false; readers = 0; kept = s .kept }
 
   first : (c : Bool) → isFaulty (statusOf (s .status)) ≡ c
       → record { server = server s; said = saidBy (quiet c) } ≡ stageOne (F .known .m) (F .rules .echo) (F .rules .reply) w (server s .fresh) asked going (server s)
   unfolding quiet keys
-  first true e = lost-law (F .known .m) (F .rules .echo) (F .rules .reply) w (server s .fresh) asked going (server s) (saidBy (quiet true)) e (rw zero-set)
-  first false e = taken-law (F .known .m) (F .rules .echo) (F .rules .reply) w (server s .fresh) asked going (server s) _ (voting (F .rules .echo) (F .rules .reply) (server s .fresh) (server s .old)) e
-      (delivered-law (F .known .m) _ w (server s .fresh) asked going (server s) (server s .kept) (server s .kept) (server s .pending) (λ x. bit x 0)
-      (ap (λ (x : Plain). x .kept) no-write ∙ write-kept (F .known .m) w (server s)) none-taken pend (zero-set ∙ rw (same-as-itself (server s .kept)) (no-replies (isCorrect (statusOf (s .status))) asked (server s .pending) none-asked))) refl
+  first true e = serving-laws.StageLaws.lost-law (F .known .m) (F .rules .echo) (F .rules .reply) w (server s .fresh) asked going (server s) (saidBy (quiet true)) e (rw serving-laws.StageLaws.zero-set)
+  first false e = serving-laws.StageLaws.taken-law (F .known .m) (F .rules .echo) (F .rules .reply) w (server s .fresh) asked going (server s) _ (voting (F .rules .echo) (F .rules .reply) (server s .fresh) (server s .old)) e
+      (serving-laws.StageLaws.delivered-law (F .known .m) _ w (server s .fresh) asked going (server s) (server s .kept) (server s .kept) (server s .pending) (λ x. bit x 0)
+      (ap (λ (x : Plain). x .kept) no-write ∙ serving-laws.StageLaws.write-kept (F .known .m) w (server s)) none-taken pend (serving-laws.StageLaws.zero-set ∙ rw (serving-laws.StoreLaws.same-as-itself (server s .kept)) (no-replies (isCorrect (statusOf (s .status))) asked (server s .pending) none-asked))) refl
 
   quiet-wrote : (c : Bool) → places ≤ quiet c .wrote
   unfolding quiet
@@ -194,7 +182,7 @@ module _ (F : Feed) (ends : List ℕ) (b : ℕ) (s : Server) (l : b < 16) (S : S
   quiet-readers true = refl
   quiet-readers false = refl
 
-  pub idle-turned : (after : List ℕ) → Emptied (F .work) after (rowOf (F .t) b) → Turned F ends b s s after
+  pub idle-turned : (after : List ℕ) → cluster-specs.Tick.Emptied (F .work) after (rowOf (F .t) b) → cluster-specs.Tick.Turned F ends b s s after
   idle-turned after E =
       let c : Bool = isFaulty (statusOf (s .status)) in
       record {

@@ -11,37 +11,28 @@ use lib.ListN.{length, getD, set, length-set}
 use lib.Seq.{getD-set-same, getD-set-other, set-getD}
 use borrow.Author.Tests.{lt-ltb, le-ltb, lt-leb, eq-eqb, ne-eqb, eqb-true, eqb-false, ltb-true, leb-true}
 use Rattle.bits.proofs.Laws.{field-lt}
-use Rattle.calendar.specs.Bits.{bit}
+use Rattle.calendar.specs as calendar-specs
 use Rattle.calendar.specs.Layout.{receivers, rows, places, rowOf, sender}
 use Rattle.calendar.specs.View.{SamePast, Spanned, Posted, Cleared}
-use Rattle.calendar.specs.Posts.{among}
-use Rattle.calendar.proofs.Laws.{ltb-more}
-use Rattle.calendar.proofs.Spans.{posted-spanned, cleared-cells, cleared-spanned}
-use Rattle.calendar.proofs.Clearing.{row-more}
+use Rattle.calendar.proofs as calendar-laws
 use Rattle.serving.specs.declared.Server.{Server}
-use Rattle.cluster.specs.declared.Reader.{Reader}
-use Rattle.cluster.specs.declared.Cluster.{Cluster}
-use Rattle.serving.specs.declared.Rules.{Rules}
-use Rattle.cluster.specs.declared.Known.{Known}
-use Rattle.serving.specs.declared.Row.{Row}
-use Rattle.serving.specs.declared.Links.{Links}
-use Rattle.serving.specs.Links.{delayAt, linkBit}
+use Rattle.cluster.specs as cluster-specs
+use Rattle.serving.specs as serving-specs
 use Rattle.serving.specs.Sends.{votesFor, reaches, sendsVote, sendsReply, sends}
 use Rattle.serving.specs.Stored.{Step, server, both, statusOf, keys, absent}
-use Rattle.cluster.specs.Inputs.{Tickable, isAsked}
 use Rattle.cluster.specs.Settled.{Settled, Calm, called, reached, CalmlyTurned, CalmlyServed, CalmlyTicked}
 use Rattle.cluster.specs.Tick.{Feed, Heard, Emptied, Stepped, Turned, Served, Ticked, endsOf, present}
 use Rattle.cluster.proofs.IdleLaws.{unreached, idle-turned}
 
 -- ---- nothing arrives in the tick in which it is sent
 
-module _ (plan : List ℕ) (links : Links) (n t : ℕ) (ends : List ℕ) (i : ℕ) (row : Row) (few : n < links .parties) (own : i < n)
-    (later : (q : ℕ) → q < links .parties → (q ≡ i → ⊥) → (q ≡ n → ⊥) → 1 ≤ delayAt plan links t i q) where
+module _ (plan : List ℕ) (links : serving-specs.declared.Links.Links) (n t : ℕ) (ends : List ℕ) (i : ℕ) (row : serving-specs.declared.Row.Row) (few : n < links .parties) (own : i < n)
+    (later : (q : ℕ) → q < links .parties → (q ≡ i → ⊥) → (q ≡ n → ⊥) → 1 ≤ serving-specs.Links.delayAt plan links t i q) where
   other-tick : (x q : ℕ) → q < links .parties → (q ≡ i → ⊥) → (q ≡ n → ⊥) → x / receivers ≡ t % 16
       → eqb (reaches plan links n t ends i row q % 16) (x / receivers) ≡ false
-  other-tick x q l d w e = ne-eqb (reaches plan links n t ends i row q % 16) (x / receivers) (λ p. never p (later q l d w) (field-lt plan (linkBit links t i q) 4))
+  other-tick x q l d w e = ne-eqb (reaches plan links n t ends i row q % 16) (x / receivers) (λ p. never p (later q l d w) (field-lt plan (serving-specs.Links.linkBit links t i q) 4))
     where
-      never : (t + delayAt plan links t i q) % 16 ≡ x / receivers → 1 ≤ delayAt plan links t i q → delayAt plan links t i q < 16 → ⊥
+      never : (t + serving-specs.Links.delayAt plan links t i q) % 16 ≡ x / receivers → 1 ≤ serving-specs.Links.delayAt plan links t i q → serving-specs.Links.delayAt plan links t i q < 16 → ⊥
       never p a b = omega (arith, e)
 
   no-vote : (x j : ℕ) → x / receivers ≡ t % 16 → sendsVote plan links n t ends i row x j ≡ false
@@ -58,7 +49,7 @@ module _ (plan : List ℕ) (links : Links) (n t : ℕ) (ends : List ℕ) (i : �
 
   no-reply : (x j : ℕ) → x / receivers ≡ t % 16 → sendsReply plan links n t ends i row x j ≡ false
   unfolding sendsReply
-  no-reply x j e = go (leb 16 (x % receivers)) (bit (x % receivers - 15) (row .readers)) (ltb (n + (x % receivers - 15)) (links .parties)) refl refl
+  no-reply x j e = go (leb 16 (x % receivers)) (calendar-specs.Bits.bit (x % receivers - 15) (row .readers)) (ltb (n + (x % receivers - 15)) (links .parties)) refl refl
     where
       q : ℕ
       q = n + (x % receivers - 15)
@@ -67,7 +58,7 @@ module _ (plan : List ℕ) (links : Links) (n t : ℕ) (ends : List ℕ) (i : �
       late = leb (reaches plan links n t ends i row q) (getD ends (x % receivers - 16) 0)
 
       go : (a b c : Bool) → leb 16 (x % receivers) ≡ a → ltb q (links .parties) ≡ c
-          → a && (b && (c && (late && (eqb (reaches plan links n t ends i row q % 16) (x / receivers) && among (row .kept) j)))) ≡ false
+          → a && (b && (c && (late && (eqb (reaches plan links n t ends i row q % 16) (x / receivers) && calendar-specs.Posts.among (row .kept) j)))) ≡ false
       go false b c p r = refl
       go true false c p r = refl
       go true true false p r = refl
@@ -79,7 +70,7 @@ module _ (plan : List ℕ) (links : Links) (n t : ℕ) (ends : List ℕ) (i : �
   none-now x j e = rw (no-vote x j e, no-reply x j e)
 
 -- the same of the servers before b
-pub none-before : (F : Feed) (ends : List ℕ) → Tickable (F .plan) (F .work) (F .t) (F .rules) (F .known) (F .links) → (b : ℕ) → b < F .rules .n → (i x j : ℕ) (row : Row) → i < b
+pub none-before : (F : Feed) (ends : List ℕ) → cluster-specs.Inputs.Tickable (F .plan) (F .work) (F .t) (F .rules) (F .known) (F .links) → (b : ℕ) → b < F .rules .n → (i x j : ℕ) (row : serving-specs.declared.Row.Row) → i < b
     → x / receivers ≡ F .t % 16 → sends (F .plan) (F .links) (F .rules .n) (F .t) ends i row x j ≡ false
 none-before F ends Z b l i x j row h e =
     none-now (F .plan) (F .links) (F .rules .n) (F .t) ends i row (Z .linked .writer) (omega arith) (λ q u v w. Z .delays i q (omega arith) u v w) x j e
@@ -113,7 +104,7 @@ turned-here F ends b s o cleared after S T C P = record {
     next = refl;
     rest = rest;
     spans = spans;
-    cells = λ x j i h m. P .cells x j i h m ∙ rw (cleared-cells (F .work) cleared (rowOf (F .t) b) places (omega arith) C S x j i h m);
+    cells = λ x j i h m. P .cells x j i h m ∙ rw (calendar-laws.Spans.cleared-cells (F .work) cleared (rowOf (F .t) b) places (omega arith) C S x j i h m);
   };
 }
   where
@@ -121,7 +112,7 @@ turned-here F ends b s o cleared after S T C P = record {
     rest = record { size = P .rest .size ∙ C .rest .size; past = λ k h. P .rest .past k h ∙ C .rest .past k h }
 
     spans : Spanned after places
-    spans = posted-spanned cleared after _ places (omega arith) P (λ x j k h m q. m) (cleared-spanned (F .work) cleared (rowOf (F .t) b) places (omega arith) C S)
+    spans = calendar-laws.Spans.posted-spanned cleared after _ places (omega arith) P (λ x j k h m q. m) (calendar-laws.Spans.cleared-spanned (F .work) cleared (rowOf (F .t) b) places (omega arith) C S)
 
 -- ---- the loop over the servers
 
@@ -130,7 +121,7 @@ noStep : Step
 noStep = record { server = absent; row = record { wrote = 0; echoed = false; readers = 0; kept = [] } }
 
 module _ (F : Feed) (ends : List ℕ) (c : List Server) where
-  abbrev sent : ℕ → Row → ℕ → ℕ → Bool
+  abbrev sent : ℕ → serving-specs.declared.Row.Row → ℕ → ℕ → Bool
   sent i row x j = sends (F .plan) (F .links) (F .rules .n) (F .t) ends i row x j
 
   -- the first n servers have done the tick, if all were settled; the others are as they were
@@ -158,7 +149,7 @@ module _ (F : Feed) (ends : List ℕ) (c : List Server) where
   }
 
   module _ (r : List Server) (work : List ℕ) (b : ℕ) (l : b < 16) (size : length c ≡ 16) (same : getD r b absent ≡ getD c b absent) (S : Served F ends c r work b)
-      (now : (i x j : ℕ) (row : Row) → i < b → x / receivers ≡ F .t % 16 → sent i row x j ≡ false) where
+      (now : (i x j : ℕ) (row : serving-specs.declared.Row.Row) → i < b → x / receivers ≡ F .t % 16 → sent i row x j ≡ false) where
     -- no server before it has sent anything that arrives now
     none-yet : (x j i : ℕ) → x / receivers ≡ F .t % 16 → ltb i b && sent i (S .outs i .row) x j ≡ false
     none-yet x j i e = go (ltb i b) refl
@@ -180,7 +171,7 @@ module _ (F : Feed) (ends : List ℕ) (c : List Server) where
     taken-more : (x : ℕ) → x < rows → (s : Bool)
         → not (eqb x (rowOf (F .t) b)) && (not (eqb (x / receivers) (F .t % 16) && ltb (x % receivers) b) && s)
         ≡ not (eqb (x / receivers) (F .t % 16) && ltb (x % receivers) (b + 1)) && s
-    taken-more x h s = rw leb·zero at (row-more (F .t) 0 b x s h (omega arith) (omega arith))
+    taken-more x h s = rw leb·zero at (calendar-laws.Clearing.row-more (F .t) 0 b x s h (omega arith) (omega arith))
 
     module _ (q : Server) (after : List ℕ) (T : Turned (feedAt F work) ends b (getD r b absent) q after) where
       outs : ℕ → Step
@@ -217,7 +208,7 @@ module _ (F : Feed) (ends : List ℕ) (c : List Server) where
 
           by-all : Dec (i ≡ b) → (ltb i b && sent i (S .outs i .row) x j) || (eqb i b && sent b (T .out .row) x j) ≡ ltb i (b + 1) && sent i (outs i .row) x j
           by-all (yes e) = rw (e, out-here, le-ltb b b (omega arith), eq-eqb b b refl, lt-ltb b (b + 1) (omega arith))
-          by-all (no d) = rw (out-there i d, ne-eqb i b d) (rw (ne-eqb i b d) at (ltb-more i b (sent i (S .outs i .row) x j)))
+          by-all (no d) = rw (out-there i d, ne-eqb i b d) (rw (ne-eqb i b d) at (calendar-laws.Laws.ltb-more i b (sent i (S .outs i .row) x j)))
 
       served-turn : Served F ends c (set r b q) after (b + 1)
       served-turn = record {
@@ -240,7 +231,7 @@ module _ (F : Feed) (ends : List ℕ) (c : List Server) where
           next i h (no d) = rw (out-there i d) (getD-set-other r b i q absent d ∙ S .next i (omega arith))
 
   module _ (r : List Server) (work : List ℕ) (b : ℕ) (l : b < 16) (size : length c ≡ 16) (H : Serving r work b)
-      (now : (i x j : ℕ) (row : Row) → i < b → x / receivers ≡ F .t % 16 → sent i row x j ≡ false) where
+      (now : (i x j : ℕ) (row : serving-specs.declared.Row.Row) → i < b → x / receivers ≡ F .t % 16 → sent i row x j ≡ false) where
     -- a server that something reaches
     pub serving-turn : b < F .rules .n → (q : Server) (after : List ℕ) → CalmlyTurned (feedAt F work) ends b (getD r b absent) q after → Serving (set r b q) after (b + 1)
     serving-turn own q after T = record {
@@ -251,7 +242,7 @@ module _ (F : Feed) (ends : List ℕ) (c : List Server) where
     }
 
     -- a server that nothing new reaches
-    pub serving-idle : b < F .rules .n → F .known .m ≤ places → (due : ℕ) → bit b due ≡ isAsked (F .arrivals .requests) b → (busy any : Bool)
+    pub serving-idle : b < F .rules .n → F .known .m ≤ places → (due : ℕ) → calendar-specs.Bits.bit b due ≡ cluster-specs.Inputs.isAsked (F .arrivals .requests) b → (busy any : Bool)
         → busy ≡ called b due (F .arrivals .live) (F .movement .moving) (F .t) (F .rules .delta) (statusOf (getD r b absent .status)) (getD r b absent .pending)
         → any ≡ reached busy work (rowOf (F .t) b) (statusOf (getD r b absent .status)) (keys (getD r b absent .kept)) → any ≡ false
         → (after : List ℕ) → Emptied work after (rowOf (F .t) b) → Serving r after (b + 1)
@@ -269,8 +260,8 @@ module _ (F : Feed) (ends : List ℕ) (c : List Server) where
 
 -- ---- the whole tick
 
-pub sized-after : (plan work after : List ℕ) (t : ℕ) (rules : Rules) (known : Known) (links : Links)
-    → Tickable plan work t rules known links → SamePast work after → Spanned after places → Tickable plan after t rules known links
+pub sized-after : (plan work after : List ℕ) (t : ℕ) (rules : serving-specs.declared.Rules.Rules) (known : cluster-specs.declared.Known.Known) (links : serving-specs.declared.Links.Links)
+    → cluster-specs.Inputs.Tickable plan work t rules known links → SamePast work after → Spanned after places → cluster-specs.Inputs.Tickable plan after t rules known links
 sized-after plan work after t rules known links Z P S = record {
   room = omega (arith, Z .room, P .size);
   spans = S;
@@ -284,7 +275,7 @@ sized-after plan work after t rules known links Z P S = record {
   delays = Z .delays;
 }
 
-module _ (F : Feed) (c : Cluster) (heard : List Reader) (served : List Server) (noted work : List ℕ) (n : ℕ) (few : n ≤ 16) (size : length (c .servers) ≡ 16)
+module _ (F : Feed) (c : cluster-specs.declared.Cluster.Cluster) (heard : List cluster-specs.declared.Reader.Reader) (served : List Server) (noted work : List ℕ) (n : ℕ) (few : n ≤ 16) (size : length (c .servers) ≡ 16)
     (H : Heard (F .work) noted (F .t) (c .readers) heard) (S : Served (feedAt F noted) (endsOf (c .readers)) (c .servers) served work n) where
   -- a server's row is not a reader's
   same-votes : (b j i : ℕ) → b < 16 → j < places → sender noted (rowOf (F .t) b) j i ≡ sender (F .work) (rowOf (F .t) b) j i
@@ -313,7 +304,7 @@ module _ (F : Feed) (c : Cluster) (heard : List Reader) (served : List Server) (
         ∙ rw (H .cells x j i l m, two-taken (eqb (x / receivers) (F .t % 16)) (ltb (x % receivers) n) (leb 16 (x % receivers)) (sender (F .work) x j i));
   }
 
-pub calmly-ticked : (F : Feed) (c : Cluster) (heard : List Reader) (served : List Server) (noted work : List ℕ) → F .rules .n ≤ 16 → length (c .servers) ≡ 16
+pub calmly-ticked : (F : Feed) (c : cluster-specs.declared.Cluster.Cluster) (heard : List cluster-specs.declared.Reader.Reader) (served : List Server) (noted work : List ℕ) → F .rules .n ≤ 16 → length (c .servers) ≡ 16
     → Heard (F .work) noted (F .t) (c .readers) heard → CalmlyServed (feedAt F noted) (endsOf (c .readers)) (c .servers) served work
     → CalmlyTicked F c (record { servers = served; readers = heard }) work
 calmly-ticked F c heard served noted work few size H S = record {

@@ -13,19 +13,15 @@ use lib.Seq.{take-all}
 use borrow.Author.Tests.{lt-ltb, le-ltb, le-leb, lt-leb, eq-eqb, ne-eqb, eqb-true, eqb-false, ltb-true, ltb-false, leb-true, not-false}
 use Rattle.register.specs.Lists.{count, sameList}
 use Rattle.register.specs.Server.{faulty, correct, isFaulty, curedAt, insert}
-use Rattle.register.proofs.Logic.{or-l}
-use Rattle.register.proofs.Lists.{sameList-eq}
-use Rattle.register.proofs.Counting.{count-none, count-mono}
+use Rattle.register.proofs as register-laws
 use Rattle.calendar.specs.Layout.{rows, places, depth, lowOf, highOf, sender}
 use Rattle.calendar.specs.View.{Spanned}
-use Rattle.cluster.specs.declared.Cluster.{Cluster}
+use Rattle.cluster.specs as cluster-specs
 use Rattle.serving.specs.declared.Rules.{Rules}
 use Rattle.serving.specs.Stored.{Plain, Both, server, absent}
 use Rattle.serving.specs.Stages.{noVotes, silent, blankAs, resetAt, restated, turned, isNew, within, Voted, taken, voting, withWrite, delivered, deliveredOf, stageOne, stageTwo, movedOn, stageFour, stagesOf}
 use Rattle.cluster.specs.Settled.{Settled}
-use Rattle.cluster.specs.Tick.{Feed, Ticked, firstServer}
-use Rattle.serving.proofs.StoreLaws.{same-as-itself}
-use Rattle.serving.proofs.StageLaws.{write-kept}
+use Rattle.serving.proofs as serving-laws
 
 -- ---- putting a pair in changes nothing
 
@@ -102,12 +98,12 @@ put-few false q l h = h
 not-new : (p : ℕ) (l : List ℕ) → isNew p l ≡ false → Stands p l depth
 unfolding isNew
 not-new p l e =
-    let same : take depth (insert p l) ≡ l = sameList-eq (take depth (insert p l)) l (rw (not-false (sameList (take depth (insert p l)) l) e) tt) in
+    let same : take depth (insert p l) ≡ l = register-laws.Lists.sameList-eq (take depth (insert p l)) l (rw (not-false (sameList (take depth (insert p l)) l) e) tt) in
     subst (λ (k : List ℕ). Stands p k depth) same (stands-in depth p l)
 
 stands-known : (p : ℕ) (l : List ℕ) → length l ≤ depth → Stands p l depth → isNew p l ≡ false
 unfolding isNew
-stands-known p l h w = rw (stands-same depth p l h w, same-as-itself l)
+stands-known p l h w = rw (stands-same depth p l h w, serving-laws.StoreLaws.same-as-itself l)
 
 -- new to a store that has grown, then new to it before
 new-less : (p : ℕ) (l k : List ℕ) → length k ≤ depth → (Stands p l depth → Stands p k depth) → isNew p k ≡ true → isNew p l ≡ true
@@ -187,7 +183,7 @@ taken-none c (suc m) l h = rw (taken-none c m l (λ j a. h j (omega arith))) (go
 
 changes : (p : ℕ) (k : List ℕ) → isNew p k ≡ true → take depth (insert p k) ≡ k → ⊥
 unfolding isNew
-changes p k n d = let z : _≡_ {A = ℕ} 0 1 = ap (λ (x : Bool). cond x 1 0) (rw (d, same-as-itself k) at n) in omega arith
+changes p k n d = let z : _≡_ {A = ℕ} 0 1 = ap (λ (x : Bool). cond x 1 0) (rw (d, serving-laws.StoreLaws.same-as-itself k) at n) in omega arith
 
 -- of a settled server that has noted the votes of a row, the pairs outside the row's span are taken in to no effect
 module _ (m e r w : ℕ) (work : List ℕ) (row : ℕ) (s q : Plain) (Z : Voted (sender work row) s q) (K : Settled m e r s) (alive : isFaulty (s .status) ≡ false)
@@ -203,7 +199,7 @@ module _ (m e r w : ℕ) (work : List ℕ) (row : ℕ) (s q : Plain) (Z : Voted 
 
   pub span-enough : taken (λ j. within (lowOf work row) (highOf work row) j && voting e r (q .fresh) (q .old) j) m (withWrite m w q .kept)
       ≡ taken (voting e r (q .fresh) (q .old)) m (withWrite m w q .kept)
-  span-enough = rw (write-kept m w q) (written-alike m w (q .kept) (rw (Z .kept) (K .few)) _ _ (λ j h n. go j h n (within (lowOf work row) (highOf work row) j) refl))
+  span-enough = rw (serving-laws.StageLaws.write-kept m w q) (written-alike m w (q .kept) (rw (Z .kept) (K .few)) _ _ (λ j h n. go j h n (within (lowOf work row) (highOf work row) j) refl))
     where
       go : (j : ℕ) → j < m → isNew j (q .kept) ≡ true → (b : Bool) → within (lowOf work row) (highOf work row) j ≡ b → b && voting e r (q .fresh) (q .old) j ≡ voting e r (q .fresh) (q .old) j
       go j h n true d = refl
@@ -221,13 +217,13 @@ module _ (m e r : ℕ) (he : 1 ≤ e) (hr : 1 ≤ r) where
 
   -- no votes, no quorum
   none-voting : (j : ℕ) → voting e r noVotes noVotes j ≡ false
-  none-voting j = rw (count-none 16, lt-leb e 0 he, lt-leb r 0 hr)
+  none-voting j = rw (register-laws.Counting.count-none 16, lt-leb e 0 he, lt-leb r 0 hr)
 
   unvoted-settled : (s : Plain) → length (s .kept) ≤ depth → s .fresh ≡ noVotes → s .old ≡ noVotes → Fine s
   unvoted-settled s h f o = record { few = h; same = λ j l v. absurd (false≢true (sym (none-voting j) ∙ rw (f, o) at v)) }
 
-  pub first-settled : Fine firstServer
-  first-settled = unvoted-settled firstServer (omega arith) refl refl
+  pub first-settled : Fine cluster-specs.Tick.firstServer
+  first-settled = unvoted-settled cluster-specs.Tick.firstServer (omega arith) refl refl
 
   delivered-settled : (w : ℕ) (votes : ℕ → ℕ → Bool) (asks live : ℕ → Bool) (s : Plain) → length (s .kept) ≤ depth → Fine (delivered m e r w votes asks live s .server)
   unfolding delivered deliveredOf
@@ -237,7 +233,7 @@ module _ (m e r : ℕ) (he : 1 ≤ e) (hr : 1 ≤ r) where
   }
     where
       wrote : length (withWrite m w s .kept) ≤ depth
-      wrote = rw (write-kept m w s) (put-few (ltb w m) w (s .kept) h)
+      wrote = rw (serving-laws.StageLaws.write-kept m w s) (put-few (ltb w m) w (s .kept) h)
 
       small : length (taken (voting e r votes (s .old)) m (withWrite m w s .kept)) ≤ depth
       small = taken-few (voting e r votes (s .old)) m (withWrite m w s .kept) wrote
@@ -266,11 +262,11 @@ module _ (m e r : ℕ) (he : 1 ≤ e) (hr : 1 ≤ r) where
   turned-settled true s S = record { few = S .few; same = λ j l v. S .same j l (before j v) }
     where
       more : (j : ℕ) → count (s .fresh j) 16 ≤ count (λ i. s .fresh j i || s .old j i) 16
-      more j = count-mono (s .fresh j) (λ i. s .fresh j i || s .old j i) 16 (λ i l t. or-l (s .fresh j i) (s .old j i) t)
+      more j = register-laws.Counting.count-mono (s .fresh j) (λ i. s .fresh j i || s .old j i) 16 (λ i l t. register-laws.Logic.or-l (s .fresh j i) (s .old j i) t)
 
       before : (j : ℕ) → voting e r noVotes (s .fresh) j ≡ true → voting e r (s .fresh) (s .old) j ≡ true
       before j v =
-          let q : leb r (count (s .fresh j) 16) ≡ true = rw (count-none 16, lt-leb e 0 he) at v in
+          let q : leb r (count (s .fresh j) 16) ≡ true = rw (register-laws.Counting.count-none 16, lt-leb e 0 he) at v in
           rw (le-leb r (count (λ i. s .fresh j i || s .old j i) 16) (omega (arith, leb-true r (count (s .fresh j) 16) q, more j))) (or-true (leb e (count (s .fresh j) 16)))
 
   moved-settled : (two h : Bool) (t : ℕ) (s : Plain) → Fine s → Fine (movedOn two h t s)
@@ -298,7 +294,7 @@ stages-settled m rules he hr w votes asks live moving h t s S = go moving
     go false = after
 
 -- a server that has done a tick
-pub settled-next : (F : Feed) (c r : Cluster) (work : List ℕ) (n b : ℕ) → 1 ≤ F .rules .echo → 1 ≤ F .rules .reply → Ticked F c r work n → b < n
+pub settled-next : (F : cluster-specs.Tick.Feed) (c r : cluster-specs.declared.Cluster.Cluster) (work : List ℕ) (n b : ℕ) → 1 ≤ F .rules .echo → 1 ≤ F .rules .reply → cluster-specs.Tick.Ticked F c r work n → b < n
     → Settled (F .known .m) (F .rules .echo) (F .rules .reply) (server (getD (c .servers) b absent))
     → Settled (F .known .m) (F .rules .echo) (F .rules .reply) (server (getD (r .servers) b absent))
 settled-next F c r work n b he hr T l S =

@@ -7,17 +7,14 @@ use native.Mathlib.Omega.{arith}
 use lib.ListN.{getD}
 use Rattle.register.specs.Lists.{tab, allUpTo}
 use Rattle.register.specs.Plan.{Read}
-use Rattle.plan.specs.declared.header.Shape.{Shape}
+use Rattle.plan.specs as plan-specs
 use Rattle.plan.specs.Header.{Header, headerOf, moves}
 use Rattle.plan.specs.Parts.{writesFrom, readsFrom}
 use Rattle.plan.specs.Packed.{planOf}
 use Rattle.plan.specs.Shape.{shape}
 use Rattle.plan.specs.Check.{checkOf, result}
-use Rattle.plan.specs.Playable.{Playable}
-use Rattle.plan.proofs.Laws.{all-same}
+use Rattle.plan.proofs as plan-laws
 use Rattle.plan.proofs.Accept.{playable, reads-counted, in-range}
-use Rattle.plan.proofs.AcceptReads.{few-reads}
-use Rattle.plan.proofs.AcceptWrites.{writes-apart}
 use Rattle.script.specs.Operations.{opAt, noWrite, Written, ReadIn}
 use Rattle.script.proofs.Scripting.{writes-same, reads-same}
 use Rattle.simulator.specs.Judge.{readOf, answerFits}
@@ -25,14 +22,14 @@ use Rattle.regular.specs.Tables.{Tables}
 use Rattle.judge.specs.Fitting.{fitsRead}
 
 module _ (s : List ℕ) (m : ℕ) (e : checkOf 16 s ≡ result m) where
-  A : Playable 16 s
+  A : plan-specs.Playable.Playable 16 s
   A = playable 16 s m e
 
   pub few-answers : m ≤ 255
-  few-answers = omega (arith, reads-counted 16 s m e, few-reads 16 s, in-range 16 s A .operations-hi)
+  few-answers = omega (arith, reads-counted 16 s m e, plan-laws.AcceptReads.few-reads 16 s, in-range 16 s A .operations-hi)
 
   -- the header by value
-  module _ (x : Shape) (same : shape x ≡ headerOf 16 s) where
+  module _ (x : plan-specs.declared.header.Shape.Shape) (same : shape x ≡ headerOf 16 s) where
     pub delta-same : planOf 16 s .delta ≡ x .delta
     unfolding planOf
     delta-same = sym (ap (λ (h : Header). h .delta) same)
@@ -47,7 +44,7 @@ module _ (s : List ℕ) (m : ℕ) (e : checkOf 16 s ≡ result m) where
           record {
             initial = rw (W .first, ← same);
             written = rw (W .first) W;
-            rising = λ i j l h. omega (arith, writes-apart 16 s A noWrite i j l h);
+            rising = λ i j l h. omega (arith, plan-laws.AcceptWrites.writes-apart 16 s A noWrite i j l h);
           }
 
       module _ (begun reader : List ℕ) (q : ℕ) (R : ReadIn (readsFrom (tab (x .operations) (opAt s at))) begun reader q) where
@@ -61,4 +58,4 @@ module _ (s : List ℕ) (m : ℕ) (e : checkOf 16 s ≡ result m) where
 
         pub fits-same : (a : List ℕ) → allUpTo m (λ i. fitsRead a i (getD begun i 0) (getD reader i 0)) ≡ allUpTo m (answerFits 16 s a)
         unfolding fitsRead answerFits
-        fits-same a = all-same _ (answerFits 16 s a) m (λ i l. rw (read-is i l))
+        fits-same a = plan-laws.Laws.all-same _ (answerFits 16 s a) m (λ i l. rw (read-is i l))

@@ -11,30 +11,21 @@ use lib.ListN.{length, take}
 use lib.Seq.{take-suc, take-all}
 use borrow.Author.Tests.{lt-ltb}
 use Rattle.bits.proofs.Laws.{field-lt}
-use Rattle.register.specs.Lists.{In}
-use Rattle.register.specs.Plan.{Plan, Read, valueOf, numberOf}
-use Rattle.register.specs.Reading.{Answer, answerOf}
-use Rattle.plan.specs.declared.header.Shape.{Shape}
-use Rattle.plan.specs.Shape.{shape}
-use Rattle.plan.specs.Header.{Header, headerOf}
-use Rattle.plan.specs.Packed.{planOf}
-use Rattle.plan.specs.Check.{result, checkOf}
-use Rattle.plan.proofs.Tests.{getD-in}
-use Rattle.plan.proofs.Accept.{accepted, reads-counted, in-range}
+use Rattle.register.specs as register-specs
+use Rattle.plan.specs as plan-specs
+use Rattle.plan.proofs as plan-laws
 use Rattle.answers.specs.Answers.{answerSize, answerAt, beginIn, answersFor, answersOf}
 use Rattle.answers.proofs.Lengths.{answers-length}
 use Rattle.simulator.specs.Judge.{readOf}
-use Rattle.simulator.proofs.AnswerBytes.{Fits, begin-of, reader-of, pair-of, count-of}
-use Rattle.simulator.proofs.Judged.{fits}
-use Rattle.simulator.proofs.PointThree.{pointThree}
+use Rattle.simulator.proofs as simulator-laws
 use Rattle.fields.specs.Fields.{answerFields, answerField}
 use Rattle.lines.specs.declared.Answer.{Answer as Fields}
 use Rattle.lines.specs.Text.{lineOf, linesFor}
 use Rattle.lines.specs.Lines.{answerIn, lineFor, linesIn}
 
 -- what the fields of a read's answer have to be
-abbrev fieldsOf : Read → Answer → Fields
-fieldsOf r a = record { begin = r .begun; reader = r .reader; value = valueOf 16 (a .pair); number = numberOf 16 (a .pair); count = a .count }
+abbrev fieldsOf : register-specs.Plan.Read → register-specs.Reading.Answer → Fields
+fieldsOf r a = record { begin = r .begun; reader = r .reader; value = register-specs.Plan.valueOf 16 (a .pair); number = register-specs.Plan.numberOf 16 (a .pair); count = a .count }
 
 -- the begin of an answer, whatever the bytes
 pub begin-low : (a : List ℕ) (i : ℕ) → answerIn a i .begin < 128
@@ -45,37 +36,37 @@ begin-low a i = go (ltb i (length a / answerSize 16)) (field-lt a (answerAt 16 a
     go true h = h
     go false h = omega arith
 
-lines-append : (P : Plan) (a b : List Read) → linesFor 16 P (a ++ b) ≡ linesFor 16 P a ++ linesFor 16 P b
+lines-append : (P : register-specs.Plan.Plan) (a b : List register-specs.Plan.Read) → linesFor 16 P (a ++ b) ≡ linesFor 16 P a ++ linesFor 16 P b
 unfolding linesFor
 lines-append P [] b = refl
 lines-append P (r ∷ a) b = rw (lines-append P a b) (sym (append-assoc (lineOf 16 P r) _ _))
 
-module _ (s : List ℕ) (m : ℕ) (e : checkOf 16 s ≡ result m) where
-  abbrev P : Plan
-  P = planOf 16 s
+module _ (s : List ℕ) (m : ℕ) (e : plan-specs.Check.checkOf 16 s ≡ plan-specs.Check.result m) where
+  abbrev P : register-specs.Plan.Plan
+  P = plan-specs.Packed.planOf 16 s
 
-  abbrev none : Read
+  abbrev none : register-specs.Plan.Read
   none = record { begun = 0; reader = 0 }
 
   inside : (i : ℕ) → i < m → i < length (P .reads)
-  inside i l = rw (reads-counted 16 s m e) at l
+  inside i l = rw (plan-laws.Accept.reads-counted 16 s m e) at l
 
   -- every answer fits its fields
-  pub answer-fits : (r : Read) → In r (P .reads) → Fits 16 r (answerOf P r)
-  answer-fits r i = fits 16 s (accepted 16 s m e) r i (pointThree 16 refl s m e .served r i)
+  pub answer-fits : (r : register-specs.Plan.Read) → register-specs.Lists.In r (P .reads) → simulator-laws.AnswerBytes.Fits 16 r (register-specs.Reading.answerOf P r)
+  answer-fits r i = simulator-laws.Judged.fits 16 s (plan-laws.Accept.accepted 16 s m e) r i (simulator-laws.PointThree.pointThree 16 refl s m e .served r i)
 
-  fields-are : (i : ℕ) → i < m → answerIn (answersOf 16 s) i ≡ fieldsOf (readOf P i) (answerOf P (readOf P i))
+  fields-are : (i : ℕ) → i < m → answerIn (answersOf 16 s) i ≡ fieldsOf (readOf P i) (register-specs.Reading.answerOf P (readOf P i))
   unfolding answerIn answerField answerFields answersOf
   fields-are i l =
       let n = inside i l in
-      let F = answer-fits (readOf P i) (getD-in (P .reads) i none n) in
+      let F = answer-fits (readOf P i) (plan-laws.Tests.getD-in (P .reads) i none n) in
       let whole : i < length (answersFor 16 P (P .reads)) / answerSize 16 = omega (arith, answers-length 16 P (P .reads)) in
       rw (
         lt-ltb _ _ whole,
-        begin-of 16 P refl (P .reads) none i n F,
-        reader-of 16 P refl (P .reads) none i n F,
-        pair-of 16 P refl (P .reads) none i n F,
-        count-of 16 P refl (P .reads) none i n F,
+        simulator-laws.AnswerBytes.begin-of 16 P refl (P .reads) none i n F,
+        simulator-laws.AnswerBytes.reader-of 16 P refl (P .reads) none i n F,
+        simulator-laws.AnswerBytes.pair-of 16 P refl (P .reads) none i n F,
+        simulator-laws.AnswerBytes.count-of 16 P refl (P .reads) none i n F,
       )
 
   line-is : (i : ℕ) → i < m → lineFor (2 * P .delta) (answerIn (answersOf 16 s) i) ≡ lineOf 16 P (readOf P i)
@@ -89,16 +80,16 @@ module _ (s : List ℕ) (m : ℕ) (e : checkOf 16 s ≡ result m) where
       rw (first-lines i (omega arith), line-is i l, take-suc (P .reads) i none (inside i l), lines-append P (take i (P .reads)) (readOf P i ∷ []), append-nil)
 
   lines-are : linesIn (answersOf 16 s) (2 * P .delta) m ≡ linesFor 16 P (P .reads)
-  lines-are = first-lines m (le-refl m) ∙ rw (take-all m (P .reads) (omega (arith, reads-counted 16 s m e)))
+  lines-are = first-lines m (le-refl m) ∙ rw (take-all m (P .reads) (omega (arith, plan-laws.Accept.reads-counted 16 s m e)))
 
   -- how long a read lasts, from the header
-  module _ (x : Shape) (same : shape x ≡ headerOf 16 s) where
+  module _ (x : plan-specs.declared.header.Shape.Shape) (same : plan-specs.Shape.shape x ≡ plan-specs.Header.headerOf 16 s) where
     span-is : 2 * x .delta ≡ 2 * P .delta
-    unfolding planOf
-    span-is = ap (λ (h : Header). 2 * h .delta) same
+    unfolding plan-specs.Packed.planOf
+    span-is = ap (λ (h : plan-specs.Header.Header). 2 * h .delta) same
 
     pub span-few : 2 * x .delta ≤ 30
-    span-few = omega (arith, ap (λ (h : Header). h .delta) same, in-range 16 s (accepted 16 s m e .playable) .delta-hi)
+    span-few = omega (arith, ap (λ (h : plan-specs.Header.Header). h .delta) same, plan-laws.Accept.in-range 16 s (plan-laws.Accept.accepted 16 s m e .playable) .delta-hi)
 
     pub all-lines : (a : List ℕ) (i : ℕ) → a ≡ answersOf 16 s → i ≡ m → linesIn a (2 * x .delta) i ≡ linesFor 16 P (P .reads)
     all-lines a i is n = rw (is, span-is, n) lines-are

@@ -12,16 +12,13 @@ use borrow.Author.Tests.{lt-ltb, eqb-true, ne-eqb}
 use Rattle.bits.specs.Field.{fieldOf}
 use Rattle.bits.proofs.Laws.{field-zero, field-split}
 use Rattle.register.specs.Lists.{one-if, allUpTo}
-use Rattle.register.proofs.Counting.{count-cong}
-use Rattle.register.proofs.Logic.{and-both}
+use Rattle.register.proofs as register-laws
 use Rattle.plan.specs.Header.{headerOf, moves, operationAt}
-use Rattle.plan.specs.Limits.{mostReads}
+use Rattle.plan.specs as plan-specs
 use Rattle.plan.specs.Parts.{Operation, inPlacement, operationOf, operationsOf, forgeryOf, delayOf, isLink}
-use Rattle.plan.specs.Packed.{planOf}
 use Rattle.plan.specs.Check.{result, checkOf, endOf, placementStands, operationRises, operationWaits, operationStands, forgeryRises, forgeryStands, delayStands, placementsStand, operationsStand, forgeriesStand, delaysStand, finalBitsZero}
 use Rattle.plan.proofs.Laws.{all-at, all-from, all-same}
-use Rattle.plan.proofs.Reading.{length-reads}
-use Rattle.plan.proofs.Accept.{accepts}
+use Rattle.plan.proofs as plan-laws
 use Rattle.longest.specs.Longest.{headerBytes, placement, operationBytes, forgeryBytes, longestPlan, begunAt, partyOf, delayIn}
 use Rattle.longest.proofs.Parts as parts
 use Rattle.longest.proofs.Passes as passes
@@ -56,7 +53,7 @@ unfolding placementsStand placementStands moves
 placements-stand =
     all-from (placementStands 16 longestPlan header) 128
     (λ i l.
-    rw (count-cong (inPlacement 16 longestPlan header i) (λ b. eqb (fieldOf placement b 1) 1) 16 (λ b h. faulty-is i b l h), passes.one-faulty, field-zero)
+    rw (register-laws.Counting.count-cong (inPlacement 16 longestPlan header i) (λ b. eqb (fieldOf placement b 1) 1) 16 (λ b h. faulty-is i b l h), passes.one-faulty, field-zero)
     refl)
 
 -- Operations: as the decoded ones.
@@ -64,8 +61,8 @@ operation-is : (i : ℕ) → i < 232 → operationOf 16 longestPlan header i ≡
 unfolding operationOf moves passes.decodes
 operation-is i l =
     let all = all-at passes.decodes 232 i l passes.all-decode in
-    let b = and-both (eqb (fieldOf (operationBytes (i / 4)) (26 * (i % 4)) 7) (begunAt i)) _ all in
-    let c = and-both (eqb (fieldOf (operationBytes (i / 4)) (26 * (i % 4) + 7) 3) (partyOf i)) _ (b .1) in
+    let b = register-laws.Logic.and-both (eqb (fieldOf (operationBytes (i / 4)) (26 * (i % 4)) 7) (begunAt i)) _ all in
+    let c = register-laws.Logic.and-both (eqb (fieldOf (operationBytes (i / 4)) (26 * (i % 4) + 7) 3) (partyOf i)) _ (b .1) in
     let t : fieldOf longestPlan (2112 + 26 * i) 7 ≡ begunAt i = rw (add-zero (2112 + 26 * i), add-zero (26 * (i % 4))) at (parts.in-operation i 0 7 l (omega arith)) ∙ eqb-true _ _ (b .0) in
     let p : fieldOf longestPlan (2112 + 26 * i + 7) 3 ≡ partyOf i = parts.in-operation i 7 3 l (omega arith) ∙ eqb-true _ _ (c .0) in
     let v : fieldOf longestPlan (2112 + 26 * i + 10) 16 ≡ 0 = parts.in-operation i 10 16 l (omega arith) ∙ eqb-true _ _ (c .1) in
@@ -92,13 +89,13 @@ operations-stand =
     all-from (operationStands 16 longestPlan header) 232
     (λ i l.
     let all = all-at passes.stands 232 i l passes.all-stand in
-    let b = and-both (leb (partyOf i) 4) _ all in
-    let c = and-both (ltb (endOf header (operation i)) 128) _ (b .1) in
+    let b = register-laws.Logic.and-both (leb (partyOf i) 4) _ all in
+    let c = register-laws.Logic.and-both (ltb (endOf header (operation i)) 128) _ (b .1) in
     rw (rises-is i l, waits-is i l, operation-is i l, b .0, c .0, c .1) (ap (λ (x : Bool). x && true) (or-true (eqb (partyOf i) 0))))
 
 -- Forgeries: votes of server 0.
-placed-zero : (t : ℕ) → t < 128 → planOf 16 longestPlan .placed t 0 ≡ true
-unfolding planOf
+placed-zero : (t : ℕ) → t < 128 → plan-specs.Packed.planOf 16 longestPlan .placed t 0 ≡ true
+unfolding plan-specs.Packed.planOf
 placed-zero t l = rw (header-is, mul-one t, lt-ltb t 128 l, faulty-is t 0 l (omega arith), passes.zero-faulty) refl
 
 forgery-rises : (i : ℕ) → i < 1024 → forgeryRises 16 longestPlan header i ≡ (eqb i 0 || ltb (fieldOf (forgeryBytes (i - 1)) 0 40) (fieldOf (forgeryBytes i) 0 40))
@@ -112,9 +109,9 @@ forgeries-stand =
     all-from (forgeryStands 16 longestPlan header) 1024
     (λ i l.
     let all = all-at passes.forges 1024 i l passes.all-forge in
-    let b = and-both (eqb (fieldOf (forgeryBytes i) 0 7) (i / 8)) _ all in
-    let c = and-both (eqb (fieldOf (forgeryBytes i) 7 4) 0) _ (b .1) in
-    let d = and-both (eqb (fieldOf (forgeryBytes i) 11 5) (i % 8 + 1)) _ (c .1) in
+    let b = register-laws.Logic.and-both (eqb (fieldOf (forgeryBytes i) 0 7) (i / 8)) _ all in
+    let c = register-laws.Logic.and-both (eqb (fieldOf (forgeryBytes i) 7 4) 0) _ (b .1) in
+    let d = register-laws.Logic.and-both (eqb (fieldOf (forgeryBytes i) 11 5) (i % 8 + 1)) _ (c .1) in
     let t : fieldOf longestPlan (8144 + 40 * i) 7 ≡ i / 8 = rw add-zero at (parts.in-forgery i 0 7 l (omega arith)) ∙ eqb-true _ _ (b .0) in
     let x : fieldOf longestPlan (8144 + 40 * i + 7) 4 ≡ 0 = parts.in-forgery i 7 4 l (omega arith) ∙ eqb-true _ _ (c .0) in
     let y : fieldOf longestPlan (8144 + 40 * i + 11) 5 ≡ i % 8 + 1 = parts.in-forgery i 11 5 l (omega arith) ∙ eqb-true _ _ (d .0) in
@@ -153,17 +150,17 @@ final-bits-zero : finalBitsZero 16 longestPlan header ≡ true
 unfolding finalBitsZero moves
 final-bits-zero = rw (parts.length-longest, field-zero) refl
 
-reads-are : length (planOf 16 longestPlan .reads) ≡ mostReads
-unfolding planOf operationsOf
+reads-are : length (plan-specs.Packed.planOf 16 longestPlan .reads) ≡ plan-specs.Limits.mostReads
+unfolding plan-specs.Packed.planOf operationsOf
 reads-are =
-    rw (header-is, length-reads 232 (operationOf 16 longestPlan header))
-    (count-cong _ (λ j. not (eqb (partyOf j) 0)) 232 (λ j l. rw (operation-is j l) refl) ∙ passes.reads)
+    rw (header-is, plan-laws.Reading.length-reads 232 (operationOf 16 longestPlan header))
+    (register-laws.Counting.count-cong _ (λ j. not (eqb (partyOf j) 0)) 232 (λ j l. rw (operation-is j l) refl) ∙ passes.reads)
 
 -- there is an accepted plan with the most bytes, and it has the most reads
-pub longest-accepted : checkOf 16 longestPlan ≡ result mostReads
+pub longest-accepted : checkOf 16 longestPlan ≡ result plan-specs.Limits.mostReads
 longest-accepted =
     rw (← reads-are)
-    (accepts 16 longestPlan (record {
+    (plan-laws.Accept.accepts 16 longestPlan (record {
       playable = record {
         long = rw parts.length-longest tt;
         header = rw (header-is, passes.in-range) tt;

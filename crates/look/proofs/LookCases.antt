@@ -6,32 +6,29 @@ use mathlib.Core.List.{List, [], _∷_, _++_, map}
 use Prim.Native.Nat.{ℕ, zero, suc, _-_, _^_, _≤_, _<_}
 use lib.ListN.{length, getD, replicate}
 use borrow.Author.Tests.{lt-ltb, le-ltb}
-use Rattle.register.specs.Plan.{stamped, valueOf, numberOf}
+use Rattle.register.specs as register-specs
 use Rattle.register.specs.Server.{Server, Status, faulty, cured, correct}
-use Rattle.register.specs.Cluster.{cluster, serverOf}
 use Rattle.plan.specs.Header.{headerOf}
-use Rattle.plan.specs.Packed.{storeDepth, planOf}
-use Rattle.plan.specs.Check.{refused, result, checkOf}
+use Rattle.plan.specs as plan-specs
 use Rattle.register.proofs.Stamped.{value-stamped, number-stamped}
 use Rattle.calendar.specs.declared.Stamped.{Stamped as Kept}
 use Rattle.cluster.specs.declared.Known.{Known}
 use Rattle.cluster.specs.Inputs.{pairAt, Narrow}
-use Rattle.simulator.specs.declared.look.Place.{Place}
+use Rattle.simulator.specs as simulator-specs
 use Rattle.serving.specs.Stored.{keys}
 use Rattle.answers.specs.Workspace.{workspaceSize, zeroed}
 use Rattle.simulator.specs.Look.{Stamped, conditionOf, shownBy, placeWith, emptyPlace, placesOf, Looked, lookShown, lookRefused, lookAfter, lookOf}
-use Rattle.simulator.specs.declared.look.Seen.{Seen}
 use Rattle.simulator.specs.Numbered.{valuedPlace, shownIn, lookedAs, seenOf}
 
 module _ (s workspace : List ℕ) (b t : ℕ) where
   abbrev refusedBy : ℕ → Looked
   refusedBy number = lookRefused 16 s workspace b t number
 
-  pub look-checked : (n : ℕ) → checkOf 16 s ≡ refused n → refusedBy n ≡ lookOf 16 s workspace b t
+  pub look-checked : (n : ℕ) → plan-specs.Check.checkOf 16 s ≡ plan-specs.Check.refused n → refusedBy n ≡ lookOf 16 s workspace b t
   unfolding lookOf lookAfter
   look-checked n e = rw e
 
-  module _ (m : ℕ) (accepted : checkOf 16 s ≡ result m) where
+  module _ (m : ℕ) (accepted : plan-specs.Check.checkOf 16 s ≡ plan-specs.Check.result m) where
     pub look-ten : length workspace < workspaceSize → refusedBy 10 ≡ lookOf 16 s workspace b t
     unfolding lookOf lookAfter
     look-ten h = rw (accepted, lt-ltb (length workspace) workspaceSize h)
@@ -46,20 +43,20 @@ module _ (s workspace : List ℕ) (b t : ℕ) where
         unfolding lookOf lookAfter
         look-tick h = rw (accepted, le-ltb (length workspace) workspaceSize room, lt-ltb b (headerOf 16 s .n) server, le-ltb t (headerOf 16 s .ticks) h)
 
-        pub look-done : t < headerOf 16 s .ticks → (x : Looked) → x ≡ lookShown (shownBy 16 (serverOf (cluster (planOf 16 s) (suc t)) b)) (zeroed workspace)
+        pub look-done : t < headerOf 16 s .ticks → (x : Looked) → x ≡ lookShown (shownBy 16 (register-specs.Cluster.serverOf (register-specs.Cluster.cluster (plan-specs.Packed.planOf 16 s) (suc t)) b)) (zeroed workspace)
             → x ≡ lookOf 16 s workspace b t
         unfolding lookOf lookAfter
         look-done h x e = rw (accepted, le-ltb (length workspace) workspaceSize room, lt-ltb b (headerOf 16 s .n) server, lt-ltb t (headerOf 16 s .ticks) h) e
 
 -- the pairs of a plan with the known pairs, by their numbers
 module _ (known : Known) (narrow : Narrow known) where
-  shown-keys : (ps : List Kept) → map (λ p. record { value = valueOf 16 p; number = numberOf 16 p }) (map (pairAt known) (keys ps)) ≡ shownIn (map (valuedPlace (known .values)) ps)
+  shown-keys : (ps : List Kept) → map (λ p. record { value = register-specs.Plan.valueOf 16 p; number = register-specs.Plan.numberOf 16 p }) (map (pairAt known) (keys ps)) ≡ shownIn (map (valuedPlace (known .values)) ps)
   unfolding keys shownIn
   shown-keys [] = refl
   shown-keys (p ∷ ps) = go (p .kept) (shown-keys ps)
     where
       shows : ℕ → Stamped
-      shows k = record { value = valueOf 16 k; number = numberOf 16 k }
+      shows k = record { value = register-specs.Plan.valueOf 16 k; number = register-specs.Plan.numberOf 16 k }
 
       pair : Stamped
       pair = record { value = getD (known .values) (p .number) 0; number = p .number }
@@ -72,7 +69,7 @@ module _ (known : Known) (narrow : Narrow known) where
       go true e = rw (first, e)
       go false e = refl
 
-shown-as : (x : Status) (pairs : List Stamped) → lookedAs pairs (seenOf x) ≡ result (record { condition = conditionOf x; pairs = pairs })
+shown-as : (x : Status) (pairs : List Stamped) → lookedAs pairs (seenOf x) ≡ plan-specs.Check.result (record { condition = conditionOf x; pairs = pairs })
 unfolding conditionOf
 shown-as faulty pairs = refl
 shown-as (cured since) pairs = refl
@@ -81,7 +78,7 @@ shown-as correct pairs = refl
 -- the array's pairs are those that it was made of
 shown-places : (pairs : List Stamped) → shownIn (placesOf pairs) ≡ pairs
 unfolding placesOf shownIn
-shown-places pairs = go pairs (storeDepth - length pairs)
+shown-places pairs = go pairs (plan-specs.Packed.storeDepth - length pairs)
   where
     go : (pairs : List Stamped) (m : ℕ) → shownIn (map placeWith pairs ++ replicate m emptyPlace) ≡ pairs
     go [] zero = refl
@@ -89,7 +86,7 @@ shown-places pairs = go pairs (storeDepth - length pairs)
     go (p ∷ pairs) m = rw (go pairs m)
 
 module _ (x : Server) (status : Status) (kept : List Kept) (known : Known) (es : x .status ≡ status) (ek : x .kept ≡ map (pairAt known) (keys kept)) (narrow : Narrow known) where
-  pub shown : (seen : Seen) (valued places : List Place) (w v : List ℕ) → seen ≡ seenOf status → valued ≡ map (valuedPlace (known .values)) kept → places ≡ placesOf (shownIn valued) → w ≡ v
+  pub shown : (seen : simulator-specs.declared.look.Seen.Seen) (valued places : List simulator-specs.declared.look.Place.Place) (w v : List ℕ) → seen ≡ seenOf status → valued ≡ map (valuedPlace (known .values)) kept → places ≡ placesOf (shownIn valued) → w ≡ v
       → record { outcome = lookedAs (shownIn places) seen; places = places; workspace = w } ≡ lookShown (shownBy 16 x) v
   unfolding shownBy
   shown seen valued places w v e d p z =

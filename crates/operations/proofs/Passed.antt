@@ -12,9 +12,8 @@ use Rattle.bits.specs.Field.{fieldOf}
 use Rattle.bits.proofs.Laws.{field-split}
 use Rattle.register.specs.Lists.{allUpTo}
 use Rattle.register.proofs.Logic.{and-both}
-use Rattle.plan.specs.Header.{Header, operationAt}
+use Rattle.plan.specs as plan-specs
 use Rattle.plan.specs.Parts as Parts
-use Rattle.plan.specs.Parts.{operationOf}
 use Rattle.plan.specs.Check.{operationsStand, operationStands, operationRises, operationWaits, endOf}
 use Rattle.plan.specs.Steps.{operation, IsOperation}
 use Rattle.operations.specs.Steps.{standsAlone}
@@ -25,15 +24,15 @@ use Rattle.plan.proofs.Waiting.{follows, follows-none, follows-more, follows-ri
 and-regroup : (a b c d : Bool) → a && (b && (c && d)) ≡ (a && (b && c)) && d
 and-regroup a b c d = simp and-assoc
 
-module _ (s : List ℕ) (h : Header) where
+module _ (s : List ℕ) (h : plan-specs.Header.Header) where
   unfoldable pub keyOf : ℕ → ℕ
-  keyOf j = fieldOf s (operationAt 16 h j) 10
+  keyOf j = fieldOf s (plan-specs.Header.operationAt 16 h j) 10
 
   unfoldable pub partyOf : ℕ → ℕ
-  partyOf j = operationOf 16 s h j .party
+  partyOf j = plan-specs.Parts.operationOf 16 s h j .party
 
   unfoldable pub doneOf : ℕ → ℕ
-  doneOf j = endOf h (operationOf 16 s h j)
+  doneOf j = endOf h (plan-specs.Parts.operationOf 16 s h j)
 
   -- the first i operations stand; the next one's least key, and its least tick by party
   pub record Passed (i next : ℕ) (free : List ℕ) : Type 0 where
@@ -45,9 +44,9 @@ module _ (s : List ℕ) (h : Header) where
   pub passed-none : Passed 0 0 (replicate 8 0)
   passed-none = record { long = refl; stand = all-none _; order = follows-none keyOf; waits = free-none partyOf doneOf 8 }
 
-  module _ (i : ℕ) (o : Operation) (is : IsOperation s (operationAt 16 h i) o) where
-    pub operation-is : operationOf 16 s h i ≡ operation o
-    unfolding operationOf
+  module _ (i : ℕ) (o : Operation) (is : IsOperation s (plan-specs.Header.operationAt 16 h i) o) where
+    pub operation-is : plan-specs.Parts.operationOf 16 s h i ≡ operation o
+    unfolding plan-specs.Parts.operationOf
     operation-is = let t = is .tick in let p = is .party in let v = is .value in cc
 
     party-is : partyOf i ≡ o .party
@@ -60,7 +59,7 @@ module _ (s : List ℕ) (h : Header) where
 
     key-is : keyOf i ≡ o .at * 8 + o .party
     unfolding keyOf
-    key-is = rw (is .tick, is .party) (field-split s (operationAt 16 h i) 7 3)
+    key-is = rw (is .tick, is .party) (field-split s (plan-specs.Header.operationAt 16 h i) 7 3)
 
     module _ (next : ℕ) (free : List ℕ) (p : Passed i next free) where
       rises : operationRises 16 s h i ≡ leb next (o .at * 8 + o .party)
@@ -69,7 +68,7 @@ module _ (s : List ℕ) (h : Header) where
 
       waiting : operationWaits 16 s h i ≡ leb (getD free (o .party) 0) (o .at)
       unfolding operationWaits ended partyOf doneOf
-      waiting = p .waits (operationOf 16 s h i .party) (operationOf 16 s h i .at) ∙ rw operation-is
+      waiting = p .waits (plan-specs.Parts.operationOf 16 s h i .party) (plan-specs.Parts.operationOf 16 s h i .at) ∙ rw operation-is
 
       pub stands-as : operationStands 16 s h i
           ≡ standsAlone h (operation o) && (leb next (o .at * 8 + o .party) && leb (getD free (o .party) 0) (o .at))

@@ -14,25 +14,17 @@ use Rattle.bits.proofs.Laws.{field-lt}
 use Rattle.register.specs.Lists.{In, count, allUpTo}
 use Rattle.register.specs.Plan.{Write}
 use Rattle.register.proofs.Logic.{and-l, and-r, test, cond-e, T-eq}
-use Rattle.register.proofs.Counting.{count-mono, count-none}
-use Rattle.register.proofs.Good.{Good}
+use Rattle.register.proofs as register-laws
 use Rattle.plan.specs.Header.{Header, headerOf, moves, parties}
 use Rattle.plan.specs.Parts.{operationOf, inPlacement, delayOf, isLink}
 use Rattle.plan.specs.Packed.{planOf}
-use Rattle.plan.specs.Playable.{Playable}
+use Rattle.plan.specs as plan-specs
 use Rattle.plan.specs.Check.{placementStands, placementsStand, delayStands, delaysStand, finalBitsZero}
-use Rattle.plan.specs.Shape.{Ranged}
-use Rattle.plan.proofs.Tests.{all-at, in-getD}
-use Rattle.register.proofs.Stamped.{stamped-rises}
-use Rattle.plan.proofs.Accept.{in-range}
-use Rattle.plan.proofs.AcceptOperations.{value-lt}
-use Rattle.plan.proofs.AcceptForgeries.{placed-below, forger-placed}
-use Rattle.plan.proofs.AcceptReads.{reads-apart}
-use Rattle.plan.proofs.AcceptWrites.{write-operation, writes-apart}
+use Rattle.plan.proofs as plan-laws
 
-module _ (w : ℕ) (s : List ℕ) (A : Playable w s) where
-  H : Ranged (headerOf w s)
-  H = in-range w s A
+module _ (w : ℕ) (s : List ℕ) (A : plan-specs.Playable.Playable w s) where
+  H : plan-specs.Shape.Ranged (headerOf w s)
+  H = plan-laws.Accept.in-range w s A
 
   -- 'at most f ones'; past the last placement nobody is faulty
   few-placed : (i : ℕ) → count (λ b. planOf w s .placed i b) (headerOf w s .n) ≤ headerOf w s .f
@@ -47,16 +39,16 @@ module _ (w : ℕ) (s : List ℕ) (A : Playable w s) where
           let l = ltb→lt (i * h .period) (h .ticks) t in
           let some : 0 < h .period = omega (arith, H .delta-lo, H .period-lo) in
           let below : i < moves h = le-div-iff-mul-le {x = suc i} {y = h .ticks + (h .period - 1)} some .1 (omega arith) in
-          let ok = all-at (moves h) (placementStands w s h) (A .placements) i below in
+          let ok = plan-laws.Tests.all-at (moves h) (placementStands w s h) (A .placements) i below in
           omega (
             arith,
             leb→le (count (inPlacement w s h i) (h .n)) (h .f) (search and-l),
-            count-mono (λ b. planOf w s .placed i b) (inPlacement w s h i) (h .n) (λ b m u. search (and-l, and-r)),
+            register-laws.Counting.count-mono (λ b. planOf w s .placed i b) (inPlacement w s h i) (h .n) (λ b m u. search (and-l, and-r)),
           )
       go (inr t) = omega (
         arith,
-        count-none (h .n),
-        count-mono (λ b. planOf w s .placed i b) (λ b. false) (h .n)
+        register-laws.Counting.count-none (h .n),
+        register-laws.Counting.count-mono (λ b. planOf w s .placed i b) (λ b. false) (h .n)
             (λ b l u. T-not (ltb (i * h .period) (h .ticks)) t (and-l (ltb (i * h .period) (h .ticks)) (ltb b (h .n) && inPlacement w s h i b) u)),
       )
 
@@ -65,9 +57,9 @@ module _ (w : ℕ) (s : List ℕ) (A : Playable w s) where
   unfolding delaysStand
   delay-test t i j tl il jl =
       let h : Header = headerOf w s in
-      all-at (parties h) (λ j. delayStands w s h t i j)
-      (all-at (parties h) (λ i. allUpTo (parties h) (λ j. delayStands w s h t i j))
-      (all-at (h .ticks) (λ t. allUpTo (parties h) (λ i. allUpTo (parties h) (λ j. delayStands w s h t i j)))
+      plan-laws.Tests.all-at (parties h) (λ j. delayStands w s h t i j)
+      (plan-laws.Tests.all-at (parties h) (λ i. allUpTo (parties h) (λ j. delayStands w s h t i j))
+      (plan-laws.Tests.all-at (h .ticks) (λ t. allUpTo (parties h) (λ i. allUpTo (parties h) (λ j. delayStands w s h t i j)))
       (and-l (delaysStand w s h) (finalBitsZero w s h) (A .delays)) t tl) i il) j jl
 
   -- 'hold 1 to δ'; outside the table a delay is 1
@@ -92,21 +84,21 @@ module _ (w : ℕ) (s : List ℕ) (A : Playable w s) where
 
   rising : (v u : Write) → In v (planOf w s .writes) → In u (planOf w s .writes) → v .pair < u .pair → v .begun + headerOf w s .delta < u .begun
   rising v u mv mu l =
-      let (i, li, ei) = in-getD (planOf w s .writes) v none mv in
-      let (j, lj, ej) = in-getD (planOf w s .writes) u none mu in
+      let (i, li, ei) = plan-laws.Tests.in-getD (planOf w s .writes) v none mv in
+      let (j, lj, ej) = plan-laws.Tests.in-getD (planOf w s .writes) u none mu in
       go i li ei j lj ej (decLe (suc i) j) (decLe (suc j) i)
     where
       go : (i : ℕ) → i < length (planOf w s .writes) → v ≡ getD (planOf w s .writes) i none
           → (j : ℕ) → j < length (planOf w s .writes) → u ≡ getD (planOf w s .writes) j none
           → Dec (i < j) → Dec (j < i) → v .begun + headerOf w s .delta < u .begun
-      go i li ei j lj ej (yes d) c = rw (ei, ej) (writes-apart w s A none i j d lj)
+      go i li ei j lj ej (yes d) c = rw (ei, ej) (plan-laws.AcceptWrites.writes-apart w s A none i j d lj)
       go i li ei j lj ej (no d) (yes c) =
-          let W = write-operation w s A none i li in
-          let X = write-operation w s A none j lj in
+          let W = plan-laws.AcceptWrites.write-operation w s A none i li in
+          let X = plan-laws.AcceptWrites.write-operation w s A none j lj in
           let op = operationOf w s (headerOf w s) in
           absurd (omega (
             arith,
-            stamped-rises w (op (X .index) .value) (op (W .index) .value) (1 + j) (1 + i) (value-lt w s A (X .index)) (omega arith),
+            register-laws.Stamped.stamped-rises w (op (X .index) .value) (op (W .index) .value) (1 + j) (1 + i) (plan-laws.AcceptOperations.value-lt w s A (X .index)) (omega arith),
             W .pair-same,
             X .pair-same,
             ap (λ (x : Write). x .pair) ei,
@@ -119,12 +111,12 @@ module _ (w : ℕ) (s : List ℕ) (A : Playable w s) where
   initial-least : (u : Write) → In u (planOf w s .writes) → planOf w s .initial < u .pair
   unfolding planOf headerOf
   initial-least u m =
-      let (j, l, e) = in-getD (planOf w s .writes) u none m in
-      let W = write-operation w s A none j l in
+      let (j, l, e) = plan-laws.Tests.in-getD (planOf w s .writes) u none m in
+      let W = plan-laws.AcceptWrites.write-operation w s A none j l in
       rw (e, W .pair-same)
-      (stamped-rises w (headerOf w s .initial) (operationOf w s (headerOf w s) (W .index) .value) 0 (1 + j) (field-lt s 28 w) (omega arith))
+      (register-laws.Stamped.stamped-rises w (headerOf w s .initial) (operationOf w s (headerOf w s) (W .index) .value) 0 (1 + j) (field-lt s 28 w) (omega arith))
 
-  pub good : Good (planOf w s)
+  pub good : register-laws.Good.Good (planOf w s)
   unfolding planOf H
   good = record {
     delta-pos = H .delta-lo;
@@ -133,9 +125,9 @@ module _ (w : ℕ) (s : List ℕ) (A : Playable w s) where
     few = few-placed;
     delay-lo = λ t i j. delay-range t i j .0;
     delay-hi = λ t i j. delay-range t i j .1;
-    forger = forger-placed w s A;
-    forger-below = λ g m. placed-below w s (g .at / headerOf w s .period) (g .from) (forger-placed w s A g m);
+    forger = plan-laws.AcceptForgeries.forger-placed w s A;
+    forger-below = λ g m. plan-laws.AcceptForgeries.placed-below w s (g .at / headerOf w s .period) (g .from) (plan-laws.AcceptForgeries.forger-placed w s A g m);
     rising = rising;
     initial-least = initial-least;
-    apart = reads-apart w s A;
+    apart = plan-laws.AcceptReads.reads-apart w s A;
   }

@@ -14,15 +14,12 @@ use Rattle.register.specs.Lists.{allUpTo, count, one-if}
 use Rattle.plan.specs.Header.{Header, headerOf, parties}
 use Rattle.plan.specs.Parts.{operationOf, operationsOf}
 use Rattle.plan.specs.Check.{operationStands, operationsStand, operationRises, operationWaits, endOf, checkOf, result}
-use Rattle.plan.specs.Limits.{mostBytes, mostReads}
-use Rattle.plan.specs.Packed.{planOf}
-use Rattle.plan.specs.Shape.{Ranged}
+use Rattle.plan.specs as plan-specs
 use Rattle.plan.proofs.Laws.{all-at, all-from, table-few}
 use Rattle.register.proofs.Logic.{T-eq, and-both}
 use Rattle.register.proofs.Counting.{count-not}
 use Rattle.plan.proofs.Accept.{playable, reads-counted}
-use Rattle.plan.proofs.Sizes.{playable-sizes}
-use Rattle.plan.proofs.Reading.{length-reads}
+use Rattle.plan.proofs as plan-laws
 use Rattle.plan.proofs.Waiting.{ended}
 
 -- Operations of one party, each of which begins after the last one's end.
@@ -64,7 +61,7 @@ unfolding count
 five-parties party zero f = refl
 five-parties party (suc n) f = omega (arith, one-of-five (party n) (f n (omega arith)), five-parties party n (λ j l. f j (omega arith)))
 
-module _ (s : List ℕ) (h : Header) (r : Ranged h) (stand : operationsStand 16 s h ≡ true) where
+module _ (s : List ℕ) (h : Header) (r : plan-specs.Shape.Ranged h) (stand : operationsStand 16 s h ≡ true) where
   party : ℕ → ℕ
   party j = operationOf 16 s h j .party
 
@@ -119,7 +116,7 @@ module _ (s : List ℕ) (h : Header) (r : Ranged h) (stand : operationsStand 16 
       omega (arith, all, writes-few, one 1 (omega arith), one 2 (omega arith), one 3 (omega arith), one 4 (omega arith))
 
   -- four times 42 reads
-  reads-of-few : count (λ j. not (eqb (party j) 0)) (h .operations) ≤ mostReads
+  reads-of-few : count (λ j. not (eqb (party j) 0)) (h .operations) ≤ plan-specs.Limits.mostReads
   reads-of-few =
       let all = five-parties party (h .operations) (λ j l. omega (arith, each j l .0)) in
       let one : (p : ℕ) → 1 ≤ p → count (λ j. eqb (party j) p) (h .operations) ≤ 42 = reads-few in
@@ -127,22 +124,22 @@ module _ (s : List ℕ) (h : Header) (r : Ranged h) (stand : operationsStand 16 
       omega (arith, all, rest, one 1 (omega arith), one 2 (omega arith), one 3 (omega arith), one 4 (omega arith))
 
 -- 'An accepted plan has at most 34,362 bytes.'
-pub longest : (s : List ℕ) (m : ℕ) → checkOf 16 s ≡ result m → length s ≤ mostBytes
+pub longest : (s : List ℕ) (m : ℕ) → checkOf 16 s ≡ result m → length s ≤ plan-specs.Limits.mostBytes
 longest s m e =
     let h = headerOf 16 s in
     let A = playable 16 s m e in
-    let z = playable-sizes s A in
+    let z = plan-laws.Sizes.playable-sizes s A in
     let r = z .ranged in
     let o = operations-few s h r (T-eq (operationsStand 16 s h) (A .operations)) in
     let t = table-few (h .ticks) (parties h) (omega arith) (omega arith) in
     omega arith
 
 -- and at most 168 reads
-pub most-reads : (s : List ℕ) (m : ℕ) → checkOf 16 s ≡ result m → m ≤ mostReads
-unfolding planOf operationsOf party
+pub most-reads : (s : List ℕ) (m : ℕ) → checkOf 16 s ≡ result m → m ≤ plan-specs.Limits.mostReads
+unfolding plan-specs.Packed.planOf operationsOf party
 most-reads s m e =
     let h = headerOf 16 s in
     let A = playable 16 s m e in
     let stand = T-eq (operationsStand 16 s h) (A .operations) in
-    let few = reads-of-few s h (playable-sizes s A .ranged) stand in
-    rw (reads-counted 16 s m e, length-reads (h .operations) (operationOf 16 s h)) few
+    let few = reads-of-few s h (plan-laws.Sizes.playable-sizes s A .ranged) stand in
+    rw (reads-counted 16 s m e, plan-laws.Reading.length-reads (h .operations) (operationOf 16 s h)) few

@@ -20,29 +20,16 @@ use Rattle.calendar.specs.Layout.{places, rowOf}
 use Rattle.calendar.specs.View.{SamePast, Posted}
 use Rattle.requests.specs.Requests.{SameBehind, SameOutside}
 use Rattle.requests.proofs.Requesting.{behind-trans, past-behind, outside-sender, outside-spanned}
-use Rattle.states.specs.Requests.{Requested}
-use Rattle.script.specs.Inputs.{LatestWrite}
+use Rattle.states.specs as states-specs
+use Rattle.script.specs as script-specs
 use Rattle.calendar.proofs.Spans.{posted-spanned}
-use Rattle.cluster.specs.declared.Cluster.{Cluster}
-use Rattle.cluster.specs.declared.Feed.{Feed}
-use Rattle.cluster.specs.declared.Reader.{Reader}
+use Rattle.cluster.specs as cluster-specs
 use Rattle.serving.specs.Bits.{sets}
-use Rattle.cluster.specs.Inputs.{pairAt, Tickable, Fits}
-use Rattle.states.specs.State.{State}
 use Rattle.cluster.specs.Tick.{Ticked, noReader, endsOf, feedOf}
-use Rattle.cluster.specs.Settled.{CalmlyTicked}
-use Rattle.states.specs.Way.{forgedAs}
 use Rattle.serving.proofs.BitLaws.{unmarked}
-use Rattle.states.proofs.ReaderLaws.{Begins, Forges}
-use Rattle.states.proofs.RowLaws.{end-of}
-use Rattle.states.proofs.StateLaws.{calm, noted-end, end-open, end-idle, next-state}
-use Rattle.script.specs.declared.Script.{Script}
+use Rattle.states.proofs as states-laws
 use Rattle.script.specs.Forged.{entriesEnd, entryAt, Entry, Starts}
-use Rattle.script.specs.Script.{messageOf, messageDelay, messageNumber}
-use Rattle.script.proofs.Messages.{sender-below}
-use Rattle.script.proofs.Naming.{entryAs, messages-named}
-use Rattle.script.proofs.Windows.{arrives-after, start-few, sent-earlier, sent-later, starts-rise}
-use Rattle.script.proofs.Fitting.{entries-kept, starts-kept, script-fits, script-sized}
+use Rattle.script.proofs as script-laws
 use Rattle.answers.proofs.Answered.{answered}
 use Rattle.forging.specs.Forging.{goesTo, forgedEntry, SentIn, forges}
 use Rattle.reading.specs.Reading.{Until, readAt, chosenBytes, placed, begunBy, freshReader}
@@ -52,31 +39,31 @@ use Rattle.reading.proofs.Cursors.{placed-same, begun-size, begun-other, begun-
 use Rattle.player.proofs.Tables.{knows, servers-same, delta-same, few-servers, listed, in-table, reader-range, not-before}
 use Rattle.player.proofs.Feeding.{range, ticks-same, period-same, few-ticks}
 
-module _ (s : List ℕ) (r : Script) (R : Decoded s r) where
+module _ (s : List ℕ) (r : script-specs.declared.Script.Script) (R : Decoded s r) where
   module _ (work : List ℕ) (K : SameBehind (R .after) work) (room : entriesEnd ≤ length work) (t : ℕ) (below : t < r .shape .ticks) (number : ℕ) (ends : List ℕ)
-      (f : Feed) (F : FedBy s work r number ends t f) (c : Cluster) (S : State (planOf 16 s) (pairAt (r .writes .known)) (r .writes .known .m) t c work)
-      (Q : Requested (planOf 16 s) t work) (latest : LatestWrite (r .writes .begun) (r .writes .known .m) t number) (same-ends : ends ≡ endsOf (c .readers)) where
+      (f : cluster-specs.declared.Feed.Feed) (F : FedBy s work r number ends t f) (c : cluster-specs.declared.Cluster.Cluster) (S : states-specs.State.State (planOf 16 s) (cluster-specs.Inputs.pairAt (r .writes .known)) (r .writes .known .m) t c work)
+      (Q : states-specs.Requests.Requested (planOf 16 s) t work) (latest : script-specs.Inputs.LatestWrite (r .writes .begun) (r .writes .known .m) t number) (same-ends : ends ≡ endsOf (c .readers)) where
     under : t < headerOf 16 s .ticks
     under = omega (arith, ticks-same s r R)
 
     -- what it is fed, field by field
-    abbrev feed : Feed
+    abbrev feed : cluster-specs.declared.Feed.Feed
     feed = record { t = t; rules = r .rules; known = r .writes .known; links = r .links; arrivals = f .arrivals; movement = f .movement }
 
-    fits : Fits (planOf 16 s) t s (r .rules) (r .writes .known) (r .links) (f .arrivals) (f .movement)
+    fits : cluster-specs.Inputs.Fits (planOf 16 s) t s (r .rules) (r .writes .known) (r .links) (f .arrivals) (f .movement)
     fits =
-        script-fits s (R .before) (R .after) (R .playable) r (R .scripted) t under work ends number (f .arrivals) (f .movement)
+        script-laws.Fitting.script-fits s (R .before) (R .after) (R .playable) r (R .scripted) t under work ends number (f .arrivals) (f .movement)
         (rw (R .scripted .rules .delta) at (F .comes)) (rw (period-same s r R) at (F .moves)) Q latest
-        (λ q o. rw same-ends (end-of (c .readers) (q .reader - 1) ∙ S .readers .end q o))
+        (λ q o. rw same-ends (states-laws.RowLaws.end-of (c .readers) (q .reader - 1) ∙ S .readers .end q o))
 
-    pub sized : Tickable s work (f .t) (f .rules) (f .known) (f .links)
+    pub sized : cluster-specs.Inputs.Tickable s work (f .t) (f .rules) (f .known) (f .links)
     sized =
-        subst (λ (x : Feed). Tickable s work (x .t) (x .rules) (x .known) (x .links)) (sym (F .same))
-        (script-sized s (R .before) (R .after) (R .playable) r (R .scripted) work t under room (S .calendar .spans))
+        subst (λ (x : cluster-specs.declared.Feed.Feed). cluster-specs.Inputs.Tickable s work (x .t) (x .rules) (x .known) (x .links)) (sym (F .same))
+        (script-laws.Fitting.script-sized s (R .before) (R .after) (R .playable) r (R .scripted) work t under room (S .calendar .spans))
 
-    module _ (d : Cluster) (work₁ : List ℕ) (fed : CalmlyTicked (feedOf s work f) c d work₁) where
+    module _ (d : cluster-specs.declared.Cluster.Cluster) (work₁ : List ℕ) (fed : cluster-specs.Settled.CalmlyTicked (feedOf s work f) c d work₁) where
       ticked : Ticked (feedOf s work feed) c d work₁ (r .rules .n)
-      ticked = subst (λ (x : Feed). CalmlyTicked (feedOf s work x) c d work₁) (F .same) fed .ticked (calm (planOf 16 s) (feedOf s work feed) fits c S)
+      ticked = subst (λ (x : cluster-specs.declared.Feed.Feed). cluster-specs.Settled.CalmlyTicked (feedOf s work x) c d work₁) (F .same) fed .ticked (states-laws.StateLaws.calm (planOf 16 s) (feedOf s work feed) fits c S)
 
       pub kept : SamePast work work₁
       kept = ticked .rest
@@ -100,8 +87,8 @@ module _ (s : List ℕ) (r : Script) (R : Decoded s r) where
           → chosenBytes (d .readers) (r .reads) (r .writes .known) (r .rules .reply) i ≡ answerIn s i
       answer-same i l e =
           let q = readAt (r .reads) i in
-          let a = answered (planOf 16 s) (pairAt (r .writes .known)) (r .writes .known .m) (good 16 s (R .playable)) (knows s r R) q (sets (getD (d .readers) (getD (r .reads .reader) i 0 - 1) noReader .named))
-          (noted-end (planOf 16 s) (good 16 s (R .playable)) (feedOf s work feed) fits (knows s r R) c d work₁ ticked S q ((listed s r R) i l) e) in
+          let a = answered (planOf 16 s) (cluster-specs.Inputs.pairAt (r .writes .known)) (r .writes .known .m) (good 16 s (R .playable)) (knows s r R) q (sets (getD (d .readers) (getD (r .reads .reader) i 0 - 1) noReader .named))
+          (states-laws.StateLaws.noted-end (planOf 16 s) (good 16 s (R .playable)) (feedOf s work feed) fits (knows s r R) c d work₁ ticked S q ((listed s r R) i l) e) in
           rw (R .scripted .reads .each i l, reply-same, a)
 
       pub answers-are : (k k′ : ℕ) (answers : List ℕ) → Until (r .reads .begun) (r .reads .m) 0 (t - 2 * r .rules .delta) k → Until (r .reads .begun) (r .reads .m) 0 (t + 1 - 2 * r .rules .delta) k′ → k ≤ k′
@@ -112,7 +99,7 @@ module _ (s : List ℕ) (r : Script) (R : Decoded s r) where
       -- ---- the reads that begin
 
       module _ (between : List ℕ) (O : SameOutside work₁ between) (k k′ : ℕ) (U : Until (r .reads .begun) (r .reads .m) 0 t k) (W : Until (r .reads .begun) (r .reads .m) 0 (t + 1) k′) (h : k ≤ k′) where
-        abbrev after : List Reader
+        abbrev after : List cluster-specs.declared.Reader.Reader
         after = begunBy (r .reads .reader) (t + 2 * r .rules .delta) k (k′ - k) (d .readers)
 
         begins-now : (i : ℕ) → k ≤ i → i < k + (k′ - k) → getD (r .reads .begun) i 0 ≡ t
@@ -134,11 +121,11 @@ module _ (s : List ℕ) (r : Script) (R : Decoded s r) where
             begun-there (r .reads .reader) (t + 2 * r .rules .delta) k (d .readers) (q .reader - 1) (k′ - k) i (w .0) (w .1) (ap (λ (y : ℕ). y - 1) x)
             (omega (arith, size, x, (reader-range s r R) i l .1))
 
-        begins : Begins (planOf 16 s) (r .writes .known .m) t (d .readers) after
+        begins : states-laws.ReaderLaws.Begins (planOf 16 s) (r .writes .known .m) t (d .readers) after
         begins = record {
           size = begun-size (r .reads .reader) (t + 2 * r .rules .delta) k (d .readers) (k′ - k) ∙ size;
-          end = λ q iq e. ap (λ (x : Reader). x .end) (set-up q iq e) ∙ omega (arith, (delta-same s r R));
-          named = λ q iq e j i l. ap (λ (x : Reader). sets (x .named) j i) (set-up q iq e) ∙ unmarked places j i;
+          end = λ q iq e. ap (λ (x : cluster-specs.declared.Reader.Reader). x .end) (set-up q iq e) ∙ omega (arith, (delta-same s r R));
+          named = λ q iq e j i l. ap (λ (x : cluster-specs.declared.Reader.Reader). sets (x .named) j i) (set-up q iq e) ∙ unmarked places j i;
           rest = λ x a b none. begun-other (r .reads .reader) (t + 2 * r .rules .delta) k (d .readers) (x - 1) (k′ - k)
               (λ i lo hi z. none (readAt (r .reads) i) ((listed s r R) i (omega (arith, W .few))) (omega (arith, (reader-range s r R) i (omega (arith, W .few)) .0)) (begins-now i lo hi));
         }
@@ -151,11 +138,11 @@ module _ (s : List ℕ) (r : Script) (R : Decoded s r) where
         again : SameBehind (R .after) between
         again = behind-trans (R .after) work between K (behind-trans work work₁ between (past-behind work work₁ kept) (O .rest))
 
-        E : (e : ℕ) → e < headerOf 16 s .forgeries → Entry between e (messageOf s e) (messageDelay s e) (messageNumber s (r .writes .known .values) (r .writes .known .m) e)
-        E = entries-kept s (R .after) between (r .writes .known .values) (r .writes .known .m) again (R .scripted .forged .filled .entry)
+        E : (e : ℕ) → e < headerOf 16 s .forgeries → Entry between e (script-specs.Script.messageOf s e) (script-specs.Script.messageDelay s e) (script-specs.Script.messageNumber s (r .writes .known .values) (r .writes .known .m) e)
+        E = script-laws.Fitting.entries-kept s (R .after) between (r .writes .known .values) (r .writes .known .m) again (R .scripted .forged .filled .entry)
 
         Z : Starts between (headerOf 16 s .forgeries) (r .starts)
-        Z = starts-kept s (R .after) between (r .writes .known .values) (r .writes .known .m) again (r .starts) (R .scripted .forged .started)
+        Z = script-laws.Fitting.starts-kept s (R .after) between (r .writes .known .values) (r .writes .known .m) again (r .starts) (R .scripted .forged .started)
 
         few : t < 128
         few = few-ticks s r R t below
@@ -167,7 +154,7 @@ module _ (s : List ℕ) (r : Script) (R : Decoded s r) where
         to = getD (r .starts) (t + 1) 0
 
         to-few : getD (r .starts) (t + 1) 0 ≤ headerOf 16 s .forgeries
-        to-few = start-few s (R .playable) between (r .writes .known .values) (r .writes .known .m) E (r .starts) Z (t + 1) (omega (arith, few))
+        to-few = script-laws.Windows.start-few s (R .playable) between (r .writes .known .values) (r .writes .known .m) E (r .starts) Z (t + 1) (omega (arith, few))
 
         narrow : r .rules .n ≤ 16
         narrow = omega (arith, servers-same s r R, few-servers s r R)
@@ -178,9 +165,9 @@ module _ (s : List ℕ) (r : Script) (R : Decoded s r) where
           few,
           omega (arith, kept .size, O .rest .size, room),
           record {
-            ordered = starts-rise s (R .playable) between (r .writes .known .values) (r .writes .known .m) E (r .starts) Z t (t + 1) (omega arith) (omega (arith, few));
+            ordered = script-laws.Windows.starts-rise s (R .playable) between (r .writes .known .values) (r .writes .known .m) E (r .starts) Z t (t + 1) (omega arith) (omega (arith, few));
             few = omega (arith, to-few, range s r R .forgeries-hi);
-            senders = λ e l. rw (E e (omega (arith, to-few)) .sender) (omega (arith, sender-below s (R .playable) e (omega (arith, to-few)), range s r R .n-hi));
+            senders = λ e l. rw (E e (omega (arith, to-few)) .sender) (omega (arith, script-laws.Messages.sender-below s (R .playable) e (omega (arith, to-few)), range s r R .n-hi));
           },
         )
 
@@ -191,8 +178,8 @@ module _ (s : List ℕ) (r : Script) (R : Decoded s r) where
               l,
               omega (
                 arith,
-                sent-later s (R .playable) between (r .writes .known .values) (r .writes .known .m) E (r .starts) Z t (omega (arith, few)) e a l,
-                sent-earlier s (R .playable) between (r .writes .known .values) (r .writes .known .m) E (r .starts) Z (t + 1) (omega (arith, few)) e b,
+                script-laws.Windows.sent-later s (R .playable) between (r .writes .known .values) (r .writes .known .m) E (r .starts) Z t (omega (arith, few)) e a l,
+                script-laws.Windows.sent-earlier s (R .playable) between (r .writes .known .values) (r .writes .known .m) E (r .starts) Z (t + 1) (omega (arith, few)) e b,
               ),
             )
 
@@ -200,22 +187,22 @@ module _ (s : List ℕ) (r : Script) (R : Decoded s r) where
         in-range-now e l z = (
           elim (decLe from e) [
             | yes a ↦ a
-            | no a ↦ absurd (omega (arith, sent-earlier s (R .playable) between (r .writes .known .values) (r .writes .known .m) E (r .starts) Z t (omega (arith, few)) e (omega arith)))
+            | no a ↦ absurd (omega (arith, script-laws.Windows.sent-earlier s (R .playable) between (r .writes .known .values) (r .writes .known .m) E (r .starts) Z t (omega (arith, few)) e (omega arith)))
           ],
           elim (decLe to e) [
-            | yes a ↦ absurd (omega (arith, sent-later s (R .playable) between (r .writes .known .values) (r .writes .known .m) E (r .starts) Z (t + 1) (omega (arith, few)) e a l))
+            | yes a ↦ absurd (omega (arith, script-laws.Windows.sent-later s (R .playable) between (r .writes .known .values) (r .writes .known .m) E (r .starts) Z (t + 1) (omega (arith, few)) e a l))
             | no a ↦ omega arith
           ],
         )
 
         arrives : (e : ℕ) → e < nf → entryAt between e 0 ≡ t → (t < entryAt between e 1) × (entryAt between e 1 ≤ t + 15)
         arrives e l z =
-            let a = arrives-after s (R .playable) between (r .writes .known .values) (r .writes .known .m) E (r .starts) Z e l in
+            let a = script-laws.Windows.arrives-after s (R .playable) between (r .writes .known .values) (r .writes .known .m) E (r .starts) Z e l in
             (omega (arith, a .0), omega (arith, a .1, range s r R .delta-hi))
 
         from-below : (e : ℕ) → e < nf → entryAt between e 3 < planOf 16 s .n
         unfolding planOf
-        from-below e l = rw (E e l .sender) (sender-below s (R .playable) e l)
+        from-below e l = rw (E e l .sender) (script-laws.Messages.sender-below s (R .playable) e l)
 
         abbrev posts : ℕ → ℕ → ℕ → Bool
         posts = forges (endsOf after) (r .rules .n) between from to
@@ -223,13 +210,13 @@ module _ (s : List ℕ) (r : Script) (R : Decoded s r) where
         -- what is posted in a row, and what the plan's list says of a receiver, one by the other
         module _ (x u j i q : ℕ) (known-pair : j < r .writes .known .m) where
           abbrev lists : Bool
-          lists = any (λ (y : Forgery). eqb (y .at) t && forgedAs (planOf 16 s) u q (pairAt (r .writes .known) j) i y) (planOf 16 s .forged)
+          lists = any (λ (y : Forgery). eqb (y .at) t && states-specs.Way.forgedAs (planOf 16 s) u q (cluster-specs.Inputs.pairAt (r .writes .known) j) i y) (planOf 16 s .forged)
 
           abbrev entries : ℕ → Bool
-          entries = entryAs s (r .writes .known) (R .scripted .writes .few) (R .scripted .writes .small) between E t u q j i
+          entries = script-laws.Naming.entryAs s (r .writes .known) (R .scripted .writes .few) (R .scripted .writes .small) between E t u q j i
 
           listed-is : lists ≡ anyUpTo nf entries
-          listed-is = messages-named s (r .writes .known) (R .scripted .writes .few) (R .scripted .writes .small) between E t u q j i known-pair
+          listed-is = script-laws.Naming.messages-named s (r .writes .known) (R .scripted .writes .few) (R .scripted .writes .small) between E t u q j i known-pair
 
           posts-listed : ((e : ℕ) → e < nf → entryAt between e 0 ≡ t → T (goesTo (endsOf after) (r .rules .n) (entryAt between e 2) (entryAt between e 1) x) → (entryAt between e 2 ≡ q) × (entryAt between e 1 ≡ u))
               → T (posts x j i) → (i < planOf 16 s .n) × T lists
@@ -267,7 +254,7 @@ module _ (s : List ℕ) (r : Script) (R : Decoded s r) where
               (and-i (goesTo (endsOf after) (r .rules .n) (entryAt between e 2) (entryAt between e 1) x) _ (rw (eq, eu) goes)
               (and-i (eqb i (entryAt between e 3)) (eqb j (entryAt between e 4)) ei ej)))
 
-        pub forges-now : Forges (planOf 16 s) (r .writes .known .m) t (pairAt (r .writes .known)) posts
+        pub forges-now : states-laws.ReaderLaws.Forges (planOf 16 s) (r .writes .known .m) t (cluster-specs.Inputs.pairAt (r .writes .known)) posts
         forges-now = record {
           votes = λ u b j i a z lb lj. T-iff _ _
               (λ y. let (li, ls) = posts-listed (rowOf u b) u j i b lj
@@ -276,7 +263,7 @@ module _ (s : List ℕ) (r : Script) (R : Decoded s r) where
               (λ y. listed-posts (rowOf u b) u j i b lj (row-server (endsOf after) (r .rules .n) u b (omega (arith, (servers-same s r R)))) (and-r (ltb i (planOf 16 s .n)) _ y));
           replies = λ q o u j i a z lj.
               let y1 = (knows s r R) .readers q (o .listed) in
-              let end = end-open (planOf 16 s) (good 16 s (R .playable)) (feedOf s work feed) fits (knows s r R) c d work₁ ticked S after begins q o in
+              let end = states-laws.StateLaws.end-open (planOf 16 s) (good 16 s (R .playable)) (feedOf s work feed) fits (knows s r R) c d work₁ ticked S after begins q o in
               T-iff _ _
               (λ y.
               let (li, ls) = posts-listed (rowOf u (15 + q .reader)) u j i (planOf 16 s .n + q .reader) lj
@@ -289,10 +276,10 @@ module _ (s : List ℕ) (r : Script) (R : Decoded s r) where
               let w = and-r (ltb i (planOf 16 s .n)) _ y in
               let in-time = leb→le u (readEnd (planOf 16 s) q) (and-l (leb u (readEnd (planOf 16 s) q)) _ w) in
               listed-posts (rowOf u (15 + q .reader)) u j i (planOf 16 s .n + q .reader) lj
-              (rw (← (servers-same s r R)) (row-reader (endsOf after) (r .rules .n) u (q .reader) (y1 .0) (y1 .1) (omega (arith, in-time, end, end-of after (q .reader - 1))))) (and-r (leb u (readEnd (planOf 16 s) q)) _ w));
+              (rw (← (servers-same s r R)) (row-reader (endsOf after) (r .rules .n) u (q .reader) (y1 .0) (y1 .1) (omega (arith, in-time, end, states-laws.RowLaws.end-of after (q .reader - 1))))) (and-r (leb u (readEnd (planOf 16 s) q)) _ w));
           none = λ q iq idle u j i a z lj.
               let y1 = (knows s r R) .readers q iq in
-              let end = end-idle (planOf 16 s) (good 16 s (R .playable)) (feedOf s work feed) fits (knows s r R) c d work₁ ticked S after begins q iq idle in
+              let end = states-laws.StateLaws.end-idle (planOf 16 s) (good 16 s (R .playable)) (feedOf s work feed) fits (knows s r R) c d work₁ ticked S after begins q iq idle in
               T-iff _ _ (λ y. absurd (omega (arith, reader-late u j i (q .reader) a z (y1 .0) (y1 .1) y, end))) (λ y. absurd y);
         }
           where
@@ -304,13 +291,13 @@ module _ (s : List ℕ) (r : Script) (R : Decoded s r) where
                 let at = and-l (goesTo (endsOf after) (r .rules .n) (entryAt between e 2) (entryAt between e 1) (rowOf u (15 + y))) _ (and-r (leb from e) _ p) in
                 let (le, sent) = sent-now e lf l in
                 let seen = reader-row (endsOf after) (r .rules .n) t (entryAt between e 2) (entryAt between e 1) u narrow (arrives e le sent .0) (arrives e le sent .1) a z y lo hi at .2 in
-                omega (arith, seen, end-of after (y - 1))
+                omega (arith, seen, states-laws.RowLaws.end-of after (y - 1))
 
         -- ---- all together
 
-        pub state-next : (servers : Cluster) (work₂ : List ℕ) → servers .servers ≡ d .servers → servers .readers ≡ after → Posted between work₂ posts
-            → State (planOf 16 s) (pairAt (r .writes .known)) (r .writes .known .m) (suc t) servers work₂
+        pub state-next : (servers : cluster-specs.declared.Cluster.Cluster) (work₂ : List ℕ) → servers .servers ≡ d .servers → servers .readers ≡ after → Posted between work₂ posts
+            → states-specs.State.State (planOf 16 s) (cluster-specs.Inputs.pairAt (r .writes .known)) (r .writes .known .m) (suc t) servers work₂
         state-next n work₂ es er N =
-            next-state (planOf 16 s) (good 16 s (R .playable)) (feedOf s work feed) fits (knows s r R) c d work₁ ticked S n work₂ posts es (rw er begins)
+            states-laws.StateLaws.next-state (planOf 16 s) (good 16 s (R .playable)) (feedOf s work feed) fits (knows s r R) c d work₁ ticked S n work₂ posts es (rw er begins)
             (λ x j i l m. N .cells x j i l m ∙ rw (outside-sender work₁ between O x j i l m))
             (posted-spanned between work₂ posts places (omega arith) N (λ x j k l h q. h) (outside-spanned work₁ between O (ticked .spans))) forges-now

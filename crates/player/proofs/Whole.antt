@@ -8,32 +8,24 @@ use native.Mathlib.Numerals.{add-one}
 use native.Mathlib.Omega.{arith}
 use native.Mathlib.Decide.{decLe}
 use lib.ListN.{length, getD, take, drop}
-use Rattle.plan.specs.Header.{Header, headerOf}
+use Rattle.plan.specs as plan-specs
 use Rattle.plan.specs.Packed.{planOf}
-use Rattle.plan.specs.Playable.{Playable}
-use Rattle.plan.proofs.AcceptReads.{read-stands}
-use Rattle.plan.proofs.Tests.{getD-in}
+use Rattle.plan.proofs as plan-laws
 use Rattle.requests.specs.Requests.{SameBehind}
 use Rattle.requests.proofs.Requesting.{behind-trans}
-use Rattle.states.proofs.RequestLaws.{requested-none}
+use Rattle.states.proofs as states-laws
 use Rattle.cluster.specs.Inputs.{pairAt}
 use Rattle.serving.specs.Stored.{absent}
-use Rattle.states.proofs.StateLaws.{first-state}
-use Rattle.script.specs.declared.Script.{Script}
-use Rattle.script.specs.Operations.{noRead}
-use Rattle.script.specs.Script.{Scripted}
+use Rattle.script.specs as script-specs
 use Rattle.script.proofs.Fitting.{script-knows}
-use Rattle.answers.specs.Answers.{answersFor}
-use Rattle.answers.specs.Workspace.{workspaceSize, zeroed}
+use Rattle.answers.specs as answers-specs
 use Rattle.reading.specs.Reading.{placed}
-use Rattle.player.specs.declared.Playing.{Playing}
+use Rattle.player.specs as player-specs
 use Rattle.player.specs.Run.{Decoded, Ready, Played, Fresh, answerIn, Went}
-use Rattle.player.specs.Player.{AllAnswered, Seen}
 use Rattle.reading.proofs.Cursors.{until-none, placed-none, placed-on}
-use Rattle.player.proofs.Feeding.{range, ticks-same}
-use Rattle.player.proofs.Buffers.{answers-none, answers-more, answers-done, zeroed-same}
+use Rattle.player.proofs as player-laws
 
-pub ready-kept : (s a b : List ℕ) (r : Script) → SameBehind a b → Ready s a r → Ready s b r
+pub ready-kept : (s a b : List ℕ) (r : script-specs.declared.Script.Script) → SameBehind a b → Ready s a r → Ready s b r
 ready-kept s a b r K R = record {
   decoded = R .decoded;
   room = omega (arith, K .size, R .room);
@@ -42,20 +34,20 @@ ready-kept s a b r K R = record {
 
 -- ---- the start, and one tick more
 
-module _ (s : List ℕ) (r : Script) where
-  pub played-none : (before work : List ℕ) (p : Playing) → Decoded s r → Fresh before work r p → Played s work r p
+module _ (s : List ℕ) (r : script-specs.declared.Script.Script) where
+  pub played-none : (before work : List ℕ) (p : player-specs.declared.Playing.Playing) → Decoded s r → Fresh before work r p → Played s work r p
   played-none before work p D E =
       rw (E .first) (record {
         size = E .started .size;
-        state = first-state (planOf 16 s) (pairAt (r .writes .known)) (r .writes .known .m)
+        state = states-laws.StateLaws.first-state (planOf 16 s) (pairAt (r .writes .known)) (r .writes .known .m)
             (script-knows s (D .before) (D .after) (D .playable) r (D .scripted)) (p .cluster) work (E .started) (E .empty);
-        requested = requested-none (planOf 16 s) work (E .unasked);
+        requested = states-laws.RequestLaws.requested-none (planOf 16 s) work (E .unasked);
         written = record { below = omega (arith, D .scripted .writes .count); before = λ h. absurd (omega arith); last = λ j a b. omega arith };
         begun = until-none (r .reads .begun) (r .reads .m) 0 refl;
         answered = until-none (r .reads .begun) (r .reads .m) (0 - 2 * r .rules .delta) (omega arith);
       })
 
-  pub went-none : (work answers : List ℕ) (p : Playing) → Played s work r p → Went s work work answers answers r p p
+  pub went-none : (work answers : List ℕ) (p : player-specs.declared.Playing.Playing) → Played s work r p → Went s work work answers answers r p p
   went-none work answers p L = record {
     kept = record { size = refl; behind = λ k l. refl };
     played = L;
@@ -63,7 +55,7 @@ module _ (s : List ℕ) (r : Script) where
     answers = placed-none (answerIn s) (p .answered) answers;
   }
 
-  pub went-on : (work now work₁ answers then answers₁ : List ℕ) (p q z : Playing) → Went s work now answers then r p q → Went s now work₁ then answers₁ r q z
+  pub went-on : (work now work₁ answers then answers₁ : List ℕ) (p q z : player-specs.declared.Playing.Playing) → Went s work now answers then r p q → Went s now work₁ then answers₁ r q z
       → Went s work work₁ answers answers₁ r p z
   went-on work now work₁ answers then answers₁ p q z A W =
       let from : p .answered + (q .answered - p .answered) ≡ q .answered = omega (arith, A .ordered) in
@@ -76,15 +68,15 @@ module _ (s : List ℕ) (r : Script) where
       }
 
 -- the answers of the first reads, placed one by one
-all-placed : (s b : List ℕ) (i : ℕ) → i ≤ length (planOf 16 s .reads) → placed (answerIn s) 0 i b ≡ answersFor 16 (planOf 16 s) (take i (planOf 16 s .reads)) ++ drop (5 * i) b
+all-placed : (s b : List ℕ) (i : ℕ) → i ≤ length (planOf 16 s .reads) → placed (answerIn s) 0 i b ≡ answers-specs.Answers.answersFor 16 (planOf 16 s) (take i (planOf 16 s .reads)) ++ drop (5 * i) b
 unfolding placed
-all-placed s b zero h = answers-none (planOf 16 s) b
+all-placed s b zero h = player-laws.Buffers.answers-none (planOf 16 s) b
 all-placed s b (suc i) h =
     let z : 0 + i ≡ i = omega arith in
-    rw (z, ← add-one i) (answers-more (planOf 16 s) (planOf 16 s .reads) b (placed (answerIn s) 0 i b) i noRead (omega arith) (all-placed s b i (omega arith)))
+    rw (z, ← add-one i) (player-laws.Buffers.answers-more (planOf 16 s) (planOf 16 s .reads) b (placed (answerIn s) 0 i b) i script-specs.Operations.noRead (omega arith) (all-placed s b i (omega arith)))
 
-module _ (s before after started : List ℕ) (r : Script) (playable : Playable 16 s) (room : workspaceSize ≤ length before)
-    (scripted : Scripted s before after r) (first : Playing) (fresh : Fresh after started r first) where
+module _ (s before after started : List ℕ) (r : script-specs.declared.Script.Script) (playable : plan-specs.Playable.Playable 16 s) (room : answers-specs.Workspace.workspaceSize ≤ length before)
+    (scripted : script-specs.Script.Scripted s before after r) (first : player-specs.declared.Playing.Playing) (fresh : Fresh after started r first) where
   abbrev decoded : Decoded s r
   decoded = record { playable = playable; before = before; after = after; scripted = scripted }
 
@@ -94,21 +86,21 @@ module _ (s before after started : List ℕ) (r : Script) (playable : Playable 1
   pub begun : Played s started r first
   begun = played-none s r after started first decoded fresh
 
-  pub servers-few : headerOf 16 s .n ≤ 16
-  servers-few = range s r decoded .n-hi
+  pub servers-few : plan-specs.Header.headerOf 16 s .n ≤ 16
+  servers-few = player-laws.Feeding.range s r decoded .n-hi
 
-  pub ticks-are : r .shape .ticks ≡ headerOf 16 s .ticks
-  ticks-are = ticks-same s r decoded
+  pub ticks-are : r .shape .ticks ≡ plan-specs.Header.headerOf 16 s .ticks
+  ticks-are = player-laws.Feeding.ticks-same s r decoded
 
-  module _ (work answers answers₁ : List ℕ) (p : Playing) (W : Went s started work answers answers₁ r first p) where
-    all-zeroed : (end : List ℕ) → end ≡ zeroed work → end ≡ zeroed before
+  module _ (work answers answers₁ : List ℕ) (p : player-specs.declared.Playing.Playing) (W : Went s started work answers answers₁ r first p) where
+    all-zeroed : (end : List ℕ) → end ≡ answers-specs.Workspace.zeroed work → end ≡ answers-specs.Workspace.zeroed before
     all-zeroed end e =
         let K = W .kept in
-        e ∙ zeroed-same before work (K .size ∙ (fresh .kept .size ∙ scripted .forged .filled .size))
-        (λ x l. K .behind x (omega arith) ∙ (fresh .kept .behind x (omega arith) ∙ scripted .forged .filled .other x (inr (omega (arith, range s r decoded .forgeries-hi)))))
+        e ∙ player-laws.Buffers.zeroed-same before work (K .size ∙ (fresh .kept .size ∙ scripted .forged .filled .size))
+        (λ x l. K .behind x (omega arith) ∙ (fresh .kept .behind x (omega arith) ∙ scripted .forged .filled .other x (inr (omega (arith, player-laws.Feeding.range s r decoded .forgeries-hi)))))
 
     -- a server after the last of the ticks
-    pub seen : (b t : ℕ) (end : List ℕ) → b < headerOf 16 s .n → p .tick ≡ suc t → end ≡ zeroed work → Seen s b t (record { server = getD (p .cluster .servers) b absent; known = r .writes .known }) before end
+    pub seen : (b t : ℕ) (end : List ℕ) → b < plan-specs.Header.headerOf 16 s .n → p .tick ≡ suc t → end ≡ answers-specs.Workspace.zeroed work → player-specs.Player.Seen s b t (record { server = getD (p .cluster .servers) b absent; known = r .writes .known }) before end
     unfolding planOf
     seen b t end l e z =
         let R = rw e at (W .played .state .servers b l) in
@@ -118,8 +110,8 @@ module _ (s before after started : List ℕ) (r : Script) (playable : Playable 1
     none-left : p .tick ≡ r .shape .ticks → p .answered < r .reads .m → ⊥
     unfolding planOf
     none-left e l =
-        let q = rw (scripted .reads .each (p .answered) l) at (getD-in (planOf 16 s .reads) (p .answered) noRead (omega (arith, scripted .reads .count))) in
-        let Q = read-stands 16 s playable _ q in
+        let q = rw (scripted .reads .each (p .answered) l) at (plan-laws.Tests.getD-in (planOf 16 s .reads) (p .answered) script-specs.Operations.noRead (omega (arith, scripted .reads .count))) in
+        let Q = plan-laws.AcceptReads.read-stands 16 s playable _ q in
         omega (arith, W .played .answered .next l, Q .ends, e, ticks-are, scripted .rules .delta)
 
     all-answered : p .tick ≡ r .shape .ticks → p .answered ≡ length (planOf 16 s .reads)
@@ -128,13 +120,13 @@ module _ (s before after started : List ℕ) (r : Script) (playable : Playable 1
       | no d ↦ absurd (none-left e (omega arith))
     ]
 
-    pub all-there : p .tick ≡ r .shape .ticks → (end : List ℕ) → end ≡ zeroed work → AllAnswered s answers answers₁ before end
+    pub all-there : p .tick ≡ r .shape .ticks → (end : List ℕ) → end ≡ answers-specs.Workspace.zeroed work → player-specs.Player.AllAnswered s answers answers₁ before end
     all-there e end z =
         let k = all-answered e in
-        let none : first .answered ≡ 0 = ap (λ (x : Playing). x .answered) (fresh .first) in
+        let none : first .answered ≡ 0 = ap (λ (x : player-specs.declared.Playing.Playing). x .answered) (fresh .first) in
         let all : p .answered - 0 ≡ p .answered = omega arith in
         let whole : answers₁ ≡ placed (answerIn s) 0 (p .answered) answers = rw (none, all) at (W .answers) in
         record {
-          answers = rw (← k) (answers-done s answers answers₁ (p .answered) k (whole ∙ all-placed s answers (p .answered) (omega arith)));
+          answers = rw (← k) (player-laws.Buffers.answers-done s answers answers₁ (p .answered) k (whole ∙ all-placed s answers (p .answered) (omega arith)));
           workspace = all-zeroed end z;
         }

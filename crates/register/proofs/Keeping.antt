@@ -14,19 +14,12 @@ use Rattle.register.specs.Plan.{Write, Plan}
 use Rattle.register.specs.Server.{isFaulty, Claim, pairsOf, Server, insertAll, takeIn, quorum, votedIn, deliver}
 use Rattle.register.specs.Cluster.{writesIn, votesIn, cluster}
 use Rattle.register.specs.Regular.{laterBegun}
-use Rattle.register.proofs.Logic.{and-i}
+use Rattle.register.proofs as register-laws
 use Rattle.register.proofs.Lists.{in-append, in-left, in-right, in-filter, filter-in, in-take, map-in}
-use Rattle.register.proofs.Good.{Good}
-use Rattle.register.proofs.Placements.{FreeSince}
 use Rattle.register.proofs.Genuine.{Genuine, genuine-mono, genuine-above}
 use Rattle.register.proofs.Stores.{Falling, in-insertAll, falling-take, falling-insertAll, insertAll-in, first-or-above}
-use Rattle.register.proofs.Stores.{falling-length}
-use Rattle.register.proofs.Claims.{quorum-named}
-use Rattle.register.proofs.Safety.{FreshSafe, ServerSafe, voted-genuine}
-use Rattle.register.proofs.SafetyTick.{writesIn-genuine, votesIn-safe, cluster-safe}
 use Rattle.register.proofs.Trace.{before, mid, freshIn}
 use Rattle.register.proofs.Stages.{mid-keeps, delivered-is, next-same}
-use Rattle.register.proofs.Statuses.{not-faulty}
 
 -- fewer than depth pairs above p are genuine at t
 abbrev pub Recent : Plan → ℕ → ℕ → Type 0
@@ -42,7 +35,7 @@ later-recent P t p lo h l d g =
     omega (
       arith,
       length-map (filter later (P .writes)) (λ (w : Write). w .pair),
-      falling-length l (map (λ (w : Write). w .pair) (filter later (P .writes))) d (λ q i. there q (g q i .0) (g q i .1)),
+      register-laws.Stores.falling-length l (map (λ (w : Write). w .pair) (filter later (P .writes))) d (λ q i. there q (g q i .0) (g q i .1)),
     )
   where
     later : Write → Bool
@@ -52,7 +45,7 @@ later-recent P t p lo h l d g =
     there q g a =
         let (w, i, e, b) = genuine-above P t p q lo g a in
         rw e at (map-in (λ (w : Write). w .pair) w (filter later (P .writes)) (filter-in later w (P .writes) i
-        (and-i (ltb p (w .pair)) (ltb (w .begun) t) (lt→ltb p (w .pair) (omega arith)) (lt→ltb (w .begun) t b))))
+        (register-laws.Logic.and-i (ltb p (w .pair)) (ltb (w .begun) t) (lt→ltb p (w .pair) (omega arith)) (lt→ltb (w .begun) t b))))
 
 pub keep-takeIn : (P : Plan) (t p : ℕ) → Recent P t p → (ps l : List ℕ) → Falling l → ((q : ℕ) → In q l → Genuine P t q)
     → ((q : ℕ) → In q ps → Genuine P t q) → In p ps ⊎ In p l → In p (takeIn (P .depth) ps l)
@@ -84,16 +77,16 @@ write-arrives P w b i =
     t : ℕ
     t = w .begun + P .delay (w .begun) (P .n) b
 
-module _ (P : Plan) (G : Good P) where
+module _ (P : Plan) (G : register-laws.Good.Good P) where
   -- safety of the states through a tick
-  pub before-safe : (t b : ℕ) → ServerSafe P t ((t - 1) / P .period) (before P t b)
+  pub before-safe : (t b : ℕ) → register-laws.Safety.ServerSafe P t ((t - 1) / P .period) (before P t b)
   unfolding before
-  before-safe t b = cluster-safe P G t .0 b
+  before-safe t b = register-laws.SafetyTick.cluster-safe P G t .0 b
 
-  pub freshIn-safe : (t b : ℕ) (v : Claim) → In v (freshIn P t b) → FreshSafe P t ((t - 1) / P .period) v
+  pub freshIn-safe : (t b : ℕ) (v : Claim) → In v (freshIn P t b) → register-laws.Safety.FreshSafe P t ((t - 1) / P .period) v
   freshIn-safe t b v i = elim (in-append v (before P t b .fresh) (votesIn P t (cluster P t .log) b) i) [
     | inl a ↦ before-safe t b .fresh v a
-    | inr c ↦ votesIn-safe P G t (cluster P t .log) b (cluster-safe P G t .1) v c
+    | inr c ↦ register-laws.SafetyTick.votesIn-safe P G t (cluster P t .log) b (register-laws.SafetyTick.cluster-safe P G t .1) v c
   ]
 
   -- what a server that is not faulty keeps after stage 2: what it kept, what a WRITE brings, what has a quorum
@@ -115,8 +108,8 @@ module _ (P : Plan) (G : Good P) where
 
       all : (q : ℕ) → In q (writesIn P t b ++ voted) → Genuine P t q
       all q i = elim (in-append q (writesIn P t b) voted i) [
-        | inl a ↦ writesIn-genuine P G t b q a
-        | inr c ↦ voted-genuine P G t ((t - 1) / P .period) (freshIn P t b) (x .old) (freshIn-safe t b) (before-safe t b .old) q
+        | inl a ↦ register-laws.SafetyTick.writesIn-genuine P G t b q a
+        | inr c ↦ register-laws.Safety.voted-genuine P G t ((t - 1) / P .period) (freshIn P t b) (x .old) (freshIn-safe t b) (before-safe t b .old) q
             (in-filter (quorum P (freshIn P t b) (x .old)) q named c .1)
       ]
 
@@ -126,22 +119,22 @@ module _ (P : Plan) (G : Good P) where
       go (inr (inl i)) = inl (in-left p (writesIn P t b) voted i)
       go (inr (inr q)) =
           inl (in-right p (writesIn P t b) voted
-          (filter-in (quorum P (freshIn P t b) (x .old)) p named (quorum-named P (freshIn P t b) (x .old) p q) q))
+          (filter-in (quorum P (freshIn P t b) (x .old)) p named (register-laws.Claims.quorum-named P (freshIn P t b) (x .old) p q) q))
 
   -- a recent pair stays kept while the server is not faulty
   pub kept-run : (u e b p : ℕ) → b < P .n → Recent P (u + e) p → T (not (isFaulty (before P u b .status)))
-      → FreeSince P b u (u + e) → In p (before P u b .kept) → In p (before P (u + e) b .kept)
+      → register-laws.Placements.FreeSince P b u (u + e) → In p (before P u b .kept) → In p (before P (u + e) b .kept)
   kept-run u zero b p l recent h f i = let e : u + 0 ≡ u = omega arith in rw e i
   kept-run u (suc e) b p l recent h f i =
       let q : u + suc e ≡ suc u + e = omega arith in
       let n = next-same P u b l h (f u (omega arith) (omega arith)) in
       let k : In p (before P (suc u) b .kept) = rw (n .0) (takes u b p (recent-mono P u (u + suc e) p (omega arith) recent) h (inl i)) in
-      rw q (kept-run (suc u) e b p l (rw q at recent) (not-faulty P G u b l (f u (omega arith) (omega arith)))
+      rw q (kept-run (suc u) e b p l (rw q at recent) (register-laws.Statuses.not-faulty P G u b l (f u (omega arith) (omega arith)))
       (λ v a c. f v (omega arith) (omega arith)) k)
 
   -- from after stage 2 of one tick to after stage 2 of a later one
   pub stays-kept : (u t b p : ℕ) → b < P .n → u ≤ t → Recent P t p → T (not (isFaulty (before P u b .status)))
-      → FreeSince P b u t → In p (mid P u b .server .kept) → In p (mid P t b .server .kept)
+      → register-laws.Placements.FreeSince P b u t → In p (mid P u b .server .kept) → In p (mid P t b .server .kept)
   stays-kept u t b p l le recent h f i = go (ℕ-discrete u t)
     where
       go : Dec (u ≡ t) → In p (mid P t b .server .kept)
@@ -150,10 +143,10 @@ module _ (P : Plan) (G : Good P) where
           let pl = f u (omega arith) (omega arith) in
           let k : In p (before P (suc u) b .kept) = rw (next-same P u b l h pl .0) i in
           let e : suc u + (t - suc u) ≡ t = omega arith in
-          let free = not-faulty P G u b l pl in
+          let free = register-laws.Statuses.not-faulty P G u b l pl in
           let r = rw e at (kept-run (suc u) (t - suc u) b p l (rw e recent) free (λ v x y. f v (omega arith) (omega arith)) k) in
           let t' : t ≡ suc (t - 1) = omega arith in
-          let free' = not-faulty P G (t - 1) b l (f (t - 1) (omega arith) (omega arith)) in
+          let free' = register-laws.Statuses.not-faulty P G (t - 1) b l (f (t - 1) (omega arith) (omega arith)) in
           takes t b p recent (rw t' free') (inl r)
 
   -- a server that is not faulty from the tick before the WRITE arrives keeps its pair
@@ -164,6 +157,6 @@ module _ (P : Plan) (G : Good P) where
   kept-from-write w t b i l recent le f =
       let a : ℕ = w .begun + P .delay (w .begun) (P .n) b in
       let e : a ≡ suc (a - 1) = omega (arith, G .delay-lo (w .begun) (P .n) b) in
-      let h : T (not (isFaulty (before P a b .status))) = rw e (not-faulty P G (a - 1) b l (f (a - 1) (omega arith) (omega arith))) in
+      let h : T (not (isFaulty (before P a b .status))) = rw e (register-laws.Statuses.not-faulty P G (a - 1) b l (f (a - 1) (omega arith) (omega arith))) in
       stays-kept a t b (w .pair) l le recent h (λ v x y. f v (omega arith) y)
       (takes a b (w .pair) (recent-mono P a t (w .pair) le recent) h (inr (inl (write-arrives P w b i))))

@@ -12,11 +12,10 @@ use Rattle.register.specs.Plan.{Write, Plan}
 use Rattle.register.specs.Server.{isFaulty, isCorrect}
 use Rattle.register.specs.Cluster.{serverOf, cluster}
 use Rattle.register.specs.Regular.{laterBegun}
-use Rattle.register.proofs.Logic.{strong-induction}
+use Rattle.register.proofs as register-laws
 use Rattle.register.proofs.Good.{Good, Enough}
 use Rattle.register.proofs.Placements.{FreeSince, period-pos, period-mono}
 use Rattle.register.proofs.Trace.{before, mid, before-zero}
-use Rattle.register.proofs.Stages.{end-correct}
 use Rattle.register.proofs.Statuses.{CureOver, mid-correct-placed}
 use Rattle.register.proofs.Keeping.{Recent, recent-mono, later-recent, takes, stays-kept, kept-from-write}
 use Rattle.register.proofs.Recovery.{NeverFaulty, ResetIn, AllKeep, last-reset, by-echo, since-reset, before-move}
@@ -59,7 +58,7 @@ module _ (P : Plan) (G : Good P) (E : Enough P) where
           (ih (suc i * P .period - 1) (omega arith) (recent-mono P (suc (suc i * P .period - 1)) (suc t) (P .initial) (omega arith) recent))
 
   pub initial-all-keep : (t : ℕ) → Recent P (suc t) (P .initial) → AllKeep P (P .initial) t
-  initial-all-keep = strong-induction (λ t. Recent P (suc t) (P .initial) → AllKeep P (P .initial) t) initial-step
+  initial-all-keep = register-laws.Logic.strong-induction (λ t. Recent P (suc t) (P .initial) → AllKeep P (P .initial) t) initial-step
 
   module _ (w : Write) (wi : In w (P .writes)) where
     write-step : (t : ℕ) → ((u : ℕ) → u < t → w .begun + 2 * P .delta ≤ suc u → Recent P (suc u) (w .pair) → AllKeep P (w .pair) u)
@@ -103,7 +102,7 @@ module _ (P : Plan) (G : Good P) (E : Enough P) where
 
     pub write-all-keep : (t : ℕ) → w .begun + 2 * P .delta ≤ suc t → Recent P (suc t) (w .pair) → AllKeep P (w .pair) t
     write-all-keep =
-        strong-induction (λ t. w .begun + 2 * P .delta ≤ suc t → Recent P (suc t) (w .pair) → AllKeep P (w .pair) t) write-step
+        register-laws.Logic.strong-induction (λ t. w .begun + 2 * P .delta ≤ suc t → Recent P (suc t) (w .pair) → AllKeep P (w .pair) t) write-step
 
     -- after stage 2 of tick t, and at the end of tick t
     pub write-kept-mid : (t : ℕ) → w .begun + 2 * P .delta ≤ t → laterBegun P t (w .pair) < P .depth → (b : ℕ) → b < P .n
@@ -116,7 +115,7 @@ module _ (P : Plan) (G : Good P) (E : Enough P) where
     pub write-kept-end : (t : ℕ) → w .begun + 2 * P .delta ≤ t → laterBegun P t (w .pair) < P .depth → (b : ℕ) → b < P .n
         → T (isCorrect (serverOf (cluster P (suc t)) b .status)) → In (w .pair) (serverOf (cluster P (suc t)) b .kept)
     unfolding before
-    write-kept-end t late few b l h = let e = end-correct P t b l h in rw (e .1) (write-kept-mid t late few b l (e .0))
+    write-kept-end t late few b l h = let e = register-laws.Stages.end-correct P t b l h in rw (e .1) (write-kept-mid t late few b l (e .0))
 
   pub initial-kept-mid : (t : ℕ) → laterBegun P t (P .initial) < P .depth → (b : ℕ) → b < P .n
       → T (isCorrect (mid P t b .server .status)) → In (P .initial) (mid P t b .server .kept)
@@ -126,4 +125,4 @@ module _ (P : Plan) (G : Good P) (E : Enough P) where
   pub initial-kept-end : (t : ℕ) → laterBegun P t (P .initial) < P .depth → (b : ℕ) → b < P .n
       → T (isCorrect (serverOf (cluster P (suc t)) b .status)) → In (P .initial) (serverOf (cluster P (suc t)) b .kept)
   unfolding before
-  initial-kept-end t few b l h = let e = end-correct P t b l h in rw (e .1) (initial-kept-mid t few b l (e .0))
+  initial-kept-end t few b l h = let e = register-laws.Stages.end-correct P t b l h in rw (e .1) (initial-kept-mid t few b l (e .0))

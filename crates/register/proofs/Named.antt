@@ -14,14 +14,11 @@ use Rattle.register.specs.Cluster.{Log, sentIn, cluster}
 use Rattle.register.specs.Reading.{sameRead, replyFrom, forgedTo, noted, notedBy, countIn, countOf}
 use Rattle.register.proofs.Logic.{and-i, cond-t}
 use Rattle.register.proofs.Lists.{in-left, in-any, flat-in, map-in}
-use Rattle.register.proofs.Counting.{count-mono}
+use Rattle.register.proofs as register-laws
 use Rattle.register.proofs.Good.{Good, Enough}
 use Rattle.register.proofs.Placements.{near, outside, FreeSince, many-outside, period-pos, period-is, period-near, period-mono}
-use Rattle.register.proofs.Claims.{in-has}
 use Rattle.register.proofs.Trace.{mid, end, sent-row}
 use Rattle.register.proofs.Stages.{end-replies}
-use Rattle.register.proofs.Statuses.{placed-mid-correct}
-use Rattle.register.proofs.Recovery.{AllKeep}
 use Rattle.register.proofs.Replies.{arrivalOf, arrival-hi, has-replied}
 
 module _ (P : Plan) (G : Good P) (r : Read) where
@@ -39,7 +36,7 @@ module _ (P : Plan) (G : Good P) (r : Read) where
   correct-then b l h =
       let d = G .delta-pos in
       let e : r .begun + P .delta ≡ suc (r .begun + P .delta - 1) = omega arith in
-      rw e (placed-mid-correct P G (r .begun + P .delta - 1) b l
+      rw e (register-laws.Statuses.placed-mid-correct P G (r .begun + P .delta - 1) b l
       (free-since-begun b h (r .begun + P .delta - 1) (omega arith) (omega arith)) cure)
     where
       c : ℕ
@@ -95,7 +92,7 @@ module _ (P : Plan) (G : Good P) (r : Read) where
       here = rw (cond-t (any (sameRead r) (sentIn log g b .replyTo) && leb (g + P .delay g b (P .n + r .reader)) until) _ _ counts)
           (map-in (claimOf b) p (sentIn log g b .replyWith) names')
 
-  module _ (ri : In r (P .reads)) (p : ℕ) (all : AllKeep P p (r .begun + P .delta - 1)) where
+  module _ (ri : In r (P .reads)) (p : ℕ) (all : register-laws.Recovery.AllKeep P p (r .begun + P .delta - 1)) where
     names : (b : ℕ) → b < P .n → T (not (near P atReply 1 b)) → T (has (notedBy P r) p b)
     names b l h =
         let d = G .delta-pos in
@@ -107,10 +104,10 @@ module _ (P : Plan) (G : Good P) (r : Read) where
         let s' = rw e1 at s in
         let k' = rw e1 at k in
         let (g, lo, hi, asked, with-p) = has-replied P G r ri b l (free-since-begun b h) p (r .begun + P .delta - a) (omega arith) s' k' in
-        in-has (notedBy P r) p b (reply-noted b g p l (omega arith) asked with-p)
+        register-laws.Claims.in-has (notedBy P r) p b (reply-noted b g p l (omega arith) asked with-p)
 
     pub many-name : Enough P → replyQuorum P ≤ countOf P r p
     unfolding countIn
     many-name E =
         let enough : replyQuorum P + (1 + 1) * P .f ≤ P .n = omega (arith, E) in
-        omega (arith, many-outside P G atReply 1, count-mono (λ b. not (near P atReply 1 b)) (λ i. has (notedBy P r) p i) (P .n) names)
+        omega (arith, many-outside P G atReply 1, register-laws.Counting.count-mono (λ b. not (near P atReply 1 b)) (λ i. has (notedBy P r) p i) (P .n) names)

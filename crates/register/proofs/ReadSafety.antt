@@ -15,8 +15,7 @@ use Rattle.register.specs.Reading.{sameRead, replyFrom, forgedTo, noted,
 use Rattle.register.specs.Regular.{hasBegun}
 use Rattle.register.proofs.Logic.{and-l, and-r, test}
 use Rattle.register.proofs.Lists.{in-append, in-filter, filter-in, in-flat, in-map, highest-in, highest-le, highest-all}
-use Rattle.register.proofs.Counting.{count-mono}
-use Rattle.register.proofs.Good.{Good}
+use Rattle.register.proofs as register-laws
 use Rattle.register.proofs.Placements.{Near, near, near-in, near-few, read-near}
 use Rattle.register.proofs.Genuine.{Genuine}
 use Rattle.register.proofs.Claims.{has-in, counted-named}
@@ -26,7 +25,7 @@ use Rattle.register.proofs.SafetyTick.{reply-genuine}
 abbrev lastPlacement : Plan → Read → ℕ
 lastPlacement P r = (readEnd P r - 1) / P .period
 
-module _ (P : Plan) (G : Good P) (r : Read) where
+module _ (P : Plan) (G : register-laws.Good.Good P) (r : Read) where
   -- a server's own reply names genuine pairs
   replyFrom-genuine : (t u i : ℕ) (c : Claim) → In c (replyFrom P (cluster P t .log) r u i) → Genuine P t (c .pair)
   unfolding replyFrom claimOf
@@ -95,7 +94,7 @@ module _ (P : Plan) (G : Good P) (r : Read) where
       omega (
         arith,
         near-few P G (lastPlacement P r) (kk P),
-        count-mono (λ i. has (notedBy P r) p i) (near P (lastPlacement P r) (kk P)) (P .n) (λ i l t. named-near p i never t),
+        register-laws.Counting.count-mono (λ i. has (notedBy P r) p i) (near P (lastPlacement P r) (kk P)) (P .n) (λ i l t. named-near p i never t),
       )
 
   pub quorum-genuine : (p : ℕ) → replyQuorum P ≤ countOf P r p → T (hasBegun P (readEnd P r) p)

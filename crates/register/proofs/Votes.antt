@@ -14,8 +14,7 @@ use Rattle.register.specs.Server.{isFaulty, Claim, claimOf, has, quorum}
 use Rattle.register.specs.Cluster.{Log, votesFrom, forgedIn, votesIn, cluster}
 use Rattle.register.proofs.Logic.{and-i, or-l, or-r, test, cond-t}
 use Rattle.register.proofs.Lists.{in-left, in-right, flat-in, map-in}
-use Rattle.register.proofs.Counting.{count-mono}
-use Rattle.register.proofs.Good.{Good}
+use Rattle.register.proofs as register-laws
 use Rattle.register.proofs.Placements.{not-moving, moving, period-lo, period-mono, period-suc}
 use Rattle.register.proofs.Claims.{in-has}
 use Rattle.register.proofs.Trace.{before, mid, end, freshIn, sent-row}
@@ -35,7 +34,7 @@ abbrev pub Suffices : Plan → ℕ → ℕ → (ℕ → Bool) → Type 0
 Suffices P i u W =
     ((echoQuorum P ≤ count W (P .n)) × (u / P .period ≡ i)) ⊎ ((replyQuorum P ≤ count W (P .n)) × (u / P .period ≤ i + 1) × (kk P ≡ 2))
 
-module _ (P : Plan) (G : Good P) where
+module _ (P : Plan) (G : register-laws.Good.Good P) where
   -- a vote that arrived in tick a + 1, after tick u
   Counted : ℕ → ℕ → ℕ → Claim → Type 0
   Counted a u b v = CountedIn P a u v (before P (suc u) b .fresh) (before P (suc u) b .old)
@@ -171,6 +170,6 @@ module _ (P : Plan) (G : Good P) where
 
       go : Suffices P i u W → T (leb (echoQuorum P) (count inFresh (P .n)) || leb (replyQuorum P) (count inBoth (P .n)))
       go (inl (h, e)) = or-l (leb (echoQuorum P) (count inFresh (P .n))) (leb (replyQuorum P) (count inBoth (P .n)))
-          (le→leb (echoQuorum P) (count inFresh (P .n)) (omega (arith, count-mono W inFresh (P .n) (one e))))
+          (le→leb (echoQuorum P) (count inFresh (P .n)) (omega (arith, register-laws.Counting.count-mono W inFresh (P .n) (one e))))
       go (inr (h, e, k)) = or-r (leb (echoQuorum P) (count inFresh (P .n))) (leb (replyQuorum P) (count inBoth (P .n)))
-          (le→leb (replyQuorum P) (count inBoth (P .n)) (omega (arith, count-mono W inBoth (P .n) (two e k))))
+          (le→leb (replyQuorum P) (count inBoth (P .n)) (omega (arith, register-laws.Counting.count-mono W inBoth (P .n) (two e k))))

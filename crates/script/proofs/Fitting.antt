@@ -11,40 +11,26 @@ use lib.ListN.{length, getD}
 use borrow.Author.Tests.{lt-ltb, eq-eqb, ne-eqb}
 use Rattle.bits.specs.Field.{fieldOf}
 use Rattle.bits.proofs.Laws.{field-inner}
-use Rattle.register.specs.Lists.{any, In, member}
+use Rattle.register.specs as register-specs
 use Rattle.register.specs.Plan.{Read, isMove, readEnd}
-use Rattle.register.specs.Cluster.{writesIn, readsIn}
-use Rattle.register.specs.Reading.{sameRead}
 use Rattle.plan.specs.Header.{headerOf, parties}
-use Rattle.plan.specs.Parts.{inPlacement}
+use Rattle.plan.specs as plan-specs
 use Rattle.plan.specs.Packed.{planOf}
-use Rattle.plan.specs.Playable.{Playable}
-use Rattle.plan.proofs.Accept.{in-range}
-use Rattle.plan.proofs.AcceptReads.{read-stands}
-use Rattle.plan.proofs.AcceptGood.{delay-range, good}
-use Rattle.cluster.specs.declared.Arrivals.{Arrivals}
-use Rattle.cluster.specs.declared.Movement.{Movement}
-use Rattle.calendar.specs.Bits.{bit}
-use Rattle.calendar.specs.Layout.{places}
-use Rattle.calendar.specs.View.{Spanned}
+use Rattle.plan.proofs as plan-laws
+use Rattle.cluster.specs as cluster-specs
+use Rattle.calendar.specs as calendar-specs
 use Rattle.requests.specs.Requests.{SameBehind}
-use Rattle.states.specs.State.{Open}
-use Rattle.states.specs.Requests.{Requested}
+use Rattle.states.specs as states-specs
 use Rattle.states.proofs.RequestLaws.{asked-now}
 use Rattle.serving.specs.Links.{delayAt}
 use Rattle.cluster.specs.Inputs.{pairAt, requesters, wroteAt, asksAt, Knows, Tickable, Fits}
 use Rattle.serving.proofs.BitLaws.{bit-shift}
-use Rattle.script.specs.declared.Script.{Script}
-use Rattle.script.specs.Inputs.{LatestWrite, liveAt, Arrive, Moves}
-use Rattle.script.specs.Forged.{entriesEnd, entryAt, entriesAt, Entry, Starts}
-use Rattle.script.specs.Script.{messageOf, messageDelay, messageNumber, Scripted}
-use Rattle.script.proofs.Placing.{table, link-delay}
-use Rattle.script.proofs.Messages.{other-link}
-use Rattle.script.proofs.Knowing.{knows, wrote-last}
+use Rattle.script.specs as script-specs
+use Rattle.script.proofs as script-laws
 
 -- server b of a placement, as its bit from the top
-placed-bit : (s : List ℕ) (at b : ℕ) → b < 16 → bit (15 - b) (fieldOf s at 16) ≡ eqb (fieldOf s (at + b) 1) 1
-unfolding bit
+placed-bit : (s : List ℕ) (at b : ℕ) → b < 16 → calendar-specs.Bits.bit (15 - b) (fieldOf s at 16) ≡ eqb (fieldOf s (at + b) 1) 1
+unfolding calendar-specs.Bits.bit
 placed-bit s at b h =
     let z : 15 - b + 0 ≡ 15 - b = omega arith in
     let w : b + 1 + (15 - b) ≡ 16 = omega arith in
@@ -53,11 +39,11 @@ placed-bit s at b h =
 
 -- the entries stay as they are where only the calendar and the requests change
 module _ (s after work values : List ℕ) (m : ℕ) (K : SameBehind after work) where
-  pub entry-kept : (e k : ℕ) → entryAt work e k ≡ entryAt after e k
-  entry-kept e k = K .behind (entriesAt + 8 * e + k) (omega arith)
+  pub entry-kept : (e k : ℕ) → script-specs.Forged.entryAt work e k ≡ script-specs.Forged.entryAt after e k
+  entry-kept e k = K .behind (script-specs.Forged.entriesAt + 8 * e + k) (omega arith)
 
-  pub entries-kept : ((e : ℕ) → e < headerOf 16 s .forgeries → Entry after e (messageOf s e) (messageDelay s e) (messageNumber s values m e))
-      → (e : ℕ) → e < headerOf 16 s .forgeries → Entry work e (messageOf s e) (messageDelay s e) (messageNumber s values m e)
+  pub entries-kept : ((e : ℕ) → e < headerOf 16 s .forgeries → script-specs.Forged.Entry after e (script-specs.Script.messageOf s e) (script-specs.Script.messageDelay s e) (script-specs.Script.messageNumber s values m e))
+      → (e : ℕ) → e < headerOf 16 s .forgeries → script-specs.Forged.Entry work e (script-specs.Script.messageOf s e) (script-specs.Script.messageDelay s e) (script-specs.Script.messageNumber s values m e)
   entries-kept E e l = record {
     sent = entry-kept e 0 ∙ E e l .sent;
     arrival = entry-kept e 1 ∙ E e l .arrival;
@@ -66,7 +52,7 @@ module _ (s after work values : List ℕ) (m : ℕ) (K : SameBehind after work) 
     known = entry-kept e 4 ∙ E e l .known;
   }
 
-  pub starts-kept : (starts : List ℕ) → Starts after (headerOf 16 s .forgeries) starts → Starts work (headerOf 16 s .forgeries) starts
+  pub starts-kept : (starts : List ℕ) → script-specs.Forged.Starts after (headerOf 16 s .forgeries) starts → script-specs.Forged.Starts work (headerOf 16 s .forgeries) starts
   starts-kept starts S = record {
     each = λ u l. record {
       few = S .each u l .few;
@@ -75,66 +61,66 @@ module _ (s after work values : List ℕ) (m : ℕ) (K : SameBehind after work) 
     };
   }
 
-module _ (s before after : List ℕ) (A : Playable 16 s) (r : Script) (R : Scripted s before after r) where
+module _ (s before after : List ℕ) (A : plan-specs.Playable.Playable 16 s) (r : script-specs.declared.Script.Script) (R : script-specs.Script.Scripted s before after r) where
   pub script-knows : Knows (planOf 16 s) (pairAt (r .writes .known)) (r .writes .known .m)
-  script-knows = knows s A (r .writes .known) (r .writes .begun) (R .writes)
+  script-knows = script-laws.Knowing.knows s A (r .writes .known) (r .writes .begun) (R .writes)
 
-  module _ (t : ℕ) (below : t < headerOf 16 s .ticks) (work ends : List ℕ) (number : ℕ) (arrivals : Arrivals) (movement : Movement)
-      (comes : Arrive work number ends t (headerOf 16 s .delta) arrivals) (moves : Moves s (headerOf 16 s .period) t movement)
-      (requested : Requested (planOf 16 s) t work) (latest : LatestWrite (r .writes .begun) (r .writes .known .m) t number)
-      (open-ends : (q : Read) → Open (planOf 16 s) t q → getD ends (q .reader - 1) 0 ≡ readEnd (planOf 16 s) q) where
-    faulty-placed : isMove (planOf 16 s) t ≡ true → (b : ℕ) → b < planOf 16 s .n → bit (15 - b) (movement .faulty) ≡ planOf 16 s .placed (t / planOf 16 s .period) b
-    unfolding isMove planOf inPlacement
+  module _ (t : ℕ) (below : t < headerOf 16 s .ticks) (work ends : List ℕ) (number : ℕ) (arrivals : cluster-specs.declared.Arrivals.Arrivals) (movement : cluster-specs.declared.Movement.Movement)
+      (comes : script-specs.Inputs.Arrive work number ends t (headerOf 16 s .delta) arrivals) (moves : script-specs.Inputs.Moves s (headerOf 16 s .period) t movement)
+      (requested : states-specs.Requests.Requested (planOf 16 s) t work) (latest : script-specs.Inputs.LatestWrite (r .writes .begun) (r .writes .known .m) t number)
+      (open-ends : (q : Read) → states-specs.State.Open (planOf 16 s) t q → getD ends (q .reader - 1) 0 ≡ readEnd (planOf 16 s) q) where
+    faulty-placed : isMove (planOf 16 s) t ≡ true → (b : ℕ) → b < planOf 16 s .n → calendar-specs.Bits.bit (15 - b) (movement .faulty) ≡ planOf 16 s .placed (t / planOf 16 s .period) b
+    unfolding isMove planOf plan-specs.Parts.inPlacement
     faulty-placed e b l =
         let p = headerOf 16 s .period in
         let h : t / p * p < headerOf 16 s .ticks = omega (arith, div-mul-le-self t p) in
-        rw (moves .faulty (moves .moving ∙ e), placed-bit s (64 + 16 * (t / p)) b (omega (arith, in-range 16 s A .n-hi)), lt-ltb (t / p * p) (headerOf 16 s .ticks) h, lt-ltb b (headerOf 16 s .n) l)
+        rw (moves .faulty (moves .moving ∙ e), placed-bit s (64 + 16 * (t / p)) b (omega (arith, plan-laws.Accept.in-range 16 s A .n-hi)), lt-ltb (t / p * p) (headerOf 16 s .ticks) h, lt-ltb b (headerOf 16 s .n) l)
 
     delays : (i b : ℕ) → i < planOf 16 s .n → b < planOf 16 s .n → (i ≡ b → ⊥) → delayAt s (r .links) t i b ≡ planOf 16 s .delay t i b
     unfolding planOf
     delays i b li lb d =
-        link-delay s A (r .links) (R .links) t i b below (omega arith) (omega arith) (other-link (headerOf 16 s .n) i b li (λ z. d (sym z)) (λ z. omega arith))
+        script-laws.Placing.link-delay s A (r .links) (R .links) t i b below (omega arith) (omega arith) (script-laws.Messages.other-link (headerOf 16 s .n) i b li (λ z. d (sym z)) (λ z. omega arith))
 
-    replies : (i : ℕ) (q : Read) → i < planOf 16 s .n → In q (planOf 16 s .reads)
+    replies : (i : ℕ) (q : Read) → i < planOf 16 s .n → register-specs.Lists.In q (planOf 16 s .reads)
         → (planOf 16 s .n + q .reader < r .links .parties) × (delayAt s (r .links) t i (planOf 16 s .n + q .reader) ≡ planOf 16 s .delay t i (planOf 16 s .n + q .reader))
     unfolding planOf
     replies i q li iq =
-        let Q = read-stands 16 s A q iq in
+        let Q = plan-laws.AcceptReads.read-stands 16 s A q iq in
         let n = headerOf 16 s .n in (
           omega (arith, R .links .parties, Q .reader-hi),
-          link-delay s A (r .links) (R .links) t i (n + q .reader) below (omega arith) (omega (arith, Q .reader-hi))
-              (other-link n i (n + q .reader) li (λ z. omega arith) (λ z. omega (arith, Q .reader-lo))),
+          script-laws.Placing.link-delay s A (r .links) (R .links) t i (n + q .reader) below (omega arith) (omega (arith, Q .reader-hi))
+              (script-laws.Messages.other-link n i (n + q .reader) li (λ z. omega arith) (λ z. omega (arith, Q .reader-lo))),
         )
 
     wrote : (b j : ℕ) → b < planOf 16 s .n → j < r .writes .known .m
-        → member (pairAt (r .writes .known) j) (writesIn (planOf 16 s) t b) ≡ eqb j (wroteAt (arrivals .requests) (arrivals .number) b)
+        → register-specs.Lists.member (pairAt (r .writes .known) j) (register-specs.Cluster.writesIn (planOf 16 s) t b) ≡ eqb j (wroteAt (arrivals .requests) (arrivals .number) b)
     unfolding wroteAt
     wrote b j lb lj =
-        wrote-last s A (r .writes .known) (r .writes .begun) (R .writes) t b number latest j lj
+        script-laws.Knowing.wrote-last s A (r .writes .known) (r .writes .begun) (R .writes) t b number latest j lj
         ∙ rw (comes .requests .each 0 (omega arith), comes .last, requested .writes t b (omega arith) (omega arith) lb)
 
-    asks : (b : ℕ) (q : Read) → b < planOf 16 s .n → In q (planOf 16 s .reads) → q .begun < t → t ≤ readEnd (planOf 16 s) q
-        → any (sameRead q) (readsIn (planOf 16 s) t b) ≡ asksAt (arrivals .requests) b (q .reader)
+    asks : (b : ℕ) (q : Read) → b < planOf 16 s .n → register-specs.Lists.In q (planOf 16 s .reads) → q .begun < t → t ≤ readEnd (planOf 16 s) q
+        → register-specs.Lists.any (register-specs.Reading.sameRead q) (register-specs.Cluster.readsIn (planOf 16 s) t b) ≡ asksAt (arrivals .requests) b (q .reader)
     unfolding asksAt
     asks b q lb iq begun lasts =
         let (lo, hi) = script-knows .readers q iq in
-        asked-now (planOf 16 s) (good 16 s A) t b q iq begun lasts
+        asked-now (planOf 16 s) (plan-laws.AcceptGood.good 16 s A) t b q iq begun lasts
         ∙ rw (lt-ltb (q .reader) requesters (omega arith), lt-ltb 0 (q .reader) (omega arith), comes .requests .each (q .reader) (omega arith), requested .reads t (q .reader) b (omega arith) (omega arith) lo hi lb)
 
-    live : (q : Read) → In q (planOf 16 s .reads) → q .begun < t → t ≤ readEnd (planOf 16 s) q → bit (q .reader) (arrivals .live) ≡ not (eqb (readEnd (planOf 16 s) q + 1) (t + 2 * headerOf 16 s .delta))
-    unfolding liveAt
+    live : (q : Read) → register-specs.Lists.In q (planOf 16 s .reads) → q .begun < t → t ≤ readEnd (planOf 16 s) q → calendar-specs.Bits.bit (q .reader) (arrivals .live) ≡ not (eqb (readEnd (planOf 16 s) q + 1) (t + 2 * headerOf 16 s .delta))
+    unfolding script-specs.Inputs.liveAt
     live q iq begun lasts =
         let (lo, hi) = script-knows .readers q iq in
         ap (λ (f : ℕ → Bool). f (q .reader)) (comes .live)
         ∙ rw (lt-ltb (q .reader) requesters (omega arith), lt-ltb 0 (q .reader) (omega arith), open-ends q (record { listed = iq; begun = begun; lasts = lasts }))
 
-    lasting : (q : Read) → In q (planOf 16 s .reads) → suc (q .begun) < t → t ≤ readEnd (planOf 16 s) q → bit (q .reader) (arrivals .live) ≡ true
+    lasting : (q : Read) → register-specs.Lists.In q (planOf 16 s .reads) → suc (q .begun) < t → t ≤ readEnd (planOf 16 s) q → calendar-specs.Bits.bit (q .reader) (arrivals .live) ≡ true
     unfolding planOf
     lasting q iq begun lasts = live q iq (omega arith) lasts ∙ ap not (ne-eqb (readEnd (planOf 16 s) q + 1) (t + 2 * headerOf 16 s .delta) (λ z. omega arith))
 
-    began : (q : Read) → In q (planOf 16 s .reads) → suc (q .begun) ≡ t → bit (q .reader) (arrivals .live) ≡ false
+    began : (q : Read) → register-specs.Lists.In q (planOf 16 s .reads) → suc (q .begun) ≡ t → calendar-specs.Bits.bit (q .reader) (arrivals .live) ≡ false
     unfolding planOf
-    began q iq e = live q iq (omega arith) (omega (arith, in-range 16 s A .delta-lo)) ∙ ap not (eq-eqb (readEnd (planOf 16 s) q + 1) (t + 2 * headerOf 16 s .delta) (omega arith))
+    began q iq e = live q iq (omega arith) (omega (arith, plan-laws.Accept.in-range 16 s A .delta-lo)) ∙ ap not (eq-eqb (readEnd (planOf 16 s) q + 1) (t + 2 * headerOf 16 s .delta) (omega arith))
 
     pub script-fits : Fits (planOf 16 s) t s (r .rules) (r .writes .known) (r .links) arrivals movement
     unfolding planOf isMove
@@ -158,12 +144,12 @@ module _ (s before after : List ℕ) (A : Playable 16 s) (r : Script) (R : Scrip
   later : (t : ℕ) → t < headerOf 16 s .ticks → (i q : ℕ) → i < r .rules .n → q < r .links .parties → (q ≡ i → ⊥) → (q ≡ r .rules .n → ⊥) → 1 ≤ delayAt s (r .links) t i q
   later t below i q li lq d w =
       let n : r .rules .n ≡ headerOf 16 s .n = R .rules .n in
-      rw (link-delay s A (r .links) (R .links) t i q below (omega (arith, n)) (omega (arith, R .links .parties)) (other-link (headerOf 16 s .n) i q (omega (arith, n)) d (λ z. w (z ∙ sym n))))
-      (delay-range 16 s A t i q .0)
+      rw (script-laws.Placing.link-delay s A (r .links) (R .links) t i q below (omega (arith, n)) (omega (arith, R .links .parties)) (script-laws.Messages.other-link (headerOf 16 s .n) i q (omega (arith, n)) d (λ z. w (z ∙ sym n))))
+      (plan-laws.AcceptGood.delay-range 16 s A t i q .0)
 
-  pub script-sized : (work : List ℕ) (t : ℕ) → t < headerOf 16 s .ticks → entriesEnd ≤ length work → Spanned work places → Tickable s work t (r .rules) (r .writes .known) (r .links)
+  pub script-sized : (work : List ℕ) (t : ℕ) → t < headerOf 16 s .ticks → script-specs.Forged.entriesEnd ≤ length work → calendar-specs.View.Spanned work calendar-specs.Layout.places → Tickable s work t (r .rules) (r .writes .known) (r .links)
   script-sized work t below room spans =
-      let H = in-range 16 s A in
+      let H = plan-laws.Accept.in-range 16 s A in
       record {
         room = omega arith;
         spans = spans;
@@ -173,6 +159,6 @@ module _ (s before after : List ℕ) (A : Playable 16 s) (r : Script) (R : Scrip
         pairs = R .writes .few;
         echo = omega (arith, R .rules .echo);
         reply = omega (arith, R .rules .reply);
-        linked = rw (R .rules .n) (table s A (r .links) (R .links) (suc t) below);
+        linked = rw (R .rules .n) (script-laws.Placing.table s A (r .links) (R .links) (suc t) below);
         delays = later t below;
       }

@@ -14,13 +14,8 @@ use Rattle.bits.proofs.Laws.{field-lt, field-split, field-part}
 use Rattle.register.specs.Lists.{In, tabFrom}
 use Rattle.register.proofs.Logic.{and-l, and-r, or-e}
 use Rattle.plan.specs.Header.{Header, headerOf, parties, operationAt, forgeryAt}
-use Rattle.plan.specs.Parts.{forgeryOf, isLink}
-use Rattle.plan.specs.Packed.{planOf}
-use Rattle.plan.specs.Check.{forgeryRises, forgeryStands, forgeriesStand}
-use Rattle.plan.proofs.Tests.{all-at}
-use Rattle.plan.specs.Playable.{Playable}
-use Rattle.plan.proofs.AcceptReads.{read-stands}
-use Rattle.plan.proofs.AcceptForgeries.{ForgedVote, ForgedReply, placed-below, forger-placed, forged-below, forged-to}
+use Rattle.plan.specs as plan-specs
+use Rattle.plan.proofs as plan-laws
 use Rattle.serving.specs.declared.Links.{Links}
 use Rattle.script.specs.Forged.{forgedBits, Reach}
 use Rattle.script.specs.Script.{LinksOf, messageOf}
@@ -33,36 +28,36 @@ tabFrom-in a (suc n) g zero l = inl (ap g (omega arith))
 tabFrom-in a (suc n) g (suc i) l = let e : a + suc i ≡ suc a + i = omega arith in inr (rw e (tabFrom-in (suc a) n g i (omega arith)))
 
 -- links from a server
-pub other-link : (n i b : ℕ) → i < n → (b ≡ i → ⊥) → (b ≡ n → ⊥) → T (isLink n i b)
-unfolding isLink
+pub other-link : (n i b : ℕ) → i < n → (b ≡ i → ⊥) → (b ≡ n → ⊥) → T (plan-specs.Parts.isLink n i b)
+unfolding plan-specs.Parts.isLink
 other-link n i b l d e = rw (lt-ltb i n l, ne-eqb i b (λ z. d (sym z)), ne-eqb b n e) tt
 
-module _ (s : List ℕ) (A : Playable 16 s) where
-  servers : planOf 16 s .n ≡ headerOf 16 s .n
-  unfolding planOf
+module _ (s : List ℕ) (A : plan-specs.Playable.Playable 16 s) where
+  servers : plan-specs.Packed.planOf 16 s .n ≡ headerOf 16 s .n
+  unfolding plan-specs.Packed.planOf
   servers = refl
 
-  pub listed : (e : ℕ) → e < headerOf 16 s .forgeries → In (messageOf s e) (planOf 16 s .forged)
-  unfolding planOf
-  listed e l = let z : 0 + e ≡ e = omega arith in rw z at (tabFrom-in 0 (headerOf 16 s .forgeries) (forgeryOf 16 s (headerOf 16 s)) e l)
+  pub listed : (e : ℕ) → e < headerOf 16 s .forgeries → In (messageOf s e) (plan-specs.Packed.planOf 16 s .forged)
+  unfolding plan-specs.Packed.planOf
+  listed e l = let z : 0 + e ≡ e = omega arith in rw z at (tabFrom-in 0 (headerOf 16 s .forgeries) (plan-specs.Parts.forgeryOf 16 s (headerOf 16 s)) e l)
 
   module _ (e : ℕ) (l : e < headerOf 16 s .forgeries) where
     pub sent-below : messageOf s e .at < headerOf 16 s .ticks
-    sent-below = forged-below 16 s A (messageOf s e) (listed e l)
+    sent-below = plan-laws.AcceptForgeries.forged-below 16 s A (messageOf s e) (listed e l)
 
     pub sender-below : messageOf s e .from < headerOf 16 s .n
-    sender-below = placed-below 16 s (messageOf s e .at / headerOf 16 s .period) (messageOf s e .from) (forger-placed 16 s A (messageOf s e) (listed e l))
+    sender-below = plan-laws.AcceptForgeries.placed-below 16 s (messageOf s e .at / headerOf 16 s .period) (messageOf s e .from) (plan-laws.AcceptForgeries.forger-placed 16 s A (messageOf s e) (listed e l))
 
     -- it goes to another server or to a reader
-    pub on-link : (messageOf s e .to < parties (headerOf 16 s)) × T (isLink (headerOf 16 s .n) (messageOf s e .from) (messageOf s e .to))
-    on-link = go (forged-to 16 s A (messageOf s e) (listed e l))
+    pub on-link : (messageOf s e .to < parties (headerOf 16 s)) × T (plan-specs.Parts.isLink (headerOf 16 s .n) (messageOf s e .from) (messageOf s e .to))
+    on-link = go (plan-laws.AcceptForgeries.forged-to 16 s A (messageOf s e) (listed e l))
       where
-        go : ForgedVote (planOf 16 s) (messageOf s e) ⊎ ForgedReply (planOf 16 s) (messageOf s e)
-            → (messageOf s e .to < parties (headerOf 16 s)) × T (isLink (headerOf 16 s .n) (messageOf s e .from) (messageOf s e .to))
+        go : plan-laws.AcceptForgeries.ForgedVote (plan-specs.Packed.planOf 16 s) (messageOf s e) ⊎ plan-laws.AcceptForgeries.ForgedReply (plan-specs.Packed.planOf 16 s) (messageOf s e)
+            → (messageOf s e .to < parties (headerOf 16 s)) × T (plan-specs.Parts.isLink (headerOf 16 s .n) (messageOf s e .from) (messageOf s e .to))
         go (inl v) =
             (omega (arith, v .to-server, servers), other-link (headerOf 16 s .n) (messageOf s e .from) (messageOf s e .to) sender-below (v .to-other) (λ z. omega (arith, v .to-server, servers)))
         go (inr r) =
-            let S = read-stands 16 s A (r .read) (r .listed) in (
+            let S = plan-laws.AcceptReads.read-stands 16 s A (r .read) (r .listed) in (
               omega (arith, r .to-reader, S .reader-hi, servers),
               other-link (headerOf 16 s .n) (messageOf s e .from) (messageOf s e .to) sender-below
                   (λ z. omega (arith, r .to-reader, sender-below, servers)) (λ z. omega (arith, r .to-reader, S .reader-lo, servers)),
@@ -75,10 +70,10 @@ module _ (s : List ℕ) (A : Playable 16 s) where
 
   -- 'Forgeries strictly rise as 40-bit numbers', and so their ticks do not fall
   next-rises : (e : ℕ) → suc e < headerOf 16 s .forgeries → messageOf s e .at ≤ messageOf s (suc e) .at
-  unfolding forgeriesStand forgeryStands forgeryRises forgeryOf
+  unfolding plan-specs.Check.forgeriesStand plan-specs.Check.forgeryStands plan-specs.Check.forgeryRises plan-specs.Parts.forgeryOf
   next-rises e l =
       let h : Header = headerOf 16 s in
-      let t = all-at (h .forgeries) (forgeryStands 16 s h) (A .forgeries) (suc e) l in
+      let t = plan-laws.Tests.all-at (h .forgeries) (plan-specs.Check.forgeryStands 16 s h) (A .forgeries) (suc e) l in
       let rises : T (eqb (suc e) 0 || ltb (fieldOf s (forgeryAt 16 h (suc e - 1)) 40) (fieldOf s (forgeryAt 16 h (suc e)) 40)) = search (and-l, and-r) in
       let z : suc e - 1 ≡ e = omega arith in
       elim (or-e (eqb (suc e) 0) (ltb (fieldOf s (forgeryAt 16 h e) 40) (fieldOf s (forgeryAt 16 h (suc e)) 40)) (rw z at rises)) [
@@ -119,7 +114,7 @@ part-bits s at x =
 -- the forged part has the messages
 pub part-message : (s part : List ℕ) (at e : ℕ) → part ≡ drop (at / 8) s → at ≡ operationAt 16 (headerOf 16 s) (headerOf 16 s .operations)
     → forgedBits part (at % 8 + 40 * e) ≡ messageOf s e
-unfolding forgeryOf
+unfolding plan-specs.Parts.forgeryOf
 part-message s part at e q z =
     let y : at + 40 * e + 32 ≡ at + 40 * e + 16 + 16 = omega arith in
     rw (q, part-bits s at (40 * e), y, z)

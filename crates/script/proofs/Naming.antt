@@ -11,14 +11,12 @@ use borrow.Author.Tests.{lt-ltb, eq-eqb}
 use Rattle.register.specs.Lists.{tab, any, anyUpTo}
 use Rattle.register.specs.Plan.{Forgery, stamped, valueOf, numberOf}
 use Rattle.register.proofs.Logic.{T-iff, and-r, eqb-comm}
-use Rattle.register.proofs.Lists.{any-in, in-any, in-tabFrom}
-use Rattle.register.proofs.Counting.{anyUpTo-e, anyUpTo-i, any-cong}
+use Rattle.register.proofs as register-laws
 use Rattle.plan.specs.Header.{headerOf}
 use Rattle.plan.specs.Packed.{planOf}
 use Rattle.register.proofs.Stamped.{value-stamped, number-stamped, stamped-back}
-use Rattle.cluster.specs.declared.Known.{Known}
+use Rattle.cluster.specs as cluster-specs
 use Rattle.states.specs.Way.{forgedAs}
-use Rattle.cluster.specs.Inputs.{pairAt}
 use Rattle.script.specs.Forged.{entryAt, numberIn, Entry}
 use Rattle.script.specs.Script.{messageOf, messageDelay, messageNumber}
 use Rattle.script.proofs.Messages.{tabFrom-in}
@@ -29,15 +27,15 @@ any-tab n G F = T-iff _ _ to from
   where
     to : T (any F (tab n G)) → T (anyUpTo n (λ e. F (G e)))
     to y =
-        let (g, ig, fg) = any-in F (tab n G) y in
-        let (e, le, ee) = in-tabFrom g 0 n G ig in
-        anyUpTo-i n (λ e. F (G e)) e (omega arith) (rw ee at fg)
+        let (g, ig, fg) = register-laws.Lists.any-in F (tab n G) y in
+        let (e, le, ee) = register-laws.Lists.in-tabFrom g 0 n G ig in
+        register-laws.Counting.anyUpTo-i n (λ e. F (G e)) e (omega arith) (rw ee at fg)
 
     from : T (anyUpTo n (λ e. F (G e))) → T (any F (tab n G))
     from y =
-        let (e, l, t) = anyUpTo-e n (λ e. F (G e)) y in
+        let (e, l, t) = register-laws.Counting.anyUpTo-e n (λ e. F (G e)) y in
         let z : 0 + e ≡ e = omega arith in
-        in-any F (G e) (tab n G) (rw z at (tabFrom-in 0 n G e l)) t
+        register-laws.Lists.in-any F (G e) (tab n G) (rw z at (tabFrom-in 0 n G e l)) t
 
 -- a pair is known by its number
 module _ (values : List ℕ) (m : ℕ) (few : m ≤ 65) (small : (j : ℕ) → getD values j 0 < 65536) where
@@ -64,9 +62,9 @@ module _ (values : List ℕ) (m : ℕ) (few : m ≤ 65) (small : (j : ℕ) → g
           rw (e, v, stamped-back 16 p) (eqb-refl p)
 
 -- the entries of a plan's forged messages
-module _ (s : List ℕ) (known : Known) (few : known .m ≤ 65) (small : (j : ℕ) → getD (known .values) j 0 < 65536) (work : List ℕ)
+module _ (s : List ℕ) (known : cluster-specs.declared.Known.Known) (few : known .m ≤ 65) (small : (j : ℕ) → getD (known .values) j 0 < 65536) (work : List ℕ)
     (E : (e : ℕ) → e < headerOf 16 s .forgeries → Entry work e (messageOf s e) (messageDelay s e) (messageNumber s (known .values) (known .m) e)) where
-  number-turned : (e j : ℕ) → e < headerOf 16 s .forgeries → j < known .m → eqb (messageOf s e .pair) (pairAt known j) ≡ eqb j (entryAt work e 4)
+  number-turned : (e j : ℕ) → e < headerOf 16 s .forgeries → j < known .m → eqb (messageOf s e .pair) (cluster-specs.Inputs.pairAt known j) ≡ eqb j (entryAt work e 4)
   number-turned e j l h = rw (E e l .known) (known-number (known .values) (known .m) few small (messageOf s e .pair) j h)
 
   sender-turned : (e i : ℕ) → e < headerOf 16 s .forgeries → eqb (messageOf s e .from) i ≡ eqb i (entryAt work e 3)
@@ -82,11 +80,11 @@ module _ (s : List ℕ) (known : Known) (few : known .m ≤ 65) (small : (j : �
 
   module _ (t u q j i : ℕ) (known-pair : j < known .m) where
     abbrev says : Forgery → Bool
-    says x = eqb (x .at) t && forgedAs (planOf 16 s) u q (pairAt known j) i x
+    says x = eqb (x .at) t && forgedAs (planOf 16 s) u q (cluster-specs.Inputs.pairAt known j) i x
 
     says-entry : (e : ℕ) → e < headerOf 16 s .forgeries → says (messageOf s e) ≡ entryAs t u q j i e
     says-entry e l = rw (E e l .sent, E e l .arrival, E e l .receiver, ← sender-turned e i l, ← number-turned e j l known-pair)
 
     pub messages-named : any says (planOf 16 s .forged) ≡ anyUpTo (headerOf 16 s .forgeries) (entryAs t u q j i)
     unfolding planOf
-    messages-named = any-tab nf (messageOf s) says ∙ any-cong nf _ (entryAs t u q j i) says-entry
+    messages-named = any-tab nf (messageOf s) says ∙ register-laws.Counting.any-cong nf _ (entryAs t u q j i) says-entry

@@ -13,15 +13,13 @@ use Rattle.register.proofs.Logic.{T-eq}
 use Rattle.plan.specs.Header.{headerOf, moves, parties, bitLength}
 use Rattle.plan.specs.Parts.{operationOf, operationsOf, delayOf, isLink, writesFrom, readsFrom}
 use Rattle.plan.specs.Packed.{planOf}
-use Rattle.plan.proofs.Laws.{moves-few}
+use Rattle.plan.proofs as plan-laws
 use Rattle.plan.specs.Playable.{Playable}
 use Rattle.plan.proofs.Accept.{in-range, exact}
-use Rattle.plan.proofs.AcceptWrites.{few-writes}
 use Rattle.serving.specs.declared.Links.{Links}
 use Rattle.serving.specs.Links.{linkBit, delayAt, Linked}
-use Rattle.script.specs.Forged.{Reach}
+use Rattle.script.specs as script-specs
 use Rattle.script.specs.Operations.{opAt, Room}
-use Rattle.script.specs.Script.{LinksOf}
 
 module _ (s : List ℕ) (A : Playable 16 s) where
   -- all the plan's bits are there
@@ -32,7 +30,7 @@ module _ (s : List ℕ) (A : Playable 16 s) where
   unfolding moves
   few-moves =
       let H = in-range 16 s A in
-      omega (arith, moves-few (headerOf 16 s .ticks) (headerOf 16 s .period) (omega (arith, H .delta-lo, H .period-lo)), H .ticks-hi)
+      omega (arith, plan-laws.Laws.moves-few (headerOf 16 s .ticks) (headerOf 16 s .period) (omega (arith, H .delta-lo, H .period-lo)), H .ticks-hi)
 
   -- the first bit of the operations
   abbrev pub operationsAt : ℕ
@@ -51,7 +49,7 @@ module _ (s : List ℕ) (A : Playable 16 s) where
     inside = omega (arith, bits-inside);
     start = omega (arith, few-moves);
     few = in-range 16 s A .operations-hi;
-    writes = rw (← writes-there) (few-writes 16 s A);
+    writes = rw (← writes-there) (plan-laws.AcceptWrites.few-writes 16 s A);
   }
 
   -- the placement of a movement below H
@@ -64,7 +62,7 @@ module _ (s : List ℕ) (A : Playable 16 s) where
       let below : t / p < moves (headerOf 16 s) = le-div-iff-mul-le {x = suc (t / p)} {y = headerOf 16 s .ticks + (p - 1)} some .1 (omega (arith, div-mul-le-self t p)) in
       omega (arith, bits-inside)
 
-  module _ (links : Links) (L : LinksOf (headerOf 16 s) links) where
+  module _ (links : Links) (L : script-specs.Script.LinksOf (headerOf 16 s) links) where
     -- the delays of all ticks below t
     pub table : (t : ℕ) → t ≤ headerOf 16 s .ticks → Linked s links (headerOf 16 s .n) t
     table t l =
@@ -88,7 +86,7 @@ module _ (s : List ℕ) (A : Playable 16 s) where
 
 -- a delay of a tick before t
 pub reach : (plan : List ℕ) (links : Links) (n t : ℕ) → Linked plan links n t → (u i b : ℕ) → u < t → i < links .parties → b < links .parties
-    → Reach plan links n u i b
+    → script-specs.Forged.Reach plan links n u i b
 reach plan links n t T u i b h k l =
     let p = links .parties in
     let next : u + 1 ≤ t = omega arith in

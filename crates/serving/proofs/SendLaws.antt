@@ -8,17 +8,14 @@ use native.Mathlib.Omega.{arith}
 use lib.Dec.{eqb, leb, ltb}
 use lib.ListN.{length, getD}
 use borrow.Author.Tests.{lt-ltb, le-ltb, le-leb, lt-leb, eq-eqb, ne-eqb, eqb-true, ltb-true, ltb-false}
-use Rattle.calendar.specs.declared.Sending.{Sending}
-use Rattle.calendar.specs.declared.Stamped.{Stamped}
+use Rattle.calendar.specs as calendar-specs
 use Rattle.calendar.specs.Bits.{bit}
 use Rattle.calendar.specs.Layout.{receivers, rows, places, rowOf}
 use Rattle.calendar.specs.View.{Posted}
 use Rattle.calendar.specs.Posts.{Messages, inRow, among, dueIn, toOthers, arrivalOf, Sent}
-use Rattle.calendar.proofs.Laws.{ltb-more, bit-zero}
+use Rattle.calendar.proofs as calendar-laws
 use Rattle.calendar.proofs.Posting.{posted-eq, posted-trans, posted-none}
-use Rattle.calendar.proofs.Stores.{same-row}
-use Rattle.serving.specs.declared.Links.{Links}
-use Rattle.serving.specs.declared.Row.{Row}
+use Rattle.serving.specs as serving-specs
 use Rattle.serving.specs.Links.{linkBit, Linked}
 use Rattle.serving.specs.Sends.{reaches, sendsVote, sendsReply, sends}
 use Rattle.serving.proofs.BitLaws.{bit-test}
@@ -31,11 +28,11 @@ row-small u p h l = mul-le-mul {n₂ = 127} {m₂ = 24} (omega arith) l
 pub links-small : (u p i : ℕ) → u < 128 → p ≤ 24 → i < p → (u * p + i) * p ≤ 73704
 links-small u p i h l k = mul-le-mul {n₂ = 3071} {m₂ = 24} (omega (arith, row-small u p h l)) l
 
-pub link-at : (links : Links) (u i b : ℕ) → linkBit links u i 0 + 4 * b ≡ linkBit links u i b
+pub link-at : (links : serving-specs.declared.Links.Links) (u i b : ℕ) → linkBit links u i 0 + 4 * b ≡ linkBit links u i b
 unfolding linkBit
 link-at links u i b = omega arith
 
-module _ (plan : List ℕ) (links : Links) (n u : ℕ) (L : Linked plan links n (u + 1)) where
+module _ (plan : List ℕ) (links : serving-specs.declared.Links.Links) (n u : ℕ) (L : Linked plan links n (u + 1)) where
   pub parties-few : links .parties ≤ 24
   parties-few = omega (arith, L .servers, L .readers)
 
@@ -51,7 +48,7 @@ module _ (plan : List ℕ) (links : Links) (n u : ℕ) (L : Linked plan links n 
       let m : (u * p + (i + 1)) * p ≤ (u * p + p) * p = mul-le-mul {n₂ = u * p + p} {m₂ = p} (omega arith) (omega arith) in
       omega (arith, m, L .inside)
 
-module _ (plan : List ℕ) (links : Links) (n t : ℕ) (ends : List ℕ) (i : ℕ) (row : Row) where
+module _ (plan : List ℕ) (links : serving-specs.declared.Links.Links) (n t : ℕ) (ends : List ℕ) (i : ℕ) (row : serving-specs.declared.Row.Row) where
   -- ---- its votes
 
   -- the messages with the pairs of P to the servers but itself
@@ -59,7 +56,7 @@ module _ (plan : List ℕ) (links : Links) (n t : ℕ) (ends : List ℕ) (i : �
   to-servers P x j k =
       eqb k i && (ltb (x % receivers) n && (not (eqb (x % receivers) i) && (eqb (reaches plan links n t ends i row (x % receivers) % 16) (x / receivers) && P j)))
 
-  others-sent : (s : Sending) (P : ℕ → Bool) → Sent plan (linkBit links t i 0) n t i s → (x j k : ℕ) → toOthers s P x j k ≡ to-servers P x j k
+  others-sent : (s : calendar-specs.declared.Sending.Sending) (P : ℕ → Bool) → Sent plan (linkBit links t i 0) n t i s → (x j k : ℕ) → toOthers s P x j k ≡ to-servers P x j k
   unfolding dueIn to-servers
   others-sent s P S x j k = named (s .n) (s .sender) (S .servers) (S .sender)
     where
@@ -83,7 +80,7 @@ module _ (plan : List ℕ) (links : Links) (n t : ℕ) (ends : List ℕ) (i : �
           ≡ eqb k i && (ltb (x % receivers) n && (not (eqb (x % receivers) i) && (eqb (reaches plan links n t ends i row (x % receivers) % 16) (x / receivers) && P j)))
       named m f p q = rw (p, q) (go (ltb (x % receivers) n) refl)
 
-  module _ (s : Sending) (S : Sent plan (linkBit links t i 0) n t i s) (a b : List ℕ) (A : Posted a b (toOthers s (λ y. eqb y (row .wrote)))) where
+  module _ (s : calendar-specs.declared.Sending.Sending) (S : Sent plan (linkBit links t i 0) n t i s) (a b : List ℕ) (A : Posted a b (toOthers s (λ y. eqb y (row .wrote)))) where
     pub votes-plain : row .echoed ≡ false → Posted a b (λ x j k. eqb k i && sendsVote plan links n t ends i row x j)
     unfolding sendsVote to-servers
     votes-plain e =
@@ -138,7 +135,7 @@ module _ (plan : List ℕ) (links : Links) (n t : ℕ) (ends : List ℕ) (i : �
       posted-eq a w _ _ (posted-trans a r w _ _ A B)
       (λ x j k l m.
       let p : 15 + (y + 1) ≡ 15 + y + 1 = omega arith in
-      rw (e x j k l, p) (ltb-more (x % receivers) (15 + y) (eqb k i && sendsReply plan links n t ends i row x j)))
+      rw (e x j k l, p) (calendar-laws.Laws.ltb-more (x % receivers) (15 + y) (eqb k i && sendsReply plan links n t ends i row x j)))
 
   -- one more reader, who gets nothing
   pub replies-none : (a r : List ℕ) (y : ℕ) → Posted a r (repliesBelow y)
@@ -167,7 +164,7 @@ module _ (plan : List ℕ) (links : Links) (n t : ℕ) (ends : List ℕ) (i : �
     pub replies-sent : (w : List ℕ) → y < 5 → row .readers / 2 ^ y % 2 ≡ 1 → n + y < links .parties
         → reaches plan links n t ends i row (n + y) ≤ getD ends (y - 1) 0
         → Posted r w (inRow (rowOf (reaches plan links n t ends i row (n + y)) (15 + y)) i (among (row .kept))) → Posted a w (repliesBelow (y + 1))
-    replies-sent w g u p l B = replies-more a r w y _ A B (λ x j k m. rw (same-row x at (15 + y) m (omega arith)) (go x j (eqb k i) (eqb (x % receivers) (15 + y)) refl))
+    replies-sent w g u p l B = replies-more a r w y _ A B (λ x j k m. rw (calendar-laws.Stores.same-row x at (15 + y) m (omega arith)) (go x j (eqb k i) (eqb (x % receivers) (15 + y)) refl))
       where
         e : bit y (row .readers) ≡ true
         e = sym (bit-test y (row .readers)) ∙ eq-eqb (row .readers / 2 ^ y % 2) 1 u
@@ -215,13 +212,13 @@ module _ (plan : List ℕ) (links : Links) (n t : ℕ) (ends : List ℕ) (i : �
   pub replies-nobody : (a : List ℕ) → row .readers ≡ 0 → Posted a a (λ x j k. eqb k i && sendsReply plan links n t ends i row x j)
   unfolding sendsReply
   replies-nobody a e =
-      posted-none a _ (λ x j k l m. rw (e, bit-zero (x % receivers - 15), and-false (leb 16 (x % receivers))) (and-false (eqb k i)))
+      posted-none a _ (λ x j k l m. rw (e, calendar-laws.Laws.bit-zero (x % receivers - 15), and-false (leb 16 (x % receivers))) (and-false (eqb k i)))
 
 -- a row of which only the replies matter
-abbrev pub replying : ℕ → List Stamped → Row
+abbrev pub replying : ℕ → List calendar-specs.declared.Stamped.Stamped → serving-specs.declared.Row.Row
 replying readers kept = record { wrote = 0; echoed = false; readers = readers; kept = kept }
 
-module _ (plan : List ℕ) (links : Links) (n t : ℕ) (ends : List ℕ) (i : ℕ) (row : Row) where
+module _ (plan : List ℕ) (links : serving-specs.declared.Links.Links) (n t : ℕ) (ends : List ℕ) (i : ℕ) (row : serving-specs.declared.Row.Row) where
   pub replies-last : (a r : List ℕ) → Posted a r (repliesBelow plan links n t ends i (replying (row .readers) (row .kept)) 5)
       → Posted a r (λ x j k. eqb k i && sendsReply plan links n t ends i row x j)
   unfolding sendsReply

@@ -13,8 +13,7 @@ use lib.Count.{ones}
 use borrow.Author.Tests.{lt-ltb, le-leb, lt-leb}
 use Rattle.register.specs.Lists.{count, sameList}
 use Rattle.register.specs.Server.{Status, faulty, cured, correct, isFaulty, isCorrect, curedAt, insert}
-use Rattle.register.proofs.Logic.{cond-ap}
-use Rattle.register.proofs.Counting.{count-none}
+use Rattle.register.proofs as register-laws
 use Rattle.calendar.specs.Bits.{bit}
 use Rattle.calendar.specs.Layout.{depth, sender}
 use Rattle.calendar.proofs.Laws.{bit-zero, bit-or}
@@ -43,10 +42,10 @@ pub unvoted : (e r f o : ℕ) → 1 ≤ e → 1 ≤ r → f ≡ 0 → o ≡ 0 �
 unvoted e r f o he hr ef eo = rw (ef, eo) (go (count (λ i. bit i 0) 16) (count (λ i. bit i 0 || bit i 0) 16) none either)
   where
     none : count (λ i. bit i 0) 16 ≡ 0
-    none = ap (λ (p : ℕ → Bool). count p 16) zero-set ∙ count-none 16
+    none = ap (λ (p : ℕ → Bool). count p 16) zero-set ∙ register-laws.Counting.count-none 16
 
     either : count (λ i. bit i 0 || bit i 0) 16 ≡ 0
-    either = ap (λ (p : ℕ → Bool). count p 16) (fun-ext (λ i. rw (bit-zero i))) ∙ count-none 16
+    either = ap (λ (p : ℕ → Bool). count p 16) (fun-ext (λ i. rw (bit-zero i))) ∙ register-laws.Counting.count-none 16
 
     go : (x y : ℕ) → x ≡ 0 → y ≡ 0 → false ≡ leb e x || leb r y
     go x y a b = rw (lt-leb e x (omega arith), lt-leb r y (omega arith))
@@ -83,7 +82,7 @@ pub pending-law : (p l a : ℕ) → _≡_ {A = ℕ → Bool} (λ x. bit x (bitOr
 pending-law p l a = fun-ext (λ x. rw (bit-or x (bitAnd p l) a, bit-and x p l))
 
 pub write-kept : (m w : ℕ) (s : Plain) → withWrite m w s .kept ≡ cond (ltb w m) (take depth (insert w (s .kept))) (s .kept)
-write-kept m w s = cond-ap (λ (x : Plain). x .kept) (ltb w m) (written w s) s
+write-kept m w s = register-laws.Logic.cond-ap (λ (x : Plain). x .kept) (ltb w m) (written w s) s
 
 pub delivered-law : (m : ℕ) (c : ℕ → Bool) (w : ℕ) (votes : ℕ → ℕ → Bool) (asks live : ℕ → Bool) (s : Plain) (first kept : List ℕ) (pend readers : ℕ → Bool)
     → first ≡ cond (ltb w m) (take depth (insert w (s .kept))) (s .kept) → kept ≡ taken c m first

@@ -14,8 +14,7 @@ use lib.Seq.{take-all, take-at, length-take-le, take-suc-set, drop-set-lt, drop-
 use borrow.Author.Tests.{lt-ltb, le-ltb, le-leb, lt-leb, eq-eqb, ne-eqb}
 use Rattle.register.specs.Lists.{any, anyUpTo, member, sameList}
 use Rattle.register.specs.Server.{insert}
-use Rattle.register.proofs.Counting.{anyUpTo-i}
-use Rattle.register.proofs.Logic.{T-eq, eqb-comm}
+use Rattle.register.proofs as register-laws
 use Rattle.calendar.specs.declared.Stamped.{Stamped}
 use Rattle.calendar.specs.Layout.{depth}
 use Rattle.calendar.specs.Posts.{vacant, amongFirst, among}
@@ -36,7 +35,7 @@ take-keys (suc n) (p ∷ ps) = cut (p .kept) n (p .number) (keys ps) ∙ rw (tak
 pub among-keys : (ps : List Stamped) (j : ℕ) → among ps j ≡ member j (keys ps)
 unfolding amongFirst keys any
 among-keys [] j = refl
-among-keys (p ∷ ps) j = rw (among-keys ps j, eqb-comm j (p .number)) (go (p .kept))
+among-keys (p ∷ ps) j = rw (among-keys ps j, register-laws.Logic.eqb-comm j (p .number)) (go (p .kept))
   where
     go : (c : Bool) → c && (eqb (p .number) j || member j (keys ps)) ≡ member j (cond c (p .number ∷ keys ps) [])
     go true = refl
@@ -220,7 +219,7 @@ module _ (p : Stamped) (is : p .kept ≡ true) where
 -- one of some pairs is
 module _ (l : List ℕ) (low : ℕ) where
   pub some-new : (high j : ℕ) → low ≤ j → j < high → isNew j l ≡ true → anyNew l low high ≡ true
-  some-new high j h k e = T-eq (anyNew l low high) (anyUpTo-i high (λ i. leb low i && isNew i l) j k (rw (le-leb low j h, e) tt))
+  some-new high j h k e = register-laws.Logic.T-eq (anyNew l low high) (register-laws.Counting.anyUpTo-i high (λ i. leb low i && isNew i l) j k (rw (le-leb low j h, e) tt))
 
   abbrev pub NoneNew : ℕ → Type 0
   NoneNew high = (j : ℕ) → low ≤ j → j < high → isNew j l ≡ false

@@ -12,37 +12,28 @@ use lib.ListN.{length, getD}
 use borrow.Author.Tests.{lt-ltb, le-ltb, le-leb, lt-leb, eq-eqb}
 use Rattle.register.specs.Lists.{any, In, member}
 use Rattle.register.specs.Plan.{Plan, Read, Forgery, readEnd}
-use Rattle.register.specs.Cluster.{Log, cluster}
-use Rattle.register.specs.Server.{has}
-use Rattle.register.specs.Reading.{sameRead, notedBy}
+use Rattle.register.specs as register-specs
 use Rattle.register.proofs.Good.{Good}
 use Rattle.register.proofs.Trace.{end}
-use Rattle.calendar.specs.Bits.{bit}
+use Rattle.calendar.specs as calendar-specs
 use Rattle.calendar.specs.Layout.{rows, places, rowOf, sender}
-use Rattle.calendar.specs.Posts.{among}
-use Rattle.cluster.specs.declared.Cluster.{Cluster}
-use Rattle.cluster.specs.declared.Reader.{Reader}
-use Rattle.serving.specs.Bits.{sets}
-use Rattle.serving.specs.Stored.{both}
-use Rattle.serving.specs.Sends.{sends}
-use Rattle.cluster.specs.Inputs.{pairAt, Knows, Fits}
+use Rattle.cluster.specs as cluster-specs
+use Rattle.serving.specs as serving-specs
 use Rattle.cluster.specs.Tick.{Feed, Ticked, noReader, endsOf, present}
 use Rattle.states.specs.Way.{forgedAs, replyWay, heardWay}
 use Rattle.states.specs.State.{Open, Idle, Hears, State}
-use Rattle.states.proofs.Told.{End}
-use Rattle.states.proofs.WayLaws.{slot-past}
+use Rattle.states.proofs as states-laws
 use Rattle.states.proofs.ReplyLaws.{repliesIn, forgedNow, replies-next, heard-next, replies-first, heard-first, replies-far, replies-over}
-use Rattle.states.proofs.NotedLaws.{heard-end}
 use Rattle.states.proofs.RowLaws.{end-of, no-vote, open-or-idle, reader-receiver, reader-row, reader-slot, reply-sent}
 
 -- ---- what player does after stages 1 to 4
 
 module _ (P : Plan) (m t : ℕ) where
   -- the reads of tick t have begun: their readers wait for the end and have noted nothing; the other readers are as they were
-  pub record Begins (a r : List Reader) : Type 0 where
+  pub record Begins (a r : List cluster-specs.declared.Reader.Reader) : Type 0 where
     pub size : length r ≡ 4
     pub end : (q : Read) → In q (P .reads) → q .begun ≡ t → getD r (q .reader - 1) noReader .end ≡ readEnd P q
-    pub named : (q : Read) → In q (P .reads) → q .begun ≡ t → (j i : ℕ) → j < m → sets (getD r (q .reader - 1) noReader .named) j i ≡ false
+    pub named : (q : Read) → In q (P .reads) → q .begun ≡ t → (j i : ℕ) → j < m → serving-specs.Bits.sets (getD r (q .reader - 1) noReader .named) j i ≡ false
     pub rest : (x : ℕ) → 1 ≤ x → x ≤ 4 → ((q : Read) → In q (P .reads) → q .reader ≡ x → q .begun ≡ t → ⊥) → getD r (x - 1) noReader ≡ getD a (x - 1) noReader
 
   -- f has the forged messages of tick t: votes to servers, and replies that arrive by the end of the reader's open read
@@ -55,45 +46,45 @@ module _ (P : Plan) (m t : ℕ) where
 
 -- ---- one tick
 
-module _ (P : Plan) (G : Good P) (F : Feed) (fit : Fits P (F .t) (F .plan) (F .rules) (F .known) (F .links) (F .arrivals) (F .movement))
-    (K : Knows P (pairAt (F .known)) (F .known .m)) (c r : Cluster) (work : List ℕ) (D : Ticked F c r work (P .n))
-    (S : State P (pairAt (F .known)) (F .known .m) (F .t) c (F .work))
-    (ended : (b : ℕ) → b < P .n → End P (pairAt (F .known)) (F .known .m) (F .t) (end P (F .t) b) (both (D .outs b)))
-    (among-is : (b : ℕ) → b < P .n → (j : ℕ) → j < F .known .m → among (D .outs b .row .kept) j ≡ member (pairAt (F .known) j) (end P (F .t) b .sent .replyWith)) where
+module _ (P : Plan) (G : Good P) (F : Feed) (fit : cluster-specs.Inputs.Fits P (F .t) (F .plan) (F .rules) (F .known) (F .links) (F .arrivals) (F .movement))
+    (K : cluster-specs.Inputs.Knows P (cluster-specs.Inputs.pairAt (F .known)) (F .known .m)) (c r : cluster-specs.declared.Cluster.Cluster) (work : List ℕ) (D : Ticked F c r work (P .n))
+    (S : State P (cluster-specs.Inputs.pairAt (F .known)) (F .known .m) (F .t) c (F .work))
+    (ended : (b : ℕ) → b < P .n → states-laws.Told.End P (cluster-specs.Inputs.pairAt (F .known)) (F .known .m) (F .t) (end P (F .t) b) (serving-specs.Stored.both (D .outs b)))
+    (among-is : (b : ℕ) → b < P .n → (j : ℕ) → j < F .known .m → calendar-specs.Posts.among (D .outs b .row .kept) j ≡ member (cluster-specs.Inputs.pairAt (F .known) j) (end P (F .t) b .sent .replyWith)) where
   abbrev t : ℕ
   t = F .t
 
   abbrev g : ℕ → ℕ
-  g = pairAt (F .known)
+  g = cluster-specs.Inputs.pairAt (F .known)
 
   abbrev m : ℕ
   m = F .known .m
 
-  abbrev L : Log
-  L = cluster P t .log
+  abbrev L : register-specs.Cluster.Log
+  L = register-specs.Cluster.cluster P t .log
 
-  abbrev M : Log
-  M = cluster P (suc t) .log
+  abbrev M : register-specs.Cluster.Log
+  M = register-specs.Cluster.cluster P (suc t) .log
 
   -- the reader of a read, before and after stages 1 to 4
-  abbrev old : ℕ → Reader
+  abbrev old : ℕ → cluster-specs.declared.Reader.Reader
   old x = getD (c .readers) (x - 1) noReader
 
-  abbrev new : ℕ → Reader
+  abbrev new : ℕ → cluster-specs.declared.Reader.Reader
   new x = getD (r .readers) (x - 1) noReader
 
   module _ (x : ℕ) (lo : 1 ≤ x) (hi : x ≤ 4) where
     pub end-same : new x .end ≡ old x .end
     end-same = D .heard .each (x - 1) (omega arith) .end
 
-    named-more : (j i : ℕ) → j < m → sets (new x .named) j i ≡ sets (old x .named) j i || sender (F .work) (rowOf t (15 + x)) j i
+    named-more : (j i : ℕ) → j < m → serving-specs.Bits.sets (new x .named) j i ≡ serving-specs.Bits.sets (old x .named) j i || sender (F .work) (rowOf t (15 + x)) j i
     named-more j i h =
         let e : 16 + (x - 1) ≡ 15 + x = omega arith in
         rw e at (D .heard .each (x - 1) (omega arith) .named j i (omega (arith, K .few)))
 
   -- what a reader with an open read has noted after stages 1 to 4
   pub noted-now : (q : Read) → Open P t q → (j i : ℕ) → j < m
-      → sets (new (q .reader) .named) j i ≡ (ltb i (P .n) && (heardWay P L t q (g j) i || replyWay P L t q t (g j) i))
+      → serving-specs.Bits.sets (new (q .reader) .named) j i ≡ (ltb i (P .n) && (heardWay P L t q (g j) i || replyWay P L t q t (g j) i))
   noted-now q o j i h =
       let k = K .readers q (o .listed) in
       named-more (q .reader) (k .0) (k .1) j i h
@@ -101,19 +92,19 @@ module _ (P : Plan) (G : Good P) (F : Feed) (fit : Fits P (F .t) (F .plan) (F .r
       (sym (and-or-distrib-left (ltb i (P .n)) (heardWay P L t q (g j) i) (replyWay P L t q t (g j) i)))
 
   -- at its end, all that it has noted
-  pub noted-end : (q : Read) → In q (P .reads) → t ≡ readEnd P q → (j i : ℕ) → j < m → sets (new (q .reader) .named) j i ≡ (ltb i (P .n) && has (notedBy P q) (g j) i)
+  pub noted-end : (q : Read) → In q (P .reads) → t ≡ readEnd P q → (j i : ℕ) → j < m → serving-specs.Bits.sets (new (q .reader) .named) j i ≡ (ltb i (P .n) && register-specs.Server.has (register-specs.Reading.notedBy P q) (g j) i)
   noted-end q l e j i h =
       noted-now q (record { listed = l; begun = omega (arith, G .delta-pos); lasts = omega arith }) j i h ∙ go (decLe (P .n) i)
     where
-      go : Dec (P .n ≤ i) → (ltb i (P .n) && (heardWay P L t q (g j) i || replyWay P L t q t (g j) i)) ≡ (ltb i (P .n) && has (notedBy P q) (g j) i)
+      go : Dec (P .n ≤ i) → (ltb i (P .n) && (heardWay P L t q (g j) i || replyWay P L t q t (g j) i)) ≡ (ltb i (P .n) && register-specs.Server.has (register-specs.Reading.notedBy P q) (g j) i)
       go (yes w) = rw (le-ltb i (P .n) w)
-      go (no w) = rw (heard-end P G t q (g j) i (omega arith) e)
+      go (no w) = rw (states-laws.NotedLaws.heard-end P G t q (g j) i (omega arith) e)
 
   -- the rows of the present tick are empty
   module _ (x : ℕ) (lo : 1 ≤ x) (hi : x ≤ 4) (s : ℕ) (after : t < s) where
     stays : s < t + 16 → not (present F (P .n) (rowOf s (15 + x))) ≡ true
     unfolding present
-    stays near = rw (reader-slot s x lo hi, slot-past t s after near)
+    stays near = rw (reader-slot s x lo hi, states-laws.WayLaws.slot-past t s after near)
 
     taken : s ≡ t + 16 → not (present F (P .n) (rowOf s (15 + x))) ≡ false
     unfolding present
@@ -138,8 +129,8 @@ module _ (P : Plan) (G : Good P) (F : Feed) (fit : Fits P (F .t) (F .plan) (F .r
 
   -- what a server posts to the reader of a read
   posted : (q : Read) → In q (P .reads) → (s j i : ℕ) → t < s → s ≤ t + 16 → j < m → i < P .n
-      → sends (F .plan) (F .links) (F .rules .n) t (endsOf (c .readers)) i (D .outs i .row) (rowOf s (15 + q .reader)) j
-      ≡ leb s (old (q .reader) .end) && ((bit (q .reader) (D .outs i .row .readers) && eqb (t + P .delay t i (P .n + q .reader)) s) && member (g j) (end P t i .sent .replyWith))
+      → serving-specs.Sends.sends (F .plan) (F .links) (F .rules .n) t (endsOf (c .readers)) i (D .outs i .row) (rowOf s (15 + q .reader)) j
+      ≡ leb s (old (q .reader) .end) && ((calendar-specs.Bits.bit (q .reader) (D .outs i .row .readers) && eqb (t + P .delay t i (P .n + q .reader)) s) && member (g j) (end P t i .sent .replyWith))
   posted q l s j i a b h li =
       let k = K .readers q l in
       let f = fit .replies i q li l in
@@ -163,8 +154,8 @@ module _ (P : Plan) (G : Good P) (F : Feed) (fit : Fits P (F .t) (F .plan) (F .r
       ∙ rw (kept-open q o s j i a b h) (go (decLe (P .n) i))
     where
       go : Dec (P .n ≤ i)
-          → (ltb i (P .n) && replyWay P L t q s (g j) i) || (ltb i (P .n) && sends (F .plan) (F .links) (F .rules .n) t (endsOf (c .readers)) i (D .outs i .row) (rowOf s (15 + q .reader)) j)
-          ≡ (ltb i (P .n) && (replyWay P L t q s (g j) i || (leb s (readEnd P q) && ((any (sameRead q) (end P t i .sent .replyTo) && eqb (t + P .delay t i (P .n + q .reader)) s) && member (g j) (end P t i .sent .replyWith)))))
+          → (ltb i (P .n) && replyWay P L t q s (g j) i) || (ltb i (P .n) && serving-specs.Sends.sends (F .plan) (F .links) (F .rules .n) t (endsOf (c .readers)) i (D .outs i .row) (rowOf s (15 + q .reader)) j)
+          ≡ (ltb i (P .n) && (replyWay P L t q s (g j) i || (leb s (readEnd P q) && ((any (register-specs.Reading.sameRead q) (end P t i .sent .replyTo) && eqb (t + P .delay t i (P .n + q .reader)) s) && member (g j) (end P t i .sent .replyWith)))))
       go (yes l) = rw (le-ltb i (P .n) l)
       go (no l) =
           let li : i < P .n = omega arith in
@@ -177,7 +168,7 @@ module _ (P : Plan) (G : Good P) (F : Feed) (fit : Fits P (F .t) (F .plan) (F .r
       D .cells (rowOf s (15 + q .reader)) j i (reader-row s (q .reader) (k .0) (k .1)) (omega (arith, K .few))
       ∙ rw (kept-idle q l o s j i a b h) (go (decLe (P .n) i))
     where
-      go : Dec (P .n ≤ i) → ltb i (P .n) && sends (F .plan) (F .links) (F .rules .n) t (endsOf (c .readers)) i (D .outs i .row) (rowOf s (15 + q .reader)) j ≡ false
+      go : Dec (P .n ≤ i) → ltb i (P .n) && serving-specs.Sends.sends (F .plan) (F .links) (F .rules .n) t (endsOf (c .readers)) i (D .outs i .row) (rowOf s (15 + q .reader)) j ≡ false
       go (yes l') = rw (le-ltb i (P .n) l')
       go (no l') =
           let li : i < P .n = omega arith in
@@ -200,8 +191,8 @@ module _ (P : Plan) (G : Good P) (F : Feed) (fit : Fits P (F .t) (F .plan) (F .r
   none-begins : (x : ℕ) → Idle P (suc t) x → (p : Read) → In p (P .reads) → p .reader ≡ x → p .begun ≡ t → ⊥
   none-begins x o p i e a = omega (arith, o p i e (omega arith))
 
-  module _ (after : List Reader) (B : Begins P m t (r .readers) after) where
-    abbrev last : ℕ → Reader
+  module _ (after : List cluster-specs.declared.Reader.Reader) (B : Begins P m t (r .readers) after) where
+    abbrev last : ℕ → cluster-specs.declared.Reader.Reader
     last x = getD after (x - 1) noReader
 
     -- a reader with no open read takes nothing that is sent now
@@ -223,7 +214,7 @@ module _ (P : Plan) (G : Good P) (F : Feed) (fit : Fits P (F .t) (F .plan) (F .r
           rw (B .rest (q .reader) (k .0) (k .1) (alone q p (omega (arith, o .lasts))), end-same (q .reader) (k .0) (k .1)) (S .readers .end q p))
     ]
 
-    hears-named : (q : Read) → Open P (suc t) q → (j i : ℕ) → j < m → sets (last (q .reader) .named) j i ≡ (ltb i (P .n) && heardWay P M (suc t) q (g j) i)
+    hears-named : (q : Read) → Open P (suc t) q → (j i : ℕ) → j < m → serving-specs.Bits.sets (last (q .reader) .named) j i ≡ (ltb i (P .n) && heardWay P M (suc t) q (g j) i)
     hears-named q o j i h = let k = K .readers q (o .listed) in elim (ℕ-discrete (q .begun) t) [
       | yes e ↦ rw (B .named q (o .listed) e j i h) (first e (decLe (P .n) i))
       | no d ↦ (let p = still-open q o (omega (arith, o .begun)) in

@@ -14,22 +14,15 @@ use Rattle.register.specs.Lists.{count, one-if, any, filter, In, member, sameLi
 use Rattle.register.specs.Plan.{Plan, Read, echoQuorum, replyQuorum, readEnd}
 use Rattle.register.specs.Server.{Status, faulty, cured, correct, isFaulty, isCorrect, curedAt, Claim, has, pairsOf, Server, nothing, Out, insert, insertAll, takeIn, quorum, votedIn, deliver, stage1, stage2}
 use Rattle.register.specs.Reading.{sameRead}
-use Rattle.register.proofs.Logic.{or-e, or-l, or-r}
+use Rattle.register.proofs as register-laws
 use Rattle.register.proofs.Lists.{in-append, in-left, in-right, in-filter, filter-in, any-in, in-any, any-append}
-use Rattle.register.proofs.Good.{Good}
-use Rattle.register.proofs.Genuine.{Genuine, genuine-cases}
-use Rattle.register.proofs.Rising.{same-map, member-map}
-use Rattle.register.proofs.Stores.{Falling}
-use Rattle.register.proofs.Claims.{quorum-named}
-use Rattle.register.proofs.Safety.{FreshSafe, OldSafe, ServerSafe, voted-genuine}
 use Rattle.serving.specs.Stored.{Plain, Both}
 use Rattle.serving.specs.Stages.{restated, silent, quorate, isNew, taken, voting, withWrite, repliesTo, delivered, deliveredOf, stageOne, stageTwo}
 use Rattle.cluster.specs.Inputs.{Knows}
 use Rattle.states.specs.State.{Votes, Rep}
 use Rattle.serving.proofs.StageLaws.{write-kept}
-use Rattle.states.proofs.Told.{Mid, Came}
+use Rattle.states.proofs as states-laws
 use Rattle.calendar.specs.Layout.{depth}
-use Rattle.states.proofs.Order.{new-number, by-number}
 use Rattle.cluster.proofs.Settled.{written-alike, new-before}
 
 -- ---- counting by masks
@@ -49,10 +42,10 @@ count-cut p n (suc k) h = go (decLe n k) (λ l. count-cut p n k l)
     go (yes l) ih = rw (le-ltb k n l) (omega (arith, ih l))
     go (no l) ih = let e : n ≡ suc k = omega arith in rw e (count-in p (suc k) (suc k) (omega arith))
 
-module _ (P : Plan) (G : Good P) (g : ℕ → ℕ) (m : ℕ) (K : Knows P g m) where
+module _ (P : Plan) (G : register-laws.Good.Good P) (g : ℕ → ℕ) (m : ℕ) (K : Knows P g m) where
   -- a genuine pair has a number
-  pub genuine-known : (t p : ℕ) → Genuine P t p → (j : ℕ) × (j < m) × (p ≡ g j)
-  genuine-known t p h = elim (genuine-cases P t p h) [
+  pub genuine-known : (t p : ℕ) → register-laws.Genuine.Genuine P t p → (j : ℕ) × (j < m) × (p ≡ g j)
+  genuine-known t p h = elim (register-laws.Genuine.genuine-cases P t p h) [
     | inl e ↦ (0, K .first .0, e ∙ K .first .1)
     | inr w ↦ (let r = K .write (w .0) (w .1) in (r .0, r .1, sym (w .2) ∙ r .2))
   ]
@@ -68,15 +61,15 @@ module _ (P : Plan) (G : Good P) (g : ℕ → ℕ) (m : ℕ) (K : Knows P g m) w
       rw (a, b)
 
   -- what is taken in, by numbers
-  kept-rep : (t c : ℕ) (x : Server) (l ws : List ℕ) (fresh : List Claim) (w : ℕ) (votes old : ℕ → ℕ → Bool) → x .kept ≡ map g l → Falling (x .kept) → length l ≤ depth
-      → ((p : ℕ) → In p ws → Genuine P t p) → ((v : Claim) → In v fresh → FreshSafe P t c v) → ((v : Claim) → In v (x .old) → OldSafe P t c v)
+  kept-rep : (t c : ℕ) (x : Server) (l ws : List ℕ) (fresh : List Claim) (w : ℕ) (votes old : ℕ → ℕ → Bool) → x .kept ≡ map g l → register-laws.Stores.Falling (x .kept) → length l ≤ depth
+      → ((p : ℕ) → In p ws → register-laws.Genuine.Genuine P t p) → ((v : Claim) → In v fresh → register-laws.Safety.FreshSafe P t c v) → ((v : Claim) → In v (x .old) → register-laws.Safety.OldSafe P t c v)
       → Votes P g m (x .kept) fresh votes → Votes P g m (x .kept) (x .old) old → ((j : ℕ) → j < m → member (g j) ws ≡ eqb j w)
       → takeIn depth (ws ++ votedIn P fresh (x .old)) (x .kept) ≡ map g (taken (voting (echoQuorum P) (replyQuorum P) votes old) m (cond (ltb w m) (take depth (insert w l)) l))
   unfolding votedIn
   kept-rep t c x l ws fresh w votes old e d few wok vok ook ev eo ew =
-      rw e (by-number g (K .rising) meant m w (ws ++ qs) l (rw e at d) few to from)
+      rw e (states-laws.Order.by-number g (K .rising) meant m w (ws ++ qs) l (rw e at d) few to from)
       ∙ ap (map g) (written-alike m w l few meant (voting (echoQuorum P) (replyQuorum P) votes old)
-      (λ j h n. let new : isNew (g j) (x .kept) ≡ true = rw (e, new-number g (K .rising) j l) n in sym (quorate-is fresh (x .old) (votes j) (old j) (g j) (λ i. ev j i h new) (λ i. eo j i h new))))
+      (λ j h n. let new : isNew (g j) (x .kept) ≡ true = rw (e, states-laws.Order.new-number g (K .rising) j l) n in sym (quorate-is fresh (x .old) (votes j) (old j) (g j) (λ i. ev j i h new) (λ i. eo j i h new))))
     where
       qs : List ℕ
       qs = filter (quorum P fresh (x .old)) (pairsOf (fresh ++ x .old))
@@ -86,25 +79,25 @@ module _ (P : Plan) (G : Good P) (g : ℕ → ℕ) (m : ℕ) (K : Knows P g m) w
       meant j = quorum P fresh (x .old) (g j)
 
       by-write : (q j : ℕ) → j < m → q ≡ g j → In q ws → T (eqb j w || meant j)
-      by-write q j h e i = or-l (eqb j w) _ (rw (ew j h) at (in-any (λ p. eqb p (g j)) q ws i (rw e (eqb-refl (g j)))))
+      by-write q j h e i = register-laws.Logic.or-l (eqb j w) _ (rw (ew j h) at (in-any (λ p. eqb p (g j)) q ws i (rw e (eqb-refl (g j)))))
 
       by-votes : (q j : ℕ) → j < m → q ≡ g j → T (quorum P fresh (x .old) q) → T (eqb j w || meant j)
-      by-votes q j h e y = or-r (eqb j w) _ (rw e at y)
+      by-votes q j h e y = register-laws.Logic.or-r (eqb j w) _ (rw e at y)
 
       to : (q : ℕ) → In q (ws ++ qs) → (j : ℕ) × (j < m) × T (eqb j w || meant j) × (q ≡ g j)
       to q i = elim (in-append q ws qs i) [
         | inl a ↦ (let k = genuine-known t q (wok q a) in (k .0, k .1, by-write q (k .0) (k .1) (k .2) a, k .2))
         | inr a ↦ (let f = in-filter (quorum P fresh (x .old)) q (pairsOf (fresh ++ x .old)) a in
-            let k = genuine-known t q (voted-genuine P G t c fresh (x .old) vok ook q (f .1)) in
+            let k = genuine-known t q (register-laws.Safety.voted-genuine P G t c fresh (x .old) vok ook q (f .1)) in
             (k .0, k .1, by-votes q (k .0) (k .1) (k .2) (f .1), k .2))
       ]
 
       from : (j : ℕ) → j < m → T (eqb j w || meant j) → In (g j) (ws ++ qs)
-      from j h y = elim (or-e (eqb j w) _ y) [
+      from j h y = elim (register-laws.Logic.or-e (eqb j w) _ y) [
         | inl a ↦ (let e : T (member (g j) ws) = rw (ew j h) a in
             let r = any-in (λ p. eqb p (g j)) ws e in
             in-left (g j) ws qs (rw (eqb→eq (r .0) (g j) (r .2)) at (r .1)))
-        | inr a ↦ in-right (g j) ws qs (filter-in (quorum P fresh (x .old)) (g j) (pairsOf (fresh ++ x .old)) (quorum-named P fresh (x .old) (g j) a) a)
+        | inr a ↦ in-right (g j) ws qs (filter-in (quorum P fresh (x .old)) (g j) (pairsOf (fresh ++ x .old)) (register-laws.Claims.quorum-named P fresh (x .old) (g j) a) a)
       ]
 
   -- ---- stage 1
@@ -123,7 +116,7 @@ module _ (P : Plan) (G : Good P) (g : ℕ → ℕ) (m : ℕ) (K : Knows P g m) w
   not-replied r false c rs hs e f = refl
 
   module _ (t : ℕ) (x : Server) (s : Plain) (ws : List ℕ) (vs : List Claim) (rs : List Read) (w : ℕ) (votes : ℕ → ℕ → Bool) (asks live : ℕ → Bool)
-      (R : Rep P g m t x s) (I : Came P g m t x ws vs rs w votes asks live) where
+      (R : Rep P g m t x s) (I : states-laws.Told.Came P g m t x ws vs rs w votes asks live) where
     -- the reads heard of
     list-rep : (r : Read) → In r (P .reads) → r .begun < t → t ≤ readEnd P r
         → any (sameRead r) (x .pending ++ rs) ≡ (s .pending (r .reader) && live (r .reader)) || asks (r .reader)
@@ -136,8 +129,8 @@ module _ (P : Plan) (G : Good P) (g : ℕ → ℕ) (m : ℕ) (K : Knows P g m) w
     unlisted : (r : Read) → In r (P .reads) → t ≤ r .begun → any (sameRead r) (x .pending ++ rs) ≡ false
     unlisted r i a = any-append (sameRead r) (x .pending) rs ∙ rw (R .unheard r i (omega arith)) (I .later r i a)
 
-    pub one-rep : (c : ℕ) → ServerSafe P t c x → ((p : ℕ) → In p ws → Genuine P t p) → ((v : Claim) → In v (x .fresh ++ vs) → FreshSafe P t c v)
-        → Mid P g m t (stage1 P x ws vs rs) (stageOne m (echoQuorum P) (replyQuorum P) w votes asks live s)
+    pub one-rep : (c : ℕ) → register-laws.Safety.ServerSafe P t c x → ((p : ℕ) → In p ws → register-laws.Genuine.Genuine P t p) → ((v : Claim) → In v (x .fresh ++ vs) → register-laws.Safety.FreshSafe P t c v)
+        → states-laws.Told.Mid P g m t (stage1 P x ws vs rs) (stageOne m (echoQuorum P) (replyQuorum P) w votes asks live s)
     unfolding stage1 stageOne deliver delivered deliveredOf any takeIn
     one-rep c ok wok vok = rw (ap isFaulty (R .status)) (go (isFaulty (s .status)) refl)
       where
@@ -169,8 +162,8 @@ module _ (P : Plan) (G : Good P) (g : ℕ → ℕ) (m : ℕ) (K : Knows P g m) w
         eqk h = eqx h ∙ ap (λ (l : List ℕ). map g (taken (voting e q votes (s .old)) m l)) (sym (write-kept m w s))
 
         was-new : isFaulty (s .status) ≡ false → (j : ℕ) → isNew (g j) kept' ≡ true → isNew (g j) (x .kept) ≡ true
-        was-new h j n = rw (R .kept, new-number g (K .rising) j (s .kept))
-            (new-before m w (s .kept) few (voting e q votes (s .old)) j (rw (eqx h, new-number g (K .rising) j _) at n))
+        was-new h j n = rw (R .kept, states-laws.Order.new-number g (K .rising) j (s .kept))
+            (new-before m w (s .kept) few (voting e q votes (s .old)) j (rw (eqx h, states-laws.Order.new-number g (K .rising) j _) at n))
 
         lst : ℕ → Bool
         lst y = (s .pending y && live y) || asks y
@@ -182,7 +175,7 @@ module _ (P : Plan) (G : Good P) (g : ℕ → ℕ) (m : ℕ) (K : Knows P g m) w
         none j h = rw (ne-eqb j 255 (λ z. omega (arith, K .few)))
 
         go : (b : Bool) → isFaulty (s .status) ≡ b
-            → Mid P g m t (cond b (record { server = x; sent = nothing }) (deliver P x ws vs rs)) (cond b (record { server = s; said = silent }) (delivered m e q w votes asks live s))
+            → states-laws.Told.Mid P g m t (cond b (record { server = x; sent = nothing }) (deliver P x ws vs rs)) (cond b (record { server = s; said = silent }) (delivered m e q w votes asks live s))
         go true h =
             let z = R .empty (rw (R .status, h) tt) in
             record {
@@ -214,7 +207,7 @@ module _ (P : Plan) (G : Good P) (g : ℕ → ℕ) (m : ℕ) (K : Knows P g m) w
               };
               sent = record {
                 votes = λ j l. I .wrote j l ∙ sym (or-false (eqb j w));
-                readers = λ r i a b. rw (R .status, eqk h, R .kept, same-map g (K .rising) (s .kept) now)
+                readers = λ r i a b. rw (R .status, eqk h, R .kept, register-laws.Rising.same-map g (K .rising) (s .kept) now)
                     (replies-rep r (isCorrect (s .status)) (sameList (s .kept) now) rs (x .pending ++ rs) asks lst (I .asking r i a b) (list-rep r i a b));
                 pairs = eqk h;
                 early = λ r i a. not-replied r (isCorrect (x .status)) (sameList (x .kept) kept') rs (x .pending ++ rs) (I .later r i a) (unlisted r i a);
@@ -225,7 +218,7 @@ module _ (P : Plan) (G : Good P) (g : ℕ → ℕ) (m : ℕ) (K : Knows P g m) w
 
   -- ---- stage 2
 
-  pub two-rep : (t : ℕ) (o : Out) (q : Both) → Mid P g m t o q → Mid P g m t (stage2 P t o) (stageTwo (P .delta) t q)
+  pub two-rep : (t : ℕ) (o : Out) (q : Both) → states-laws.Told.Mid P g m t o q → states-laws.Told.Mid P g m t (stage2 P t o) (stageTwo (P .delta) t q)
   unfolding stage2 stageTwo
   two-rep t o q M = rw (ap (curedAt (P .delta) t) (M .server .status)) (go (curedAt (P .delta) t (q .server .status)) refl)
     where
@@ -234,7 +227,7 @@ module _ (P : Plan) (G : Good P) (g : ℕ → ℕ) (m : ℕ) (K : Knows P g m) w
       free (cured c) y = tt
       free correct y = absurd y
 
-      go : (b : Bool) → curedAt (P .delta) t (q .server .status) ≡ b → Mid P g m t
+      go : (b : Bool) → curedAt (P .delta) t (q .server .status) ≡ b → states-laws.Told.Mid P g m t
           (cond b (record {
             server = record { status = correct; kept = o .server .kept; pending = o .server .pending; fresh = o .server .fresh; old = o .server .old };
             sent = record { votes = o .sent .votes; replyTo = o .server .pending; replyWith = o .server .kept };
@@ -259,7 +252,7 @@ module _ (P : Plan) (G : Good P) (g : ℕ → ℕ) (m : ℕ) (K : Knows P g m) w
               empty = λ y. absurd y;
             };
             sent = record {
-              votes = λ j l. M .sent .votes j l ∙ rw (← member-map g (K .rising) j (q .said .pairs), e, member-map g (K .rising) j (q .server .kept));
+              votes = λ j l. M .sent .votes j l ∙ rw (← register-laws.Rising.member-map g (K .rising) j (q .said .pairs), e, register-laws.Rising.member-map g (K .rising) j (q .server .kept));
               readers = λ r i a b. M .server .heard r i (omega arith) (omega arith);
               pairs = M .server .kept;
               early = λ r i a. M .server .unheard r i (omega arith);

@@ -15,10 +15,8 @@ use Rattle.register.specs.Server.{isFaulty, isCorrect, curedAt, Server, Out, de
 use Rattle.register.specs.Cluster.{Log, sentIn, readsIn, cluster}
 use Rattle.register.specs.Reading.{sameRead}
 use Rattle.register.proofs.Logic.{and-l, and-r, cond-e}
-use Rattle.register.proofs.Lists.{in-append, in-filter, any-in}
-use Rattle.register.proofs.Good.{Good}
+use Rattle.register.proofs as register-laws
 use Rattle.register.proofs.Trace.{before, delivered, mid, end, before-zero, before-suc, sent-row, row-kept}
-use Rattle.register.proofs.Stages.{end-server, end-replies}
 use Rattle.register.proofs.Counting.{any-cong, none-up}
 use Rattle.states.specs.Way.{forgedAs, replyFrom, replyWay, heardWay}
 use Rattle.states.proofs.WayLaws.{none-any, any-or, before-next}
@@ -46,12 +44,12 @@ module _ (P : Plan) where
 
 -- ---- no reply by the read's begin
 
-module _ (P : Plan) (G : Good P) where
+module _ (P : Plan) (G : register-laws.Good.Good P) where
   -- a READ arrives after its begin
   asked-later : (t b : ℕ) (q : Read) → In q (readsIn P t b) → q .begun < t
   unfolding readsIn
   asked-later t b q i =
-      let f = in-filter (λ (q : Read). eqb (q .begun + P .delay (q .begun) (P .n + q .reader) b) t) q (P .reads) i in
+      let f = register-laws.Lists.in-filter (λ (q : Read). eqb (q .begun + P .delay (q .begun) (P .n + q .reader) b) t) q (P .reads) i in
       let e = eqb→eq (q .begun + P .delay (q .begun) (P .n + q .reader) b) t (f .1) in
       omega (arith, G .delay-lo (q .begun) (P .n + q .reader) b)
 
@@ -61,7 +59,7 @@ module _ (P : Plan) (G : Good P) where
 
   module _ (t b : ℕ) (h : Past t (before P t b .pending)) where
     both-past : Past t (before P t b .pending ++ readsIn P t b)
-    both-past q i = elim (in-append q (before P t b .pending) (readsIn P t b) i) [ inl a ↦ h q a | inr a ↦ asked-later t b q a ]
+    both-past q i = elim (register-laws.Lists.in-append q (before P t b .pending) (readsIn P t b) i) [ inl a ↦ h q a | inr a ↦ asked-later t b q a ]
 
     replied-past : (a c : Bool) → Past t (cond a (cond c (readsIn P t b) (before P t b .pending ++ readsIn P t b)) [])
     replied-past true true q i = asked-later t b q i
@@ -89,7 +87,7 @@ module _ (P : Plan) (G : Good P) where
 
   end-past : (t b : ℕ) → Past t (mid P t b .server .pending) → Past t (end P t b .server .pending)
   end-past t b h =
-      rw (end-server P t b)
+      rw (register-laws.Stages.end-server P t b)
       (cond-e (λ (y : Server). Past t (y .pending)) (isMove P t) _ _ (λ f. moved-past t (P .placed (t / P .period) b) (mid P t b .server) h) (λ f. h))
 
   pending-past : (t b : ℕ) → b < P .n → Past t (before P t b .pending)
@@ -99,8 +97,8 @@ module _ (P : Plan) (G : Good P) where
   -- no reply to a read that begins now or later
   pub not-replied : (t b : ℕ) (r : Read) → b < P .n → t ≤ r .begun → any (sameRead r) (end P t b .sent .replyTo) ≡ false
   unfolding sameRead
-  not-replied t b r l h = rw (end-replies P t b .0) (never (any (sameRead r) (mid P t b .sent .replyTo)) (λ y.
-      let m = any-in (sameRead r) (mid P t b .sent .replyTo) y in
+  not-replied t b r l h = rw (register-laws.Stages.end-replies P t b .0) (never (any (sameRead r) (mid P t b .sent .replyTo)) (λ y.
+      let m = register-laws.Lists.any-in (sameRead r) (mid P t b .sent .replyTo) y in
       let e = eqb→eq (r .begun) (m .0 .begun) (and-l (eqb (r .begun) (m .0 .begun)) (eqb (r .reader) (m .0 .reader)) (m .2)) in
       omega (arith, mid-past t b (pending-past t b l) .1 (m .0) (m .1))))
 

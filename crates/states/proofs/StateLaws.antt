@@ -8,38 +8,30 @@ use native.Mathlib.Omega.{arith}
 use lib.Dec.{ltb}
 use lib.ListN.{getD}
 use borrow.Author.Tests.{le-ltb}
-use Rattle.register.specs.Lists.{any, anyUpTo, In}
+use Rattle.register.specs as register-specs
 use Rattle.register.specs.Plan.{Plan, Read, readEnd, echoQuorum, replyQuorum}
-use Rattle.register.specs.Server.{has}
-use Rattle.register.specs.Cluster.{serverOf, cluster}
-use Rattle.register.specs.Reading.{notedBy}
-use Rattle.register.proofs.Good.{Good}
-use Rattle.register.proofs.Trace.{before, before-zero}
+use Rattle.register.proofs as register-laws
 use Rattle.calendar.specs.Layout.{rows, places, rowOf, sender}
 use Rattle.calendar.specs.View.{Spanned, Empty}
 use Rattle.calendar.proofs.Spans.{empty-spanned}
-use Rattle.cluster.specs.declared.Cluster.{Cluster}
-use Rattle.cluster.specs.declared.Reader.{Reader}
-use Rattle.serving.specs.Bits.{sets}
-use Rattle.serving.specs.Stored.{server, absent}
+use Rattle.cluster.specs as cluster-specs
+use Rattle.serving.specs as serving-specs
 use Rattle.cluster.specs.Inputs.{pairAt, Knows, Fits}
 use Rattle.cluster.specs.Tick.{Feed, Ticked, Started, noReader}
-use Rattle.states.specs.Way.{forgedAs, voteWay}
-use Rattle.states.specs.State.{Open, Idle, Rep, State}
-use Rattle.cluster.specs.Settled.{Calm}
+use Rattle.states.specs as states-specs
 use Rattle.cluster.proofs.Settled.{first-settled, settled-next}
 use Rattle.states.proofs.WayLaws.{none-any}
 use Rattle.states.proofs.VoteLaws.{ended, among-is, new-server, new-votes}
 use Rattle.states.proofs.ReaderLaws.{Begins, Forges, noted-end as reader-noted, hears-next, idle-now, way-next, none-next}
 
 -- the servers are settled, so that a tick may leave alone those that nothing reaches
-pub calm : (P : Plan) (F : Feed) → Fits P (F .t) (F .plan) (F .rules) (F .known) (F .links) (F .arrivals) (F .movement) → (c : Cluster)
-    → State P (pairAt (F .known)) (F .known .m) (F .t) c (F .work) → Calm (F .rules) (F .known) (c .servers)
+pub calm : (P : Plan) (F : Feed) → Fits P (F .t) (F .plan) (F .rules) (F .known) (F .links) (F .arrivals) (F .movement) → (c : cluster-specs.declared.Cluster.Cluster)
+    → states-specs.State.State P (pairAt (F .known)) (F .known .m) (F .t) c (F .work) → cluster-specs.Settled.Calm (F .rules) (F .known) (c .servers)
 calm P F fit c S b l = rw (fit .echo, fit .reply) (S .settled b (omega (arith, fit .n)))
 
-module _ (P : Plan) (G : Good P) (F : Feed) (fit : Fits P (F .t) (F .plan) (F .rules) (F .known) (F .links) (F .arrivals) (F .movement))
-    (K : Knows P (pairAt (F .known)) (F .known .m)) (c r : Cluster) (work : List ℕ) (fed : Ticked F c r work (F .rules .n))
-    (S : State P (pairAt (F .known)) (F .known .m) (F .t) c (F .work)) where
+module _ (P : Plan) (G : register-laws.Good.Good P) (F : Feed) (fit : Fits P (F .t) (F .plan) (F .rules) (F .known) (F .links) (F .arrivals) (F .movement))
+    (K : Knows P (pairAt (F .known)) (F .known .m)) (c r : cluster-specs.declared.Cluster.Cluster) (work : List ℕ) (fed : Ticked F c r work (F .rules .n))
+    (S : states-specs.State.State P (pairAt (F .known)) (F .known .m) (F .t) c (F .work)) where
   abbrev t : ℕ
   t = F .t
 
@@ -53,27 +45,27 @@ module _ (P : Plan) (G : Good P) (F : Feed) (fit : Fits P (F .t) (F .plan) (F .r
   D = subst (λ (n : ℕ). Ticked F c r work n) (fit .n) fed
 
   -- a read that ends in this tick: its reader has noted what the definitions say
-  pub noted-end : (q : Read) → In q (P .reads) → F .t ≡ readEnd P q → (j i : ℕ) → j < F .known .m
-      → sets (getD (r .readers) (q .reader - 1) noReader .named) j i ≡ (ltb i (P .n) && has (notedBy P q) (pairAt (F .known) j) i)
+  pub noted-end : (q : Read) → register-specs.Lists.In q (P .reads) → F .t ≡ readEnd P q → (j i : ℕ) → j < F .known .m
+      → serving-specs.Bits.sets (getD (r .readers) (q .reader - 1) noReader .named) j i ≡ (ltb i (P .n) && register-specs.Server.has (register-specs.Reading.notedBy P q) (pairAt (F .known) j) i)
   noted-end = reader-noted P G F fit K c r work D S (ended P G F fit K c r work D S) (among-is P G F fit K c r work D S)
 
-  module _ (after : List Reader) (B : Begins P (F .known .m) (F .t) (r .readers) after) where
+  module _ (after : List cluster-specs.declared.Reader.Reader) (B : Begins P (F .known .m) (F .t) (r .readers) after) where
     -- once the reads of this tick have begun: the ends of the readers
-    pub end-open : (q : Read) → Open P (suc (F .t)) q → getD after (q .reader - 1) noReader .end ≡ readEnd P q
+    pub end-open : (q : Read) → states-specs.State.Open P (suc (F .t)) q → getD after (q .reader - 1) noReader .end ≡ readEnd P q
     end-open = hears-next P G F fit K c r work D S (ended P G F fit K c r work D S) (among-is P G F fit K c r work D S) after B .end
 
-    pub end-idle : (q : Read) → In q (P .reads) → Idle P (suc (F .t)) (q .reader) → getD after (q .reader - 1) noReader .end ≤ F .t
+    pub end-idle : (q : Read) → register-specs.Lists.In q (P .reads) → states-specs.State.Idle P (suc (F .t)) (q .reader) → getD after (q .reader - 1) noReader .end ≤ F .t
     end-idle = idle-now P G F fit K c r work D S (ended P G F fit K c r work D S) (among-is P G F fit K c r work D S) after B
 
   -- after stages 1 to 4 each server stands for its server
-  pub next-server : (b : ℕ) → b < P .n → Rep P (pairAt (F .known)) (F .known .m) (suc (F .t)) (serverOf (cluster P (suc (F .t))) b) (server (getD (r .servers) b absent))
+  pub next-server : (b : ℕ) → b < P .n → states-specs.State.Rep P (pairAt (F .known)) (F .known .m) (suc (F .t)) (register-specs.Cluster.serverOf (register-specs.Cluster.cluster P (suc (F .t))) b) (serving-specs.Stored.server (getD (r .servers) b serving-specs.Stored.absent))
   next-server b lb = new-server P G F fit K c r work D S b lb
 
   -- a tick of the engine is a tick of the cluster
-  pub next-state : (n : Cluster) (then : List ℕ) (f : ℕ → ℕ → ℕ → Bool) → n .servers ≡ r .servers → Begins P (F .known .m) (F .t) (r .readers) (n .readers)
+  pub next-state : (n : cluster-specs.declared.Cluster.Cluster) (then : List ℕ) (f : ℕ → ℕ → ℕ → Bool) → n .servers ≡ r .servers → Begins P (F .known .m) (F .t) (r .readers) (n .readers)
       → ((x j i : ℕ) → x < rows → j < places → sender then x j i ≡ (sender work x j i || f x j i)) → Spanned then places
       → Forges P (F .known .m) (F .t) (pairAt (F .known)) f
-      → State P (pairAt (F .known)) (F .known .m) (suc (F .t)) n then
+      → states-specs.State.State P (pairAt (F .known)) (F .known .m) (suc (F .t)) n then
   next-state n then f same B cells spans Y = record {
     servers = λ b lb. rw same (next-server b lb);
     settled = λ b lb. rw (same, ← fit .echo, ← fit .reply)
@@ -91,10 +83,10 @@ module _ (P : Plan) (G : Good P) (F : Feed) (fit : Fits P (F .t) (F .plan) (F .r
 
 -- ---- the start
 
-pub first-state : (P : Plan) (g : ℕ → ℕ) (m : ℕ) → Knows P g m → (c : Cluster) (work : List ℕ) → Started c → Empty work places → State P g m 0 c work
-unfolding has any anyUpTo before voteWay
+pub first-state : (P : Plan) (g : ℕ → ℕ) (m : ℕ) → Knows P g m → (c : cluster-specs.declared.Cluster.Cluster) (work : List ℕ) → Started c → Empty work places → states-specs.State.State P g m 0 c work
+unfolding register-specs.Server.has register-specs.Lists.any register-specs.Lists.anyUpTo register-laws.Trace.before states-specs.Way.voteWay
 first-state P g m K c work S E = record {
-  servers = λ b lb. rw (before-zero P b lb, S .each b (omega (arith, K .servers))) (record {
+  servers = λ b lb. rw (register-laws.Trace.before-zero P b lb, S .each b (omega (arith, K .servers))) (record {
     status = refl;
     kept = ap (λ (p : ℕ). p ∷ []) (K .first .1);
     short = omega arith;
@@ -108,7 +100,7 @@ first-state P g m K c work S E = record {
   calendar = record {
     votes = λ s b j i a z lb h.
         E .cells (rowOf s b) j i (omega (arith, K .servers)) (omega (arith, K .few))
-        ∙ rw (none-any (λ x. ltb (x .at) 0 && forgedAs P s b (g j) i x) (P .forged) (λ x. rw (le-ltb (x .at) 0 (omega arith)))) (nobody i);
+        ∙ rw (none-any (λ x. ltb (x .at) 0 && states-specs.Way.forgedAs P s b (g j) i x) (P .forged) (λ x. rw (le-ltb (x .at) 0 (omega arith)))) (nobody i);
     replies = λ r o. absurd (omega (arith, o .begun));
     none = λ r l o s j i a z h. let k = K .readers r l in E .cells (rowOf s (15 + r .reader)) j i (omega arith) (omega (arith, K .few));
     spans = empty-spanned work places E;

@@ -16,53 +16,38 @@ use Rattle.register.specs.Plan.{Plan, Read, Forgery, kk, echoQuorum, replyQuoru
 use Rattle.register.specs.Server.{isFaulty, Claim, has, Server, stage3, stage4}
 use Rattle.register.specs.Cluster.{sentIn, writesIn, readsIn, votesIn, serverOf, cluster}
 use Rattle.register.specs.Reading.{sameRead}
-use Rattle.register.proofs.Logic.{and-l, T-iff}
-use Rattle.register.proofs.Lists.{in-append, any-in, in-filter, in-map}
-use Rattle.register.proofs.Rising.{member-map}
-use Rattle.register.proofs.Good.{Good}
-use Rattle.register.proofs.Claims.{has-append}
-use Rattle.register.proofs.Safety.{FreshSafe, ServerSafe}
-use Rattle.register.proofs.SafetyTick.{cluster-safe, writesIn-genuine, votesIn-safe, reply-genuine}
+use Rattle.register.proofs as register-laws
 use Rattle.register.proofs.Trace.{before, delivered, mid, end, before-suc, sent-row}
-use Rattle.calendar.specs.Bits.{bit}
+use Rattle.calendar.specs as calendar-specs
 use Rattle.calendar.specs.Layout.{receivers, rows, depth, rowOf, sender}
-use Rattle.calendar.specs.Posts.{among}
 use Rattle.calendar.proofs.Spans.{row-receiver, row-slot}
-use Rattle.cluster.specs.declared.Cluster.{Cluster}
-use Rattle.serving.specs.declared.Rules.{Rules}
-use Rattle.serving.specs.Links.{delayAt}
-use Rattle.serving.specs.Sends.{votesFor, sendsVote, sendsReply, sends}
+use Rattle.cluster.specs as cluster-specs
+use Rattle.serving.specs as serving-specs
 use Rattle.serving.specs.Stored.{Plain, Both, keys, server, both, absent}
 use Rattle.serving.proofs.StoreLaws.{among-keys}
-use Rattle.states.proofs.Order.{new-number}
+use Rattle.states.proofs as states-laws
 use Rattle.serving.specs.Stages.{isNew, stageOne, stageTwo, stageFour, stagesOf}
-use Rattle.cluster.specs.Inputs.{pairAt, Knows, Fits, wroteAt, asksAt}
-use Rattle.cluster.specs.Tick.{Feed, Stepped, present, Ticked, endsOf}
 use Rattle.states.specs.Way.{forgedAs, voteWay}
 use Rattle.states.specs.State.{Votes, Rep, State}
-use Rattle.states.proofs.Told.{Mid, End, Came}
-use Rattle.states.proofs.RepLaws.{one-rep, two-rep}
-use Rattle.states.proofs.MoveLaws.{four-rep, still-rep}
-use Rattle.states.proofs.WayLaws.{votes-arrive, votes-next, votes-far, slot-is, slot-past}
 
 -- ---- what arrives
 
 -- a READ arrives after its begin
-reads-later : (P : Plan) → Good P → (t b : ℕ) (r : Read) → t ≤ r .begun → any (sameRead r) (readsIn P t b) ≡ false
+reads-later : (P : Plan) → register-laws.Good.Good P → (t b : ℕ) (r : Read) → t ≤ r .begun → any (sameRead r) (readsIn P t b) ≡ false
 unfolding readsIn sameRead
 reads-later P G t b r h = go (any (sameRead r) (readsIn P t b)) refl
   where
     go : (c : Bool) → any (sameRead r) (readsIn P t b) ≡ c → c ≡ false
     go false e = refl
     go true e =
-        let m = any-in (sameRead r) (readsIn P t b) (rw e tt) in
-        let f = in-filter (λ (q : Read). eqb (q .begun + P .delay (q .begun) (P .n + q .reader) b) t) (m .0) (P .reads) (m .1) in
+        let m = register-laws.Lists.any-in (sameRead r) (readsIn P t b) (rw e tt) in
+        let f = register-laws.Lists.in-filter (λ (q : Read). eqb (q .begun + P .delay (q .begun) (P .n + q .reader) b) t) (m .0) (P .reads) (m .1) in
         let x = eqb→eq (m .0 .begun + P .delay (m .0 .begun) (P .n + m .0 .reader) b) t (f .1) in
-        let y = eqb→eq (r .begun) (m .0 .begun) (and-l (eqb (r .begun) (m .0 .begun)) _ (m .2)) in
+        let y = eqb→eq (r .begun) (m .0 .begun) (register-laws.Logic.and-l (eqb (r .begun) (m .0 .begun)) _ (m .2)) in
         absurd (omega (arith, G .delay-lo (m .0 .begun) (P .n + m .0 .reader) b))
 
 -- the stages, with the plan's numbers for those that are fed
-stages-law : (m : ℕ) (rules : Rules) (w : ℕ) (votes : ℕ → ℕ → Bool) (asks live : ℕ → Bool) (mv mv' h h' : Bool) (t : ℕ) (s : Plain) (o : Both) (k2 : Bool) (delta e r : ℕ)
+stages-law : (m : ℕ) (rules : serving-specs.declared.Rules.Rules) (w : ℕ) (votes : ℕ → ℕ → Bool) (asks live : ℕ → Bool) (mv mv' h h' : Bool) (t : ℕ) (s : Plain) (o : Both) (k2 : Bool) (delta e r : ℕ)
     → rules .two ≡ k2 → rules .delta ≡ delta → rules .echo ≡ e → rules .reply ≡ r → mv ≡ mv' → (mv' ≡ true → h ≡ h') → o ≡ stagesOf m rules w votes asks live mv h t s
     → o ≡ cond mv' (stageFour k2 h' t (stageTwo delta t (stageOne m e r w votes asks live s))) (stageTwo delta t (stageOne m e r w votes asks live s))
 unfolding stagesOf
@@ -71,14 +56,14 @@ stages-law m rules w votes asks live mv false h h' t s o k2 delta e r a b c d f 
 
 -- ---- one tick
 
-module _ (P : Plan) (G : Good P) (F : Feed) (fit : Fits P (F .t) (F .plan) (F .rules) (F .known) (F .links) (F .arrivals) (F .movement))
-    (K : Knows P (pairAt (F .known)) (F .known .m)) (c r : Cluster) (work : List ℕ) (D : Ticked F c r work (P .n))
-    (S : State P (pairAt (F .known)) (F .known .m) (F .t) c (F .work)) where
+module _ (P : Plan) (G : register-laws.Good.Good P) (F : cluster-specs.Tick.Feed) (fit : cluster-specs.Inputs.Fits P (F .t) (F .plan) (F .rules) (F .known) (F .links) (F .arrivals) (F .movement))
+    (K : cluster-specs.Inputs.Knows P (cluster-specs.Inputs.pairAt (F .known)) (F .known .m)) (c r : cluster-specs.declared.Cluster.Cluster) (work : List ℕ) (D : cluster-specs.Tick.Ticked F c r work (P .n))
+    (S : State P (cluster-specs.Inputs.pairAt (F .known)) (F .known .m) (F .t) c (F .work)) where
   abbrev t : ℕ
   t = F .t
 
   abbrev g : ℕ → ℕ
-  g = pairAt (F .known)
+  g = cluster-specs.Inputs.pairAt (F .known)
 
   abbrev m : ℕ
   m = F .known .m
@@ -90,28 +75,28 @@ module _ (P : Plan) (G : Good P) (F : Feed) (fit : Fits P (F .t) (F .plan) (F .r
     abbrev s : Plain
     s = server (getD (c .servers) b absent)
 
-    abbrev step : Stepped (F .work) b (F .arrivals) (F .movement) (F .t) (F .rules) (F .known .m) s (both (D .outs b))
+    abbrev step : cluster-specs.Tick.Stepped (F .work) b (F .arrivals) (F .movement) (F .t) (F .rules) (F .known .m) s (both (D .outs b))
     step = D .done b lb
 
     R : Rep P g m t x s
     unfolding before
     R = S .servers b lb
 
-    ok : ServerSafe P t ((t - 1) / P .period) x
+    ok : register-laws.Safety.ServerSafe P t ((t - 1) / P .period) x
     unfolding before
-    ok = cluster-safe P G t .0 b
+    ok = register-laws.SafetyTick.cluster-safe P G t .0 b
 
     abbrev vs : List Claim
     vs = votesIn P t (cluster P t .log) b
 
     abbrev wrote : ℕ
-    wrote = wroteAt (F .arrivals .requests) (F .arrivals .number) b
+    wrote = cluster-specs.Inputs.wroteAt (F .arrivals .requests) (F .arrivals .number) b
 
     abbrev asks : ℕ → Bool
-    asks y = asksAt (F .arrivals .requests) b y
+    asks y = cluster-specs.Inputs.asksAt (F .arrivals .requests) b y
 
     abbrev live : ℕ → Bool
-    live y = bit y (F .arrivals .live)
+    live y = calendar-specs.Bits.bit y (F .arrivals .live)
 
     -- the votes that the row has are those that arrive
     arrived : (j i : ℕ) → j < m → sender (F .work) (rowOf t b) j i ≡ ltb i (P .n) && has vs (g j) i
@@ -119,14 +104,14 @@ module _ (P : Plan) (G : Good P) (F : Feed) (fit : Fits P (F .t) (F .plan) (F .r
       where
         go : Dec (P .n ≤ i) → ltb i (P .n) && voteWay P (cluster P t .log) t t b (g j) i ≡ ltb i (P .n) && has vs (g j) i
         go (yes l) = rw (le-ltb i (P .n) l)
-        go (no l) = rw (votes-arrive P G t b (g j) i (omega arith))
+        go (no l) = rw (states-laws.WayLaws.votes-arrive P G t b (g j) i (omega arith))
 
     tally : isFaulty (x .status) ≡ false → Votes P g m (x .kept) (x .fresh ++ vs) (step .votes)
     tally y j i h n =
-        step .came (sym (ap isFaulty (R .status)) ∙ y) j i (omega (arith, K .few)) (rw (R .kept, new-number g (K .rising) j (s .kept)) at n) ∙ rw (R .fresh j i h n, arrived j i h, has-append (x .fresh) vs (g j) i)
+        step .came (sym (ap isFaulty (R .status)) ∙ y) j i (omega (arith, K .few)) (rw (R .kept, states-laws.Order.new-number g (K .rising) j (s .kept)) at n) ∙ rw (R .fresh j i h n, arrived j i h, register-laws.Claims.has-append (x .fresh) vs (g j) i)
         (sym (and-or-distrib-left (ltb i (P .n)) (has (x .fresh) (g j) i) (has vs (g j) i)))
 
-    came : Came P g m t x (writesIn P t b) vs (readsIn P t b) wrote (step .votes) asks live
+    came : states-laws.Told.Came P g m t x (writesIn P t b) vs (readsIn P t b) wrote (step .votes) asks live
     came = record {
       wrote = λ j h. fit .wrote b j lb h;
       tally = tally;
@@ -136,35 +121,35 @@ module _ (P : Plan) (G : Good P) (F : Feed) (fit : Fits P (F .t) (F .plan) (F .r
       began = fit .began;
     }
 
-    fresh-safe : (v : Claim) → In v (x .fresh ++ vs) → FreshSafe P t ((t - 1) / P .period) v
-    fresh-safe v i = elim (in-append v (x .fresh) vs i) [ inl a ↦ ok .fresh v a | inr q ↦ votesIn-safe P G t (cluster P t .log) b (cluster-safe P G t .1) v q ]
+    fresh-safe : (v : Claim) → In v (x .fresh ++ vs) → register-laws.Safety.FreshSafe P t ((t - 1) / P .period) v
+    fresh-safe v i = elim (register-laws.Lists.in-append v (x .fresh) vs i) [ inl a ↦ ok .fresh v a | inr q ↦ register-laws.SafetyTick.votesIn-safe P G t (cluster P t .log) b (register-laws.SafetyTick.cluster-safe P G t .1) v q ]
 
     abbrev second : Both
     second = stageTwo (P .delta) t (stageOne m (echoQuorum P) (replyQuorum P) wrote (step .votes) asks live s)
 
-    middle : Mid P g m t (mid P t b) second
+    middle : states-laws.Told.Mid P g m t (mid P t b) second
     unfolding mid delivered
-    middle = two-rep P G g m K t _ _ (one-rep P G g m K t x s (writesIn P t b) vs (readsIn P t b) wrote (step .votes) asks live R came ((t - 1) / P .period) ok (λ p i. writesIn-genuine P G t b p i) fresh-safe)
+    middle = states-laws.RepLaws.two-rep P G g m K t _ _ (states-laws.RepLaws.one-rep P G g m K t x s (writesIn P t b) vs (readsIn P t b) wrote (step .votes) asks live R came ((t - 1) / P .period) ok (λ p i. register-laws.SafetyTick.writesIn-genuine P G t b p i) fresh-safe)
 
     -- what the server came to and sent
-    pub ended : End P g m t (end P t b) (both (D .outs b))
+    pub ended : states-laws.Told.End P g m t (end P t b) (both (D .outs b))
     unfolding end
     ended =
-        rw (stages-law m (F .rules) wrote (step .votes) asks live (F .movement .moving) (isMove P t) (bit (15 - b) (F .movement .faulty)) (P .placed (t / P .period) b) t s (both (D .outs b)) _ _ _ _
+        rw (stages-law m (F .rules) wrote (step .votes) asks live (F .movement .moving) (isMove P t) (calendar-specs.Bits.bit (15 - b) (F .movement .faulty)) (P .placed (t / P .period) b) t s (both (D .outs b)) _ _ _ _
         (fit .two) (fit .delta) (fit .echo) (fit .reply) (fit .moving) (λ y. fit .faulty y b lb) (step .stages)) (go (isMove P t) refl)
       where
-        go : (c : Bool) → isMove P t ≡ c → End P g m t (stage4 P t (stage3 P t b (mid P t b))) (cond c (stageFour (eqb (kk P) 2) (P .placed (t / P .period) b) t second) second)
-        go true e = four-rep P g (K .rising) m t b (mid P t b) second (rw e tt) middle
-        go false e = still-rep P g (K .rising) m t b (mid P t b) second (rw e tt) middle
+        go : (c : Bool) → isMove P t ≡ c → states-laws.Told.End P g m t (stage4 P t (stage3 P t b (mid P t b))) (cond c (stageFour (eqb (kk P) 2) (P .placed (t / P .period) b) t second) second)
+        go true e = states-laws.MoveLaws.four-rep P g (K .rising) m t b (mid P t b) second (rw e tt) middle
+        go false e = states-laws.MoveLaws.still-rep P g (K .rising) m t b (mid P t b) second (rw e tt) middle
 
     now-row : sentIn (cluster P (suc t) .log) t b ≡ end P t b .sent
     now-row = sent-row P (suc t) t b lb (omega arith)
 
     -- the pairs of its store
-    pub among-is : (j : ℕ) → j < m → among (D .outs b .row .kept) j ≡ member (g j) (end P t b .sent .replyWith)
-    among-is j h = among-keys (D .outs b .row .kept) j ∙ rw (ended .sent .pairs) (sym (member-map g (K .rising) j (keys (D .outs b .row .kept))))
+    pub among-is : (j : ℕ) → j < m → calendar-specs.Posts.among (D .outs b .row .kept) j ≡ member (g j) (end P t b .sent .replyWith)
+    among-is j h = among-keys (D .outs b .row .kept) j ∙ rw (ended .sent .pairs) (sym (register-laws.Rising.member-map g (K .rising) j (keys (D .outs b .row .kept))))
 
-    voted-is : (j : ℕ) → j < m → votesFor (D .outs b .row) j ≡ member (g j) (end P t b .sent .votes)
+    voted-is : (j : ℕ) → j < m → serving-specs.Sends.votesFor (D .outs b .row) j ≡ member (g j) (end P t b .sent .votes)
     voted-is j h = rw (among-keys (D .outs b .row .kept) j) (sym (ended .sent .votes j h))
 
     pub new-server : Rep P g m (suc t) (serverOf (cluster P (suc t)) b) (server (getD (r .servers) b absent))
@@ -184,14 +169,14 @@ module _ (P : Plan) (G : Good P) (F : Feed) (fit : Fits P (F .t) (F .plan) (F .r
     in-rows = omega (arith, K .servers)
 
     -- what server i sent in this tick
-    sent-is : (i : ℕ) → i < P .n → sends (F .plan) (F .links) (F .rules .n) t (endsOf (c .readers)) i (D .outs i .row) row j
+    sent-is : (i : ℕ) → i < P .n → serving-specs.Sends.sends (F .plan) (F .links) (F .rules .n) t (cluster-specs.Tick.endsOf (c .readers)) i (D .outs i .row) row j
         ≡ (not (eqb i b) && eqb (t + P .delay t i b) s) && member (g j) (end P t i .sent .votes)
-    unfolding sendsVote sendsReply
+    unfolding serving-specs.Sends.sendsVote serving-specs.Sends.sendsReply
     sent-is i li =
         rw (row-receiver s b few, row-slot s b few, fit .n, lt-ltb b (P .n) lb, lt-leb 16 b (omega (arith, K .servers)), voted-is i li j h)
         (or-false _ ∙ go (ℕ-discrete i b))
       where
-        go : Dec (i ≡ b) → not (eqb b i) && (eqb ((t + delayAt (F .plan) (F .links) t i b) % 16) (s % 16) && member (g j) (end P t i .sent .votes))
+        go : Dec (i ≡ b) → not (eqb b i) && (eqb ((t + serving-specs.Links.delayAt (F .plan) (F .links) t i b) % 16) (s % 16) && member (g j) (end P t i .sent .votes))
             ≡ (not (eqb i b) && eqb (t + P .delay t i b) s) && member (g j) (end P t i .sent .votes)
         go (yes e) = rw (eq-eqb i b e, eq-eqb b i (sym e))
         go (no d) =
@@ -199,13 +184,13 @@ module _ (P : Plan) (G : Good P) (F : Feed) (fit : Fits P (F .t) (F .plan) (F .r
               ne-eqb i b d,
               ne-eqb b i (λ e. d (sym e)),
               fit .delays i b li lb d,
-              slot-is t (P .delay t i b) s (G .delay-lo t i b) (omega (arith, G .delay-hi t i b, K .slow)) after within,
+              states-laws.WayLaws.slot-is t (P .delay t i b) s (G .delay-lo t i b) (omega (arith, G .delay-hi t i b, K .slow)) after within,
             )
 
     -- after stages 1 to 4
     pub votes-after : (i : ℕ) → sender work row j i
         ≡ ltb i (P .n) && (voteWay P (cluster P t .log) t s b (g j) i || ((not (eqb i b) && eqb (t + P .delay t i b) s) && member (g j) (end P t i .sent .votes)))
-    unfolding present
+    unfolding cluster-specs.Tick.present
     votes-after i =
         D .cells row j i in-rows (omega (arith, K .few))
         ∙ rw (row-receiver s b few, row-slot s b few, lt-ltb b (P .n) lb) (go (decLe (P .n) i) (ℕ-discrete s (t + 16)))
@@ -214,18 +199,18 @@ module _ (P : Plan) (G : Good P) (F : Feed) (fit : Fits P (F .t) (F .plan) (F .r
         old q = S .calendar .votes s b j i (omega arith) q lb h
 
         go : Dec (P .n ≤ i) → Dec (s ≡ t + 16)
-            → (not (eqb (s % 16) (t % 16) && true) && sender (F .work) row j i) || (ltb i (P .n) && sends (F .plan) (F .links) (F .rules .n) t (endsOf (c .readers)) i (D .outs i .row) row j)
+            → (not (eqb (s % 16) (t % 16) && true) && sender (F .work) row j i) || (ltb i (P .n) && serving-specs.Sends.sends (F .plan) (F .links) (F .rules .n) t (cluster-specs.Tick.endsOf (c .readers)) i (D .outs i .row) row j)
             ≡ ltb i (P .n) && (voteWay P (cluster P t .log) t s b (g j) i || ((not (eqb i b) && eqb (t + P .delay t i b) s) && member (g j) (end P t i .sent .votes)))
         go (yes l) (yes e) = rw (le-ltb i (P .n) l, eq-eqb (s % 16) (t % 16) (omega arith))
-        go (yes l) (no d) = rw (slot-past t s after (omega arith), old (omega arith), le-ltb i (P .n) l)
+        go (yes l) (no d) = rw (states-laws.WayLaws.slot-past t s after (omega arith), old (omega arith), le-ltb i (P .n) l)
         go (no l) (yes e) =
             rw (
               eq-eqb (s % 16) (t % 16) (omega arith),
               lt-ltb i (P .n) (omega arith),
               sent-is i (omega arith),
-              votes-far P G t s b (g j) i (cluster P t .log) (omega (arith, K .slow)),
+              states-laws.WayLaws.votes-far P G t s b (g j) i (cluster P t .log) (omega (arith, K .slow)),
             )
-        go (no l) (no d) = rw (slot-past t s after (omega arith), old (omega arith), lt-ltb i (P .n) (omega arith), sent-is i (omega arith))
+        go (no l) (no d) = rw (states-laws.WayLaws.slot-past t s after (omega arith), old (omega arith), lt-ltb i (P .n) (omega arith), sent-is i (omega arith))
 
     -- and after the forged votes of the tick
     pub new-votes : (i : ℕ) (v : Bool) → v ≡ sender work row j i || (ltb i (P .n) && any (λ (x : Forgery). eqb (x .at) t && forgedAs P s b (g j) i x) (P .forged))
@@ -237,4 +222,4 @@ module _ (P : Plan) (G : Good P) (F : Feed) (fit : Fits P (F .t) (F .plan) (F .r
             || (ltb i (P .n) && any (λ (x : Forgery). eqb (x .at) t && forgedAs P s b (g j) i x) (P .forged))
             ≡ ltb i (P .n) && voteWay P (cluster P (suc t) .log) (suc t) s b (g j) i
         go (yes l) = rw (le-ltb i (P .n) l)
-        go (no l) = rw (lt-ltb i (P .n) (omega arith)) (sym (votes-next P G t s b (g j) i (omega arith)))
+        go (no l) = rw (lt-ltb i (P .n) (omega arith)) (sym (states-laws.WayLaws.votes-next P G t s b (g j) i (omega arith)))

@@ -15,11 +15,9 @@ use Rattle.register.specs.Server.{Claim, claimOf, has}
 use Rattle.register.specs.Cluster.{Log, sentIn, votesFrom, votesIn, forgedIn, cluster}
 use Rattle.register.proofs.Logic.{and-l, and-r, and-i, T-iff}
 use Rattle.register.proofs.Counting.{anyUpTo-e, anyUpTo-i, any-cong, none-up}
-use Rattle.register.proofs.Good.{Good}
+use Rattle.register.proofs as register-laws
 use Rattle.register.proofs.Claims.{has-nil, has-append, has-claims, has-flat}
-use Rattle.register.proofs.Trace.{end, sent-row, row-kept}
-use Rattle.calendar.proofs.Spans.{own-rows}
-use Rattle.calendar.proofs.Laws.{ltb-more}
+use Rattle.calendar.proofs as calendar-laws
 use Rattle.states.specs.Way.{forgedAs, voteFrom, voteWay}
 
 -- ---- tests over lists and numbers
@@ -55,12 +53,12 @@ any-or f h k (x ∷ l) e = rw (e x, any-or f h k l e) (turn (h x) (k x) (any h l
 
 -- sent before the next tick: before this one, or in it
 pub before-next : (a t : ℕ) (b : Bool) → ltb a (suc t) && b ≡ (ltb a t && b) || (eqb a t && b)
-before-next a t b = sym (rw add-one at (ltb-more a t b))
+before-next a t b = sym (rw add-one at (calendar-laws.Laws.ltb-more a t b))
 
 -- ---- slots of the calendar
 
 pub slot-is : (t d s : ℕ) → 1 ≤ d → d ≤ 15 → t < s → s ≤ t + 16 → eqb ((t + d) % 16) (s % 16) ≡ eqb (t + d) s
-slot-is t d s l h a b = own-rows (suc t) (t + d) s (omega arith) (omega arith) a (omega arith)
+slot-is t d s l h a b = calendar-laws.Spans.own-rows (suc t) (t + d) s (omega arith) (omega arith) a (omega arith)
 
 -- the slot of a later tick is not the present one
 pub slot-past : (t s : ℕ) → t < s → s < t + 16 → eqb (s % 16) (t % 16) ≡ false
@@ -86,7 +84,7 @@ module _ (P : Plan) (log : Log) (s b : ℕ) where
       ∙ (any-cong (P .n) _ (λ k. voteFrom P log 0 u s b p k && eqb k i) (λ k m. has-vote u k p i)
       ∙ any-one (P .n) i (λ k. voteFrom P log 0 u s b p k) l))
 
-module _ (P : Plan) (G : Good P) where
+module _ (P : Plan) (G : register-laws.Good.Good P) where
   -- forged votes that arrive were sent before
   forged-before : (t b p i : ℕ) (x : Forgery) → forgedAs P t b p i x ≡ ltb (x .at) t && forgedAs P t b p i x
   forged-before t b p i x = go (ℕ-discrete (x .at + P .delay (x .at) (x .from) (x .to)) t)
@@ -132,17 +130,17 @@ module _ (P : Plan) (G : Good P) where
 
   -- a tick adds what is sent in it
   pub votes-next : (t s b p i : ℕ) → i < P .n → voteWay P (cluster P (suc t) .log) (suc t) s b p i
-      ≡ (voteWay P (cluster P t .log) t s b p i || ((not (eqb i b) && eqb (t + P .delay t i b) s) && member p (end P t i .sent .votes)))
+      ≡ (voteWay P (cluster P t .log) t s b p i || ((not (eqb i b) && eqb (t + P .delay t i b) s) && member p (register-laws.Trace.end P t i .sent .votes)))
       || any (λ x. eqb (x .at) t && forgedAs P s b p i x) (P .forged)
   unfolding voteWay anyUpTo
   votes-next t s b p i l =
       rw (
         any-or (λ x. ltb (x .at) (suc t) && forgedAs P s b p i x) (λ x. ltb (x .at) t && forgedAs P s b p i x) (λ x. eqb (x .at) t && forgedAs P s b p i x) (P .forged)
             (λ x. before-next (x .at) t (forgedAs P s b p i x)),
-        any-cong t (λ u. voteFrom P (cluster P (suc t) .log) (suc t) u s b p i) (λ u. voteFrom P (cluster P t .log) t u s b p i) (λ u h. rw (row-kept P t u i h)),
-        sent-row P (suc t) t i l (omega arith),
+        any-cong t (λ u. voteFrom P (cluster P (suc t) .log) (suc t) u s b p i) (λ u. voteFrom P (cluster P t .log) t u s b p i) (λ u h. rw (register-laws.Trace.row-kept P t u i h)),
+        register-laws.Trace.sent-row P (suc t) t i l (omega arith),
       )
-      (turn ((not (eqb i b) && eqb (t + P .delay t i b) s) && member p (end P t i .sent .votes)) (anyUpTo t (λ u. voteFrom P (cluster P t .log) t u s b p i)) _ _)
+      (turn ((not (eqb i b) && eqb (t + P .delay t i b) s) && member p (register-laws.Trace.end P t i .sent .votes)) (anyUpTo t (λ u. voteFrom P (cluster P t .log) t u s b p i)) _ _)
     where
       turn : (f a c d : Bool) → (f || a) || (c || d) ≡ ((a || c) || f) || d
       turn true true true d = refl

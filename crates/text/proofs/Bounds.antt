@@ -9,31 +9,28 @@ use native.Mathlib.Omega.{arith}
 use lib.Dec.{lit≤}
 use lib.ListN.{length, take, length-append}
 use Rattle.decimal.proofs.Laws.{decimal-length}
-use Rattle.register.specs.Lists.{In}
+use Rattle.register.specs as register-specs
 use Rattle.register.specs.Plan.{Plan, Read, readEnd, valueOf, numberOf}
-use Rattle.register.specs.Reading.{answerOf}
 use Rattle.register.proofs.Stamped.{value-below}
 use Rattle.plan.specs.Packed.{planOf}
 use Rattle.plan.specs.Check.{Outcome, refused, result, checkOf}
 use Rattle.plan.proofs.Accept.{playable, reads-counted, in-range}
-use Rattle.plan.proofs.AcceptReads.{read-stands}
-use Rattle.plan.proofs.Longest.{most-reads}
+use Rattle.plan.proofs as plan-laws
 use Rattle.lines.specs.Text.{lineWith, lineOf, linesFor, textAfter, textOf, mostLine, mostText, writtenOver}
 use Rattle.lines.proofs.Lines.{answer-fits}
-use Rattle.text.proofs.Refusals.{refusal-low}
-use Rattle.text.proofs.Over.{whole}
+use Rattle.text.proofs as text-laws
 
 module _ (s : List ℕ) (m : ℕ) (e : checkOf 16 s ≡ result m) where
   abbrev P : Plan
   P = planOf 16 s
 
-  line-length : (r : Read) → In r (P .reads) → length (lineOf 16 P r) ≤ mostLine
+  line-length : (r : Read) → register-specs.Lists.In r (P .reads) → length (lineOf 16 P r) ≤ mostLine
   unfolding lineOf lineWith
   line-length r i =
       let A = playable 16 s m e in
       let F = answer-fits s m e r i in
-      let R = read-stands 16 s A r i in
-      let a = answerOf P r in
+      let R = plan-laws.AcceptReads.read-stands 16 s A r i in
+      let a = register-specs.Reading.answerOf P r in
       let value : valueOf 16 (a .pair) < 10 ^ 5 = lt-of-lt-of-le (value-below 16 (a .pair)) (lit≤ tt) in
       simp length-append (omega (
         arith,
@@ -45,7 +42,7 @@ module _ (s : List ℕ) (m : ℕ) (e : checkOf 16 s ≡ result m) where
         decimal-length 1 (a .count) (omega (arith, F .count-fits)),
       ))
 
-  lines-length : (rs : List Read) → ((r : Read) → In r rs → In r (P .reads)) → length (linesFor 16 P rs) ≤ mostLine * length rs
+  lines-length : (rs : List Read) → ((r : Read) → register-specs.Lists.In r rs → register-specs.Lists.In r (P .reads)) → length (linesFor 16 P rs) ≤ mostLine * length rs
   unfolding linesFor
   lines-length [] h = omega arith
   lines-length (r ∷ rs) h = rw length-append (omega (arith, line-length r (h r (inl refl)), lines-length rs (λ q i. h q (inr i))))
@@ -53,7 +50,7 @@ module _ (s : List ℕ) (m : ℕ) (e : checkOf 16 s ≡ result m) where
   reads-length : length (textAfter 16 s (result m)) ≤ mostText
   unfolding textAfter lineWith
   reads-length =
-      let few = most-reads s m e in
+      let few = plan-laws.Longest.most-reads s m e in
       simp length-append (omega (arith, decimal-length 2 m (omega arith), lines-length (P .reads) (λ r i. i), reads-counted 16 s m e))
 
 refused-length : (s : List ℕ) (n : ℕ) → n ≤ 8 → length (textAfter 16 s (refused n)) ≤ mostText
@@ -65,9 +62,9 @@ unfolding textOf
 text-length s = go (checkOf 16 s) refl
   where
     go : (o : Outcome ℕ) → checkOf 16 s ≡ o → length (textAfter 16 s o) ≤ mostText
-    go (refused n) e = refused-length s n (refusal-low s n e)
+    go (refused n) e = refused-length s n (text-laws.Refusals.refusal-low s n e)
     go (result m) e = reads-length s m e
 
 -- so a buffer of MOST_BYTES has every text whole
 pub text-whole : (s buffer : List ℕ) → mostText ≤ length buffer → take (length (textOf 16 s)) (writtenOver (textOf 16 s) buffer .bytes) ≡ textOf 16 s
-text-whole s buffer h = whole (textOf 16 s) buffer (omega (arith, text-length s))
+text-whole s buffer h = text-laws.Over.whole (textOf 16 s) buffer (omega (arith, text-length s))

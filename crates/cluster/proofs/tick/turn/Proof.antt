@@ -14,13 +14,10 @@ use Rattle.serving.specs.Bits.{sets, listed}
 use Rattle.serving.specs.Stored.{Step, server, both, statusOf}
 use Rattle.serving.specs.Stages.{stageOne, stageTwo, stagesOf}
 use Rattle.cluster.specs.Inputs.{wroteAt, asksAt}
-use Rattle.cluster.specs.Settled.{Settled}
-use Rattle.cluster.specs.Tick.{feedOf}
+use Rattle.cluster.specs as cluster-specs
 use Rattle.serving.proofs.StageLaws.{taken-law, lost-law, cure-law, no-cure-law, not-cured, echo-law}
-use Rattle.cluster.proofs.Settled.{span-enough}
+use Rattle.cluster.proofs as cluster-laws
 use Rattle.cluster.proofs.TickLaws.{stages-moving, stages-still}
-use Rattle.cluster.proofs.ServeLaws.{turned-here}
-use Rattle.cluster.proofs.tick.turn.Statement.{statement}
 use Rattle.cluster.proofs.tick.turn.Tie as tie
 
 low-requires : tie.Need-low-requires
@@ -59,7 +56,7 @@ send-requires c κs = let s = c .before .before .before .before .before .before 
 returns : tie.Need-returns
 returns c =
     let s = c .before .before .before .before .before .before .before .before .before .before .before .before .before .before .before .before .before .before .before .before .before .before .before .before .before .before in
-    let F = feedOf (now (s .args .plan)) (now (s .args .work)) (s .args .feed) in
+    let F = cluster-specs.Tick.feedOf (now (s .args .plan)) (now (s .args .work)) (s .args .feed) in
     let third = c .before .before .before .before .before .before .before .before in
     let second = third .before in
     let first = third .before .before .before in
@@ -77,11 +74,11 @@ returns c =
     let o₁ : Step = record { server = first .if1 .x; row = first .if1 .row } in
     let o₂ : Step = record { server = second .if2 .x; row = second .if2 .row } in
     let o₃ : Step = record { server = third .if3 .x; row = third .if3 .row } in
-    let calm : Type 0 = Settled (F .known .m) (F .rules .echo) (F .rules .reply) (server (s .args .s)) in
+    let calm : Type 0 = cluster-specs.Settled.Settled (F .known .m) (F .rules .echo) (F .rules .reply) (server (s .args .s)) in
     let one : calm → both o₁ ≡ stageOne (F .known .m) (F .rules .echo) (F .rules .reply) w votes asks live (server (v .result)) = λ K. elim (first .if1 .came) [
       | inl y ↦ let alive : isFaulty (statusOf (v .result .status)) ≡ false = sym (faulty .ensures) ∙ not-true _ (y .0 .taken) in
           rw (y .7, y .8, ← y .2 .ensures, ← y .3 .ensures) (taken-law (F .known .m) (F .rules .echo) (F .rules .reply) (y .2 .result) votes (λ x. bit x (y .3 .result)) live (server (v .result)) _ _ alive (y .4 .ensures)
-          (rw (low .ensures .0, high .ensures .0) (span-enough (F .known .m) (F .rules .echo) (F .rules .reply) (y .2 .result) (F .work) (row .result) (server (s .args .s)) (server (v .result)) (v .ensures) K (sym (ap isFaulty (v .ensures .status)) ∙ alive) (s .pre .1 .pairs) (row .ensures .1) (s .pre .1 .spans))))
+          (rw (low .ensures .0, high .ensures .0) (cluster-laws.Settled.span-enough (F .known .m) (F .rules .echo) (F .rules .reply) (y .2 .result) (F .work) (row .result) (server (s .args .s)) (server (v .result)) (v .ensures) K (sym (ap isFaulty (v .ensures .status)) ∙ alive) (s .pre .1 .pairs) (row .ensures .1) (s .pre .1 .spans))))
       | inr y ↦ rw (y .1, y .2) (lost-law (F .known .m) (F .rules .echo) (F .rules .reply) w votes asks live (server (v .result)) _ (sym (faulty .ensures) ∙ not-false _ (y .0 .left)) (quiet .ensures))
     ] in
     let status : first .if1 .x .status ≡ v .result .status = elim (first .if1 .came) [ inl y ↦ rw (y .7) refl | inr y ↦ rw (y .1) refl ] in
@@ -97,11 +94,11 @@ returns c =
       | inl y ↦ rw (y .4, y .5) (stages-moving (F .known .m) (F .rules) w votes asks live (F .movement .moving) _ (F .t) _ _ _ (v .ensures) _ _ (one K) two (y .0 .taken) _ (y .1 .ensures) _ (echo-law (F .rules .two) _ (F .t) (both o₂) _ _ (y .2 .ensures) (y .3 .ensures)))
       | inr y ↦ rw (y .1, y .2) (stages-still (F .known .m) (F .rules) w votes asks live (F .movement .moving) _ (F .t) _ _ _ (v .ensures) _ _ (one K) two (y .0 .left))
     ] in
-    turned-here F (s .args .ends) (s .args .b) (s .args .s) o₃ _ _ (s .pre .1 .spans)
+    cluster-laws.ServeLaws.turned-here F (s .args .ends) (s .args .b) (s .args .s) o₃ _ _ (s .pre .1 .spans)
     (λ K. record { votes = votes; came = λ d j i l n. v .ensures .fresh d j i l ∙ rw (row .ensures .0); stages = all K })
     (rw (row .ensures .0) at (c .before .before .before .before .before .before .clear .ensures)) (c .before .before .send .ensures)
 
-pub turn-spec : {M : Type 1} → statement M
+pub turn-spec : {M : Type 1} → cluster-laws.tick.turn.Statement.statement M
 turn-spec =
     tie.close
     (tie.spec (search needs) (search needs) low-requires high-requires vote-requires (search needs) (search needs) wrote-at-requires asks-at-requires

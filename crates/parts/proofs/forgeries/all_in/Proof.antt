@@ -12,21 +12,18 @@ use denote.Ref.{now}
 use Rattle.bits.specs.Field.{fieldOf}
 use Rattle.register.specs.Lists.{allUpTo}
 use Rattle.plan.specs.Header.{Header, forgeryAt, operationAt}
-use Rattle.plan.specs.Steps.{forgery}
+use Rattle.plan.specs as plan-specs
 use Rattle.parts.specs.Steps.{forgedAlone}
-use Rattle.plan.specs.Shape.{shape}
 use Rattle.plan.specs.Check.{forgeryStands, forgeriesStand}
-use Rattle.parts.proofs.Forging.{in-part, forgery-as}
-use Rattle.plan.proofs.Waiting.{follows, follows-none, follows-more}
-use Rattle.plan.proofs.Laws.{all-none, all-more, all-stop, all-end}
-use Rattle.parts.proofs.forgeries.all_in.Statement.{statement}
+use Rattle.parts.proofs as parts-laws
+use Rattle.plan.proofs as plan-laws
 use Rattle.parts.proofs.forgeries.all_in.Tie as tie
 
 abbrev Inv-loop : tie.InvT-loop
 Inv-loop part offset plan h table n next₀ i₀ next i =
     (i ≤ n)
-    × (allUpTo i (forgeryStands 16 plan (shape h)) ≡ true)
-    × (next ≡ follows (λ j. fieldOf plan (forgeryAt 16 (shape h) j) 40) i)
+    × (allUpTo i (forgeryStands 16 plan (plan-specs.Shape.shape h)) ≡ true)
+    × (next ≡ plan-laws.Waiting.follows (λ j. fieldOf plan (forgeryAt 16 (plan-specs.Shape.shape h) j) 40) i)
 
 abbrev μ-loop : tie.MeasureT-loop
 μ-loop part offset plan h table n next₀ i₀ next i = n - i
@@ -35,31 +32,31 @@ abbrev bytes : tie.At-loop Inv-loop μ-loop → List ℕ
 bytes c = now (c .before .before .before .before .args .plan)
 
 abbrev header : tie.At-loop Inv-loop μ-loop → Header
-header c = shape (c .before .before .before .before .args .h)
+header c = plan-specs.Shape.shape (c .before .before .before .before .args .h)
 
 -- one that fails decides
 stop : (c : tie.In-loop Inv-loop μ-loop) → forgeryStands 16 (bytes (c .before)) (header (c .before)) (c .before .loop .i) ≡ false
     → false ≡ forgeriesStand 16 (bytes (c .before)) (header (c .before))
 unfolding forgeriesStand
-stop c e = sym (all-stop _ (c .before .loop .i) (header (c .before) .forgeries) (omega arith) e)
+stop c e = sym (plan-laws.Laws.all-stop _ (c .before .loop .i) (header (c .before) .forgeries) (omega arith) e)
 
 -- the field of the part is the plan's
 forged : (c : tie.After-field Inv-loop μ-loop) → c .field .result ≡ fieldOf (bytes (c .before .before)) (forgeryAt 16 (header (c .before .before)) (c .before .before .loop .i)) 40
 forged c =
     let a = c .before .before .before .before .before .before .args in
-    c .field .ensures .0 ∙ in-part (now (a .plan)) (shape (a .h)) (now (a .part)) (a .offset) (c .before .before .before .before .before .before .pre .4) (c .before .before .loop .i) 40
+    c .field .ensures .0 ∙ parts-laws.Forging.in-part (now (a .plan)) (plan-specs.Shape.shape (a .h)) (now (a .part)) (a .offset) (c .before .before .before .before .before .before .pre .4) (c .before .before .loop .i) 40
 
 tested : (c : tie.After-of Inv-loop μ-loop) → forgeryStands 16 (bytes (c .before .before .before)) (header (c .before .before .before)) (c .before .before .before .loop .i)
-    ≡ forgedAlone (bytes (c .before .before .before)) (header (c .before .before .before)) (forgery (c .of .result)) && leb (c .before .before .before .loop .next) (c .before .field .result)
+    ≡ forgedAlone (bytes (c .before .before .before)) (header (c .before .before .before)) (plan-specs.Steps.forgery (c .of .result)) && leb (c .before .before .before .loop .next) (c .before .field .result)
 tested c =
     let l = c .before .before .before in
-    forgery-as (bytes l) (header l) (l .loop .i) (c .before .field .result) (l .loop .next) (c .of .result) (forged (c .before)) (c .of .ensures) (l .loop .inv .2)
+    parts-laws.Forging.forgery-as (bytes l) (header l) (l .loop .i) (c .before .field .result) (l .loop .next) (c .of .result) (forged (c .before)) (c .of .ensures) (l .loop .inv .2)
 
 cast-n : tie.Need-cast-n Inv-loop μ-loop
 cast-n c = omega arith
 
 loop-holds : tie.Need-loop-holds Inv-loop μ-loop
-loop-holds c = (omega arith, all-none _, follows-none _)
+loop-holds c = (omega arith, plan-laws.Laws.all-none _, plan-laws.Waiting.follows-none _)
 
 mul-field : tie.Need-mul-field Inv-loop μ-loop
 mul-field c = omega arith
@@ -70,7 +67,7 @@ add-field c = omega arith
 field-requires : tie.Need-field-requires Inv-loop μ-loop
 field-requires c κs =
     let a = c .before .before .before .before .before .args in
-    let first = operationAt 16 (shape (a .h)) (a .h .operations) in
+    let first = operationAt 16 (plan-specs.Shape.shape (a .h)) (a .h .operations) in
     let l : length (now (a .part)) ≡ length (now (a .plan)) - first / 8 = ap length (c .before .before .before .before .before .pre .4 .bytes) ∙ length-drop (first / 8) (now (a .plan)) in
     let o : a .offset ≡ first % 8 = c .before .before .before .before .before .pre .4 .first in
     (omega arith, omega (arith, l, o), omega (arith, o))
@@ -103,15 +100,15 @@ loop-again c =
     let l = c .before .before .before .before .before .before in
     let alone = sym (c .before .before .stands-alone .ensures) ∙ not-false _ (c .before .if1 .left) in
     let t : forgeryStands 16 (bytes l) (header l) (l .loop .i) ≡ true = rw (tested (c .before .before .before), alone, le-leb _ _ (c .if2 .left)) in
-    (omega arith, all-more _ _ (l .loop .inv .1) t, rw (forged (c .before .before .before .before)) (follows-more (λ j. fieldOf (bytes l) (forgeryAt 16 (header l) j) 40) (l .loop .i)))
+    (omega arith, plan-laws.Laws.all-more _ _ (l .loop .inv .1) t, rw (forged (c .before .before .before .before)) (plan-laws.Waiting.follows-more (λ j. fieldOf (bytes l) (forgeryAt 16 (header l) j) 40) (l .loop .i)))
 
 returns-3 : tie.Need-returns-3 Inv-loop μ-loop
 unfolding forgeriesStand
 returns-3 c =
     let l = c .before in
-    all-end (forgeryStands 16 (bytes l) (header l)) (l .loop .i) (header l .forgeries) (omega arith) (omega arith) (l .loop .inv .1)
+    plan-laws.Laws.all-end (forgeryStands 16 (bytes l) (header l)) (l .loop .i) (header l .forgeries) (omega arith) (omega arith) (l .loop .inv .1)
 
-pub all-in-spec : {M : Type 1} → statement M
+pub all-in-spec : {M : Type 1} → parts-laws.forgeries.all_in.Statement.statement M
 all-in-spec =
     tie.close
     (tie.spec

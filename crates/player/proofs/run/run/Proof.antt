@@ -9,19 +9,15 @@ use Prim.Native.Nat.{ℕ, _+_, _-_, _≤_, _<_}
 use lib.ListN.{length}
 use borrow.Author.Tests.{not-false, eqb-true}
 use Rattle.serving.specs.declared.Rules.{Rules}
-use Rattle.cluster.specs.declared.Feed.{Feed}
-use Rattle.cluster.specs.Inputs.{Tickable}
-use Rattle.cluster.specs.Settled.{CalmlyServed}
+use Rattle.cluster.specs as cluster-specs
 use Rattle.cluster.specs.Tick.{endsOf, feedOf}
 use Rattle.cluster.proofs.HearLaws.{Hearing-to, hearing-none, hearing-more, hearing-same, hearing-all}
 use Rattle.cluster.proofs.ServeLaws.{Serving, serving-none, serving-turn, serving-idle, sized-after, none-before}
-use Rattle.reading.specs.Reading.{WentOn}
-use Rattle.reading.specs.declared.Reading.{Reading}
+use Rattle.reading.specs as reading-specs
 use Rattle.player.specs.Run.{Ready, Went}
 use Rattle.player.proofs.Feeding.{range, few-ticks, linked-there}
 use Rattle.player.proofs.Turns.{at, HeardBy, can-go-on, none-due, noted-sized, forge-ready, went}
-use Rattle.player.proofs.Whole.{ready-kept, went-none, went-on}
-use Rattle.player.proofs.run.run.Statement.{statement}
+use Rattle.player.proofs as player-laws
 use Rattle.player.proofs.run.run.Tie as tie
 
 abbrev Inv-loop2 : tie.InvT-loop2
@@ -51,13 +47,13 @@ abbrev μ-loop : tie.MeasureT-loop
 -- in a turn of the outer loop
 module _ (c : tie.In-loop Inv-loop2 μ-loop2 Inv-loop3 μ-loop3 Inv-loop μ-loop) where
   ready : Ready (c .before .before .before .before .before .before .before .before .before .before .before .args .plan .now) (c .before .loop .work) (c .before .before .before .before .before .before .before .before .before .before .before .args .t5)
-  ready = ready-kept _ _ _ _ (c .before .loop .inv .3 .kept) (c .before .before .before .before .before .before .before .before .before .before .before .pre .0)
+  ready = player-laws.Whole.ready-kept _ _ _ _ (c .before .loop .inv .3 .kept) (c .before .before .before .before .before .before .before .before .before .before .before .pre .0)
 
   below : c .before .loop .t < c .before .before .before .before .before .before .before .before .before .before .before .args .t5 .shape .ticks
   below = omega (arith, c .loop-test .taken, c .before .before .before .before .before .before .before .before .before .before .before .pre .3)
 
 loop-holds : tie.Need-loop-holds Inv-loop2 μ-loop2 Inv-loop3 μ-loop3 Inv-loop μ-loop
-loop-holds c = rw (c .of .ensures) (c .before .before .before .before .before .before .before .before .before .pre .2, refl, refl, went-none _ _ _ _ _ (c .before .before .before .before .before .before .before .before .before .pre .1))
+loop-holds c = rw (c .of .ensures) (c .before .before .before .before .before .before .before .before .before .pre .2, refl, refl, player-laws.Whole.went-none _ _ _ _ _ (c .before .before .before .before .before .before .before .before .before .pre .1))
 
 feed-of-requires : tie.Need-feed-of-requires Inv-loop2 μ-loop2 Inv-loop3 μ-loop3 Inv-loop μ-loop
 feed-of-requires c κs = (c .before .before .before .before .before .before .before .before .before .before .before .before .before .pre .0 .decoded, below (c .before .before), omega (arith, ready (c .before .before) .room))
@@ -101,17 +97,17 @@ heard-by c =
     let q = l .inv .3 in
     record {
       heard = hearing-all _ _ _ _ _ (rw e at (l .inv .2));
-      ends = ap (λ (z : Reading). z .ends) q;
-      begun = ap (λ (z : Reading). z .begun) q;
-      answered = ap (λ (z : Reading). z .answered) q;
+      ends = ap (λ (z : reading-specs.declared.Reading.Reading). z .ends) q;
+      begun = ap (λ (z : reading-specs.declared.Reading.Reading). z .begun) q;
+      answered = ap (λ (z : reading-specs.declared.Reading.Reading). z .answered) q;
     }
 
 module _ (c : tie.After-loop2 Inv-loop2 μ-loop2 Inv-loop3 μ-loop3 Inv-loop μ-loop) where
-  all-sized : Tickable (c .before .before .before .before .before .before .before .before .before .before .before .before .before .before .before .before .before .args .plan .now) (c .before .loop2 .work) (c .before .before .before .feed-of .result .t) (c .before .before .before .feed-of .result .rules) (c .before .before .before .feed-of .result .known) (c .before .before .before .feed-of .result .links)
+  all-sized : cluster-specs.Inputs.Tickable (c .before .before .before .before .before .before .before .before .before .before .before .before .before .before .before .before .before .args .plan .now) (c .before .loop2 .work) (c .before .before .before .feed-of .result .t) (c .before .before .before .feed-of .result .rules) (c .before .before .before .feed-of .result .known) (c .before .before .before .feed-of .result .links)
   all-sized = noted-sized _ _ _ _ _ _ _ (ready (c .before .before .before .before .before .before)) (below (c .before .before .before .before .before .before)) (c .before .before .before .before .before .before .before .loop .inv .3 .played) (c .before .before .before .before .before .before .before .loop .inv .2) _ (c .before .before .before .feed-of .ensures) _ _ (heard-by c)
 
   same-rules : c .before .before .before .feed-of .result .rules ≡ c .before .before .before .before .before .before .before .before .before .before .before .before .before .before .before .before .before .args .t5 .rules
-  same-rules = ap (λ (f : Feed). f .rules) (c .before .before .before .feed-of .ensures .same)
+  same-rules = ap (λ (f : cluster-specs.declared.Feed.Feed). f .rules) (c .before .before .before .feed-of .ensures .same)
 
   same-number : c .before .before .before .feed-of .result .rules .n ≡ c .before .before .before .before .before .before .before .before .before .before .before .before .before .before .before .before .before .args .t5 .rules .n
   same-number = ap (λ (x : Rules). x .n) same-rules
@@ -168,7 +164,7 @@ loop3-again c =
     let h = few (c .before .before .before .before) in
     let size = c .before .before .before .before .before .before .before .before .before .before .before .before .before .before .loop .inv .3 .played .size in
     let later = none-before (feedOf (c .before .before .before .before .before .before .before .before .before .before .before .before .before .before .before .before .before .before .before .before .before .before .before .before .args .plan .now) (c .before .before .before .before .before .before .before .before .loop2 .work) (F .result)) (c .before .before .before .before .before .before .before .before .before .before .before .before .before .before .loop .r .ends) p (l .b) d in
-    let tick : F .result .t ≡ c .before .before .before .before .before .before .before .before .before .before .before .before .before .before .loop .t = ap (λ (f : Feed). f .t) (F .ensures .same) in
+    let tick : F .result .t ≡ c .before .before .before .before .before .before .before .before .before .before .before .before .before .before .loop .t = ap (λ (f : cluster-specs.declared.Feed.Feed). f .t) (F .ensures .same) in
     let done : Serving (feedOf (c .before .before .before .before .before .before .before .before .before .before .before .before .before .before .before .before .before .before .before .before .before .before .before .before .args .plan .now) (c .before .before .before .before .before .before .before .before .loop2 .work) (F .result)) (c .before .before .before .before .before .before .before .before .before .before .before .before .before .before .loop .r .ends) (c .before .before .before .before .before .before .before .before .before .before .before .before .before .before .loop .servers) (c .if3 .servers) (c .if3 .work) (l .b + 1) = elim (c .if3 .came) [
       | inl x ↦ rw (x .5, x .6) (serving-turn _ _ _ _ _ (l .b) h size (l .inv .1) later d (x .2 .result) _ (x .2 .ensures))
       | inr y ↦ rw (y .5, y .6) (serving-idle _ _ _ _ _ (l .b) h size (l .inv .1) later d (p .pairs) _ (ap (λ (f : ℕ → Bool). f (l .b)) (c .before .before .before .before .before .before .before .before .before .together .ensures)) _ _ refl (c .before .is-reached .ensures) (y .0 .left) _ (rw (← tick) at (y .2 .ensures)))
@@ -176,7 +172,7 @@ loop3-again c =
     (omega (arith, c .before .before .before .before .if2 .taken), done)
 
 -- after the servers have done the tick
-served : (c : tie.Else2 Inv-loop2 μ-loop2 Inv-loop3 μ-loop3 Inv-loop μ-loop) → CalmlyServed (feedOf (c .before .before .before .before .before .before .before .before .before .before .before .before .before .before .before .before .before .before .before .before .args .plan .now) (c .before .before .before .before .loop2 .work) (c .before .before .before .before .before .before .feed-of .result)) (c .before .before .before .before .before .before .before .before .before .before .loop .r .ends) (c .before .before .before .before .before .before .before .before .before .before .loop .servers) (c .before .before .loop3 .servers) (c .before .before .loop3 .work)
+served : (c : tie.Else2 Inv-loop2 μ-loop2 Inv-loop3 μ-loop3 Inv-loop μ-loop) → cluster-specs.Settled.CalmlyServed (feedOf (c .before .before .before .before .before .before .before .before .before .before .before .before .before .before .before .before .before .before .before .before .args .plan .now) (c .before .before .before .before .loop2 .work) (c .before .before .before .before .before .before .feed-of .result)) (c .before .before .before .before .before .before .before .before .before .before .loop .r .ends) (c .before .before .before .before .before .before .before .before .before .before .loop .servers) (c .before .before .loop3 .servers) (c .before .before .loop3 .work)
 served c =
     let e : c .before .before .loop3 .b ≡ c .before .before .before .before .before .before .feed-of .result .rules .n = omega (arith, c .if2 .left, c .before .before .loop3 .inv .0, same-number (c .before .before .before)) in
     let H = c .before .before .loop3 .inv .1 in
@@ -199,7 +195,7 @@ go-on-requires c κs =
     )
 
 -- after reads have ended and begun
-went-through : (c : tie.Joined4 Inv-loop2 μ-loop2 Inv-loop3 μ-loop3 Inv-loop μ-loop) → WentOn (c .before .before .before .before .before .before .before .before .before .before .before .before .before .before .before .before .before .before .before .before .before .before .before .before .before .before .before .before .args .plan .now) (c .before .before .before .before .before .before .before .before .before .before .before .before .before .before .before .before .before .before .before .before .before .before .before .before .before .before .before .before .args .t5) (c .before .before .before .before .before .before .before .before .before .before .before .before .before .before .before .before .before .before .loop .t) (c .before .before .before .before .before .before .before .before .before .before .before .before .loop2 .r) (c .if4 .r) (c .before .before .before .before .before .before .before .before .before .before .before .before .before .before .before .before .before .before .loop .answers) (c .if4 .answers) (c .before .before .before .before .before .before .write-on .last .0) (c .if4 .work)
+went-through : (c : tie.Joined4 Inv-loop2 μ-loop2 Inv-loop3 μ-loop3 Inv-loop μ-loop) → reading-specs.Reading.WentOn (c .before .before .before .before .before .before .before .before .before .before .before .before .before .before .before .before .before .before .before .before .before .before .before .before .before .before .before .before .args .plan .now) (c .before .before .before .before .before .before .before .before .before .before .before .before .before .before .before .before .before .before .before .before .before .before .before .before .before .before .before .before .args .t5) (c .before .before .before .before .before .before .before .before .before .before .before .before .before .before .before .before .before .before .loop .t) (c .before .before .before .before .before .before .before .before .before .before .before .before .loop2 .r) (c .if4 .r) (c .before .before .before .before .before .before .before .before .before .before .before .before .before .before .before .before .before .before .loop .answers) (c .if4 .answers) (c .before .before .before .before .before .before .write-on .last .0) (c .if4 .work)
 went-through c = elim (c .if4 .came) [
   | inl x ↦ rw (x .8, x .9, x .10) (x .3 .ensures)
   | inr y ↦ rw (y .1, y .2, y .3) (none-due _ _ _ _ _ _ _ (ready (c .before .before .before .before .before .before .before .before .before .before .before .before .before .before .before .before .before)) (below (c .before .before .before .before .before .before .before .before .before .before .before .before .before .before .before .before .before)) (c .before .before .before .before .before .before .before .before .before .before .before .before .before .before .before .before .before .before .loop .inv .3 .played) (c .before .before .before .before .before .before .before .before .before .before .before .before .before .before .before .before .before .before .loop .inv .2) _ (c .before .before .before .before .before .before .before .before .before .before .before .before .before .before .feed-of .ensures) _ _ (heard-by (c .before .before .before .before .before .before .before .before .before .before .before)) _ _ (sym (c .before .is-due .ensures) ∙ y .0 .left))
@@ -225,7 +221,7 @@ loop-again : tie.Need-loop-again Inv-loop2 μ-loop2 Inv-loop3 μ-loop3 Inv-loop 
 loop-again c =
     let W = went-through (c .before .before .before .before .before .before .before) in
     let G = went _ _ _ _ _ _ _ (ready (c .before .before .before .before .before .before .before .before .before .before .before .before .before .before .before .before .before .before .before .before .before .before .before .before)) (below (c .before .before .before .before .before .before .before .before .before .before .before .before .before .before .before .before .before .before .before .before .before .before .before .before)) (c .before .before .before .before .before .before .before .before .before .before .before .before .before .before .before .before .before .before .before .before .before .before .before .before .before .loop .inv .3 .played) (c .before .before .before .before .before .before .before .before .before .before .before .before .before .before .before .before .before .before .before .before .before .before .before .before .before .loop .inv .2) _ (c .before .before .before .before .before .before .before .before .before .before .before .before .before .before .before .before .before .before .before .before .before .feed-of .ensures) _ _ (heard-by (c .before .before .before .before .before .before .before .before .before .before .before .before .before .before .before .before .before .before)) _ _ (served (c .before .before .before .before .before .before .before .before .before .before .before .before .before .before .before)) _ _ (c .before .before .before .before .before .before .before .before .before .before .before .before .before .write-on .ensures) _ _ _ _ W _ (c .before .before .forge .ensures) in
-    (omega (arith, c .before .before .before .before .before .before .before .before .before .before .before .before .before .before .before .before .before .before .before .before .before .before .before .before .loop-test .taken), same-room (c .before .before .before .before .before .before .before) ∙ c .before .before .before .before .before .before .before .before .before .before .before .before .before .before .before .before .before .before .before .before .before .before .before .before .before .loop .inv .1, W .ends, went-on _ _ _ _ _ _ _ _ _ _ _ (c .before .before .before .before .before .before .before .before .before .before .before .before .before .before .before .before .before .before .before .before .before .before .before .before .before .loop .inv .3) G)
+    (omega (arith, c .before .before .before .before .before .before .before .before .before .before .before .before .before .before .before .before .before .before .before .before .before .before .before .before .loop-test .taken), same-room (c .before .before .before .before .before .before .before) ∙ c .before .before .before .before .before .before .before .before .before .before .before .before .before .before .before .before .before .before .before .before .before .before .before .before .before .loop .inv .1, W .ends, player-laws.Whole.went-on _ _ _ _ _ _ _ _ _ _ _ (c .before .before .before .before .before .before .before .before .before .before .before .before .before .before .before .before .before .before .before .before .before .before .before .before .before .loop .inv .3) G)
 
 same-length : tie.Need-same-length Inv-loop2 μ-loop2 Inv-loop3 μ-loop3 Inv-loop μ-loop
 same-length c = c .before .before .loop .inv .1
@@ -236,7 +232,7 @@ same-length-2 c = c .before .before .loop .inv .3 .kept .size
 returns : tie.Need-returns Inv-loop2 μ-loop2 Inv-loop3 μ-loop3 Inv-loop μ-loop
 returns c = (rw (c .before .before .before .of .ensures) at (c .before .before .loop .inv .3), omega (arith, c .before .before .loop .inv .0, c .before .loop-test .left))
 
-pub run-spec : {M : Type 1} → statement M
+pub run-spec : {M : Type 1} → player-laws.run.run.Statement.statement M
 run-spec =
     tie.close
     (tie.spec Inv-loop2 μ-loop2 Inv-loop3 μ-loop3 Inv-loop μ-loop (search needs) loop-holds feed-of-requires (search needs) loop2-holds cast-is-heard
