@@ -17,7 +17,7 @@ use Rattle.calendar.proofs.Posting.{same-cell}
 use Rattle.calendar.proofs.Stores.{same-row}
 
 -- the cells of the row with the pairs from `from` to before `to` are emptied
-pub record Emptied (a r : List ℕ) (row from to : ℕ) : Type 0 where
+pub record EmptiedTo (a r : List ℕ) (row from to : ℕ) : Type 0 where
   pub rest : SamePast a r
   pub front : (k : ℕ) → k < 2 * cellsAt → getD r k 0 ≡ getD a k 0
   pub cells : (x j i : ℕ) → x < rows → j < places → sender r x j i ≡ not (eqb x row && (leb from j && ltb j to)) && sender a x j i
@@ -30,7 +30,7 @@ no-number b y = go (leb b y) refl
     go true e = le-ltb y b (leb-true b y e)
     go false e = refl
 
-pub emptied-none : (a : List ℕ) (row from : ℕ) → Emptied a a row from from
+pub emptied-none : (a : List ℕ) (row from : ℕ) → EmptiedTo a a row from from
 emptied-none a row from = record {
   rest = record { size = refl; past = λ k l. refl };
   front = λ k l. refl;
@@ -58,8 +58,8 @@ row-more t from b x s h l g =
     rw (same-row x t b h g, and-comm (eqb (x % receivers) b) (eqb (t % 16) (x / receivers)), eqb-comm (t % 16) (x / receivers))
     (out-more (eqb (x / receivers) (t % 16)) from b (x % receivers) s l)
 
-pub emptied-more : (a r : List ℕ) (row from at : ℕ) → row < rows → at < places → from ≤ at → calendarSize ≤ length r → Emptied a r row from at
-    → Emptied a (putWord r (cellWord row at) 0) row from (at + 1)
+pub emptied-more : (a r : List ℕ) (row from at : ℕ) → row < rows → at < places → from ≤ at → calendarSize ≤ length r → EmptiedTo a r row from at
+    → EmptiedTo a (putWord r (cellWord row at) 0) row from (at + 1)
 emptied-more a r row from at hr ha hf size E = record {
   rest = record {
     size = put-length r (cellWord row at) 0 ∙ E .rest .size;
@@ -82,7 +82,7 @@ later from to y = go (leb from y) refl
     go true e = same (leb-true from y e) (ltb y to) refl
     go false e = refl
 
-pub cleared : (a r : List ℕ) (row : ℕ) → row < rows → calendarSize ≤ length r → Emptied a r row (lowOf a row) (max (lowOf a row) (highOf a row))
+pub cleared : (a r : List ℕ) (row : ℕ) → row < rows → calendarSize ≤ length r → EmptiedTo a r row (lowOf a row) (max (lowOf a row) (highOf a row))
     → Cleared a (putWord r row 0) row
 cleared a r row hr size E = record {
   rest = record {

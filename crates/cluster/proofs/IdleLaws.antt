@@ -88,7 +88,7 @@ module _ (work : List ℕ) (row : ℕ) (S : Spanned work places) where
 -- ---- what it sends
 
 -- no vote for a known pair, and no reply
-module _ (plan : List ℕ) (links : serving-specs.declared.Links.Links) (n t : ℕ) (ends : List ℕ) (i : ℕ) (row : serving-specs.declared.Row.Row) (wrote : places ≤ row .wrote) (echoed : row .echoed ≡ false) (readers : row .readers ≡ 0) where
+module _ (plan : List ℕ) (links : serving-specs.declared.Links.Links) (n t : ℕ) (ends : List ℕ) (i : ℕ) (row : serving-specs.declared.Outgoing.Outgoing) (wrote : places ≤ row .wrote) (echoed : row .echoed ≡ false) (readers : row .readers ≡ 0) where
   pub sends-none : (x j : ℕ) → j < places → serving-specs.Sends.sends plan links n t ends i row x j ≡ false
   unfolding serving-specs.Sends.sendsVote serving-specs.Sends.sendsReply
   sends-none x j l =
@@ -119,7 +119,7 @@ only-first m rules w votes asks live moving h t s o e d one = rw (e, ← one) (s
     still : (o : Both) → curedAt (rules .delta) t (o .server .status) ≡ false → o ≡ stageTwo (rules .delta) t o
     still o d = rw d
 
-module _ (F : cluster-specs.Tick.Feed) (ends : List ℕ) (b : ℕ) (s : serving-specs.declared.Server.Server) (l : b < 16) (S : Spanned (F .work) places) (few : F .known .m ≤ places)
+module _ (F : cluster-specs.Tick.Fed) (ends : List ℕ) (b : ℕ) (s : serving-specs.declared.Server.Server) (l : b < 16) (S : Spanned (F .work) places) (few : F .known .m ≤ places)
     (U : Unreached (F .work) b (F .arrivals) (F .movement) (F .t) (F .rules .delta) (statusOf (s .status)) (s .pending) (keys (s .kept)))
     (K : cluster-specs.Settled.Settled (F .known .m) (F .rules .echo) (F .rules .reply) (server s)) where
   -- no vote for a new pair arrives
@@ -155,7 +155,7 @@ module _ (F : cluster-specs.Tick.Feed) (ends : List ℕ) (b : ℕ) (s : serving-
   none-taken = sym (cluster-laws.Settled.taken-none _ (F .known .m) (server s .kept) (K .same))
 
   -- the row of a server that says nothing
-  quiet : Bool → serving-specs.declared.Row.Row
+  quiet : Bool → serving-specs.declared.Outgoing.Outgoing
   quiet true = record { wrote = noPair; echoed = false; readers = 0; kept = [] }
   quiet false = record { wrote = w; echoed = false; readers = 0; kept = s .kept }
 

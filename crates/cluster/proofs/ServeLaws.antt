@@ -21,12 +21,12 @@ use Rattle.serving.specs as serving-specs
 use Rattle.serving.specs.Sends.{votesFor, reaches, sendsVote, sendsReply, sends}
 use Rattle.serving.specs.Stored.{Step, server, both, statusOf, keys, absent}
 use Rattle.cluster.specs.Settled.{Settled, Calm, called, reached, CalmlyTurned, CalmlyServed, CalmlyTicked}
-use Rattle.cluster.specs.Tick.{Feed, Heard, Emptied, Stepped, Turned, Served, Ticked, endsOf, present}
+use Rattle.cluster.specs.Tick.{Fed, Heard, Emptied, Stepped, Turned, TurnedFirst, Ticked, endsOf, present}
 use Rattle.cluster.proofs.IdleLaws.{unreached, idle-turned}
 
 -- ---- nothing arrives in the tick in which it is sent
 
-module _ (plan : List ℕ) (links : serving-specs.declared.Links.Links) (n t : ℕ) (ends : List ℕ) (i : ℕ) (row : serving-specs.declared.Row.Row) (few : n < links .parties) (own : i < n)
+module _ (plan : List ℕ) (links : serving-specs.declared.Links.Links) (n t : ℕ) (ends : List ℕ) (i : ℕ) (row : serving-specs.declared.Outgoing.Outgoing) (few : n < links .parties) (own : i < n)
     (later : (q : ℕ) → q < links .parties → (q ≡ i → ⊥) → (q ≡ n → ⊥) → 1 ≤ serving-specs.Links.delayAt plan links t i q) where
   other-tick : (x q : ℕ) → q < links .parties → (q ≡ i → ⊥) → (q ≡ n → ⊥) → x / receivers ≡ t % 16
       → eqb (reaches plan links n t ends i row q % 16) (x / receivers) ≡ false
@@ -70,7 +70,7 @@ module _ (plan : List ℕ) (links : serving-specs.declared.Links.Links) (n t : �
   none-now x j e = rw (no-vote x j e, no-reply x j e)
 
 -- the same of the servers before b
-pub none-before : (F : Feed) (ends : List ℕ) → cluster-specs.Inputs.Tickable (F .plan) (F .work) (F .t) (F .rules) (F .known) (F .links) → (b : ℕ) → b < F .rules .n → (i x j : ℕ) (row : serving-specs.declared.Row.Row) → i < b
+pub none-before : (F : Fed) (ends : List ℕ) → cluster-specs.Inputs.Tickable (F .plan) (F .work) (F .t) (F .rules) (F .known) (F .links) → (b : ℕ) → b < F .rules .n → (i x j : ℕ) (row : serving-specs.declared.Outgoing.Outgoing) → i < b
     → x / receivers ≡ F .t % 16 → sends (F .plan) (F .links) (F .rules .n) (F .t) ends i row x j ≡ false
 none-before F ends Z b l i x j row h e =
     none-now (F .plan) (F .links) (F .rules .n) (F .t) ends i row (Z .linked .writer) (omega arith) (λ q u v w. Z .delays i q (omega arith) u v w) x j e
@@ -78,7 +78,7 @@ none-before F ends Z b l i x j row h e =
 -- ---- one server
 
 -- the feed of a later server: the workspace as the servers before it leave it
-abbrev pub feedAt : Feed → List ℕ → Feed
+abbrev pub feedAt : Fed → List ℕ → Fed
 feedAt F work = record {
   plan = F .plan;
   work = work;
@@ -91,7 +91,7 @@ feedAt F work = record {
 }
 
 -- what arrived is cleared, and what it sends is posted
-pub turned-here : (F : Feed) (ends : List ℕ) (b : ℕ) (s : Server) (o : Step) (cleared after : List ℕ) → Spanned (F .work) places
+pub turned-here : (F : Fed) (ends : List ℕ) (b : ℕ) (s : Server) (o : Step) (cleared after : List ℕ) → Spanned (F .work) places
     → (Settled (F .known .m) (F .rules .echo) (F .rules .reply) (server s) → Stepped (F .work) b (F .arrivals) (F .movement) (F .t) (F .rules) (F .known .m) (server s) (both o))
     → Cleared (F .work) cleared (rowOf (F .t) b) → Posted cleared after (λ x j k. eqb k b && sends (F .plan) (F .links) (F .rules .n) (F .t) ends b (o .row) x j)
     → CalmlyTurned F ends b s (o .server) after
@@ -120,8 +120,8 @@ turned-here F ends b s o cleared after S T C P = record {
 noStep : Step
 noStep = record { server = absent; row = record { wrote = 0; echoed = false; readers = 0; kept = [] } }
 
-module _ (F : Feed) (ends : List ℕ) (c : List Server) where
-  abbrev sent : ℕ → serving-specs.declared.Row.Row → ℕ → ℕ → Bool
+module _ (F : Fed) (ends : List ℕ) (c : List Server) where
+  abbrev sent : ℕ → serving-specs.declared.Outgoing.Outgoing → ℕ → ℕ → Bool
   sent i row x j = sends (F .plan) (F .links) (F .rules .n) (F .t) ends i row x j
 
   -- the first n servers have done the tick, if all were settled; the others are as they were
@@ -129,7 +129,7 @@ module _ (F : Feed) (ends : List ℕ) (c : List Server) where
     pub past : SamePast (F .work) work
     pub spans : Spanned work places
     pub rest : (b : ℕ) → n ≤ b → getD r b absent ≡ getD c b absent
-    pub served : Calm (F .rules) (F .known) c → Served F ends c r work n
+    pub served : Calm (F .rules) (F .known) c → TurnedFirst F ends c r work n
 
   pub serving-none : Spanned (F .work) places → Serving c (F .work) 0
   serving-none S = record {
@@ -148,8 +148,8 @@ module _ (F : Feed) (ends : List ℕ) (c : List Server) where
     };
   }
 
-  module _ (r : List Server) (work : List ℕ) (b : ℕ) (l : b < 16) (size : length c ≡ 16) (same : getD r b absent ≡ getD c b absent) (S : Served F ends c r work b)
-      (now : (i x j : ℕ) (row : serving-specs.declared.Row.Row) → i < b → x / receivers ≡ F .t % 16 → sent i row x j ≡ false) where
+  module _ (r : List Server) (work : List ℕ) (b : ℕ) (l : b < 16) (size : length c ≡ 16) (same : getD r b absent ≡ getD c b absent) (S : TurnedFirst F ends c r work b)
+      (now : (i x j : ℕ) (row : serving-specs.declared.Outgoing.Outgoing) → i < b → x / receivers ≡ F .t % 16 → sent i row x j ≡ false) where
     -- no server before it has sent anything that arrives now
     none-yet : (x j i : ℕ) → x / receivers ≡ F .t % 16 → ltb i b && sent i (S .outs i .row) x j ≡ false
     none-yet x j i e = go (ltb i b) refl
@@ -210,7 +210,7 @@ module _ (F : Feed) (ends : List ℕ) (c : List Server) where
           by-all (yes e) = rw (e, out-here, le-ltb b b (omega arith), eq-eqb b b refl, lt-ltb b (b + 1) (omega arith))
           by-all (no d) = rw (out-there i d, ne-eqb i b d) (rw (ne-eqb i b d) at (calendar-laws.Laws.ltb-more i b (sent i (S .outs i .row) x j)))
 
-      served-turn : Served F ends c (set r b q) after (b + 1)
+      served-turn : TurnedFirst F ends c (set r b q) after (b + 1)
       served-turn = record {
         outs = outs;
         size = length-set r b q ∙ S .size;
@@ -231,7 +231,7 @@ module _ (F : Feed) (ends : List ℕ) (c : List Server) where
           next i h (no d) = rw (out-there i d) (getD-set-other r b i q absent d ∙ S .next i (omega arith))
 
   module _ (r : List Server) (work : List ℕ) (b : ℕ) (l : b < 16) (size : length c ≡ 16) (H : Serving r work b)
-      (now : (i x j : ℕ) (row : serving-specs.declared.Row.Row) → i < b → x / receivers ≡ F .t % 16 → sent i row x j ≡ false) where
+      (now : (i x j : ℕ) (row : serving-specs.declared.Outgoing.Outgoing) → i < b → x / receivers ≡ F .t % 16 → sent i row x j ≡ false) where
     -- a server that something reaches
     pub serving-turn : b < F .rules .n → (q : Server) (after : List ℕ) → CalmlyTurned (feedAt F work) ends b (getD r b absent) q after → Serving (set r b q) after (b + 1)
     serving-turn own q after T = record {
@@ -250,7 +250,7 @@ module _ (F : Feed) (ends : List ℕ) (c : List Server) where
       past = record { size = E .rest .size ∙ H .past .size; past = λ k h. E .rest .past k h ∙ H .past .past k h };
       spans = E .spans;
       rest = λ i h. H .rest i (omega arith);
-      served = λ calm. subst (λ (x : List Server). Served F ends c x after (b + 1)) (set-getD r b absent)
+      served = λ calm. subst (λ (x : List Server). TurnedFirst F ends c x after (b + 1)) (set-getD r b absent)
           (served-turn r work b l size (H .rest b (omega arith)) (H .served calm) now (getD r b absent) after (idle calm));
     }
       where
@@ -275,8 +275,8 @@ sized-after plan work after t rules known links Z P S = record {
   delays = Z .delays;
 }
 
-module _ (F : Feed) (c : cluster-specs.declared.Cluster.Cluster) (heard : List cluster-specs.declared.Reader.Reader) (served : List Server) (noted work : List ℕ) (n : ℕ) (few : n ≤ 16) (size : length (c .servers) ≡ 16)
-    (H : Heard (F .work) noted (F .t) (c .readers) heard) (S : Served (feedAt F noted) (endsOf (c .readers)) (c .servers) served work n) where
+module _ (F : Fed) (c : cluster-specs.declared.Cluster.Cluster) (heard : List cluster-specs.declared.Reader.Reader) (served : List Server) (noted work : List ℕ) (n : ℕ) (few : n ≤ 16) (size : length (c .servers) ≡ 16)
+    (H : Heard (F .work) noted (F .t) (c .readers) heard) (S : TurnedFirst (feedAt F noted) (endsOf (c .readers)) (c .servers) served work n) where
   -- a server's row is not a reader's
   same-votes : (b j i : ℕ) → b < 16 → j < places → sender noted (rowOf (F .t) b) j i ≡ sender (F .work) (rowOf (F .t) b) j i
   same-votes b j i l m =
@@ -304,7 +304,7 @@ module _ (F : Feed) (c : cluster-specs.declared.Cluster.Cluster) (heard : List c
         ∙ rw (H .cells x j i l m, two-taken (eqb (x / receivers) (F .t % 16)) (ltb (x % receivers) n) (leb 16 (x % receivers)) (sender (F .work) x j i));
   }
 
-pub calmly-ticked : (F : Feed) (c : cluster-specs.declared.Cluster.Cluster) (heard : List cluster-specs.declared.Reader.Reader) (served : List Server) (noted work : List ℕ) → F .rules .n ≤ 16 → length (c .servers) ≡ 16
+pub calmly-ticked : (F : Fed) (c : cluster-specs.declared.Cluster.Cluster) (heard : List cluster-specs.declared.Reader.Reader) (served : List Server) (noted work : List ℕ) → F .rules .n ≤ 16 → length (c .servers) ≡ 16
     → Heard (F .work) noted (F .t) (c .readers) heard → CalmlyServed (feedAt F noted) (endsOf (c .readers)) (c .servers) served work
     → CalmlyTicked F c (record { servers = served; readers = heard }) work
 calmly-ticked F c heard served noted work few size H S = record {

@@ -294,7 +294,7 @@ stages-settled m rules he hr w votes asks live moving h t s S = go moving
     go false = after
 
 -- a server that has done a tick
-pub settled-next : (F : cluster-specs.Tick.Feed) (c r : cluster-specs.declared.Cluster.Cluster) (work : List ℕ) (n b : ℕ) → 1 ≤ F .rules .echo → 1 ≤ F .rules .reply → cluster-specs.Tick.Ticked F c r work n → b < n
+pub settled-next : (F : cluster-specs.Tick.Fed) (c r : cluster-specs.declared.Cluster.Cluster) (work : List ℕ) (n b : ℕ) → 1 ≤ F .rules .echo → 1 ≤ F .rules .reply → cluster-specs.Tick.Ticked F c r work n → b < n
     → Settled (F .known .m) (F .rules .echo) (F .rules .reply) (server (getD (c .servers) b absent))
     → Settled (F .known .m) (F .rules .echo) (F .rules .reply) (server (getD (r .servers) b absent))
 settled-next F c r work n b he hr T l S =

@@ -17,7 +17,7 @@ use Rattle.serving.specs.declared.Rules.{Rules}
 use Rattle.cluster.specs.declared.Known.{Known}
 use Rattle.serving.specs.Stored.{Plain, server, absent}
 use Rattle.serving.specs.Stages.{voting, anyNew}
-use Rattle.cluster.specs.Tick.{Feed, Turned, Served, Ticked}
+use Rattle.cluster.specs.Tick.{Fed, Turned, TurnedFirst, Ticked}
 
 pub record Settled (m e r : ℕ) (s : Plain) : Type 0 where
   pub few : length (s .kept) ≤ depth
@@ -36,7 +36,7 @@ called b due live moving t delta status pending = moving || (bit b due || (not (
 unfoldable pub reached : Bool → List ℕ → ℕ → Status → List ℕ → Bool
 reached busy work row status kept = busy || (not (isFaulty status) && anyNew kept (lowOf work row) (highOf work row))
 
-module _ (F : Feed) where
+module _ (F : Fed) where
   -- server b has done the tick if it was settled; the workspace is in order in any case
   pub record CalmlyTurned (ends : List ℕ) (b : ℕ) (s r : Server) (work : List ℕ) : Type 0 where
     pub rest : SamePast (F .work) work
@@ -47,7 +47,7 @@ module _ (F : Feed) where
   pub record CalmlyServed (ends : List ℕ) (c r : List Server) (work : List ℕ) : Type 0 where
     pub rest : SamePast (F .work) work
     pub spans : Spanned work places
-    pub served : Calm (F .rules) (F .known) c → Served F ends c r work (F .rules .n)
+    pub served : Calm (F .rules) (F .known) c → TurnedFirst F ends c r work (F .rules .n)
 
   -- the cluster likewise
   pub record CalmlyTicked (c r : Cluster) (work : List ℕ) : Type 0 where

@@ -18,7 +18,7 @@ use Rattle.cluster.specs.declared.Known.{Known}
 use Rattle.serving.specs.declared.Links.{Links}
 use Rattle.cluster.specs.declared.Arrivals.{Arrivals}
 use Rattle.cluster.specs.declared.Movement.{Movement}
-use Rattle.cluster.specs.declared.Feed.{Feed as Fed}
+use Rattle.cluster.specs.declared.Feed.{Feed}
 use Rattle.serving.specs.Bits.{sets}
 use Rattle.serving.specs.Stored.{Plain, Both, Step, server, both, absent}
 use Rattle.serving.specs.Stages.{nobody, noVotes, isNew, stagesOf}
@@ -70,7 +70,7 @@ pub record Stepped (work : List ℕ) (b : ℕ) (arrivals : Arrivals) (movement :
 -- ---- all servers
 
 -- what a tick is fed
-pub record Feed : Type 0 where
+pub record Fed : Type 0 where
   pub plan : List ℕ
   pub work : List ℕ
   pub t : ℕ
@@ -81,7 +81,7 @@ pub record Feed : Type 0 where
   pub movement : Movement
 
 -- the code's struct with the plan and the workspace
-abbrev pub feedOf : List ℕ → List ℕ → Fed → Feed
+abbrev pub feedOf : List ℕ → List ℕ → Feed → Fed
 feedOf plan work f = record {
   plan = plan;
   work = work;
@@ -93,7 +93,7 @@ feedOf plan work f = record {
   movement = f .movement;
 }
 
-module _ (F : Feed) where
+module _ (F : Fed) where
   -- the rows of the present tick: of the first n servers, and of the readers
   unfoldable pub present : ℕ → ℕ → Bool
   present n x = eqb (x / receivers) (F .t % 16) && (ltb (x % receivers) n || leb 16 (x % receivers))
@@ -110,7 +110,7 @@ module _ (F : Feed) where
         → sender work x j i ≡ ((not (eqb x (rowOf (F .t) b)) && sender (F .work) x j i) || (eqb i b && sends (F .plan) (F .links) (F .rules .n) (F .t) ends b (out .row) x j))
 
   -- the first n servers have done the tick: what arrived is taken, and what each of them sent is under way
-  pub record Served (ends : List ℕ) (c r : List Server) (work : List ℕ) (n : ℕ) : Type 0 where
+  pub record TurnedFirst (ends : List ℕ) (c r : List Server) (work : List ℕ) (n : ℕ) : Type 0 where
     -- what each server came to
     pub outs : ℕ → Step
     pub size : length r ≡ length c

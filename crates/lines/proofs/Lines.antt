@@ -52,7 +52,7 @@ module _ (s : List ℕ) (m : ℕ) (e : plan-specs.Check.checkOf 16 s ≡ plan-sp
   inside i l = rw (plan-laws.Accept.reads-counted 16 s m e) at l
 
   -- every answer fits its fields
-  pub answer-fits : (r : register-specs.Plan.Read) → register-specs.Lists.In r (P .reads) → simulator-laws.AnswerBytes.Fits 16 r (register-specs.Reading.answerOf P r)
+  pub answer-fits : (r : register-specs.Plan.Read) → register-specs.Lists.In r (P .reads) → simulator-laws.AnswerBytes.FieldsFit 16 r (register-specs.Reading.answerOf P r)
   answer-fits r i = simulator-laws.Judged.fits 16 s (plan-laws.Accept.accepted 16 s m e) r i (simulator-laws.PointThree.pointThree 16 refl s m e .served r i)
 
   fields-are : (i : ℕ) → i < m → answerIn (answersOf 16 s) i ≡ fieldsOf (readOf P i) (register-specs.Reading.answerOf P (readOf P i))

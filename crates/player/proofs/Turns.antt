@@ -53,7 +53,7 @@ pub record HeardBy (work noted : List ℕ) (t : ℕ) (p q : reading-specs.declar
   pub begun : q .begun ≡ p .begun
   pub answered : q .answered ≡ p .answered
 
-module _ (s work : List ℕ) (r : script-specs.declared.Script.Script) (t : ℕ) (servers : List Server) (p : reading-specs.declared.Reading.Reading) (written : ℕ) (Q : player-specs.Run.Ready s work r) (below : t < r .shape .ticks) (L : player-specs.Run.Played s work r (at servers p written t))
+module _ (s work : List ℕ) (r : script-specs.declared.Script.Script) (t : ℕ) (servers : List Server) (p : reading-specs.declared.Reading.Reading) (written : ℕ) (Q : player-specs.Run.Ready s work r) (below : t < r .shape .ticks) (L : player-specs.Run.PlayedTo s work r (at servers p written t))
     (same : p .ends ≡ endsOf (p .readers)) (f : cluster-specs.declared.Feed.Feed) (F : player-specs.Run.FedBy s work r written (p .ends) t f) (noted : List ℕ) (q : reading-specs.declared.Reading.Reading) (H : HeardBy work noted t p q) where
   -- reads may end and begin
   pub can-go-on : reading-specs.Reading.Begun r q

@@ -21,7 +21,7 @@ use Rattle.script.proofs.Fitting.{script-knows}
 use Rattle.answers.specs as answers-specs
 use Rattle.reading.specs.Reading.{placed}
 use Rattle.player.specs as player-specs
-use Rattle.player.specs.Run.{Decoded, Ready, Played, Fresh, answerIn, Went}
+use Rattle.player.specs.Run.{Decoded, Ready, PlayedTo, Fresh, answerIn, Went}
 use Rattle.reading.proofs.Cursors.{until-none, placed-none, placed-on}
 use Rattle.player.proofs as player-laws
 
@@ -35,7 +35,7 @@ ready-kept s a b r K R = record {
 -- ---- the start, and one tick more
 
 module _ (s : List ℕ) (r : script-specs.declared.Script.Script) where
-  pub played-none : (before work : List ℕ) (p : player-specs.declared.Playing.Playing) → Decoded s r → Fresh before work r p → Played s work r p
+  pub played-none : (before work : List ℕ) (p : player-specs.declared.Playing.Playing) → Decoded s r → Fresh before work r p → PlayedTo s work r p
   played-none before work p D E =
       rw (E .first) (record {
         size = E .started .size;
@@ -47,7 +47,7 @@ module _ (s : List ℕ) (r : script-specs.declared.Script.Script) where
         answered = until-none (r .reads .begun) (r .reads .m) (0 - 2 * r .rules .delta) (omega arith);
       })
 
-  pub went-none : (work answers : List ℕ) (p : player-specs.declared.Playing.Playing) → Played s work r p → Went s work work answers answers r p p
+  pub went-none : (work answers : List ℕ) (p : player-specs.declared.Playing.Playing) → PlayedTo s work r p → Went s work work answers answers r p p
   went-none work answers p L = record {
     kept = record { size = refl; behind = λ k l. refl };
     played = L;
@@ -83,7 +83,7 @@ module _ (s before after started : List ℕ) (r : script-specs.declared.Script.S
   pub ready : Ready s started r
   ready = record { decoded = decoded; room = omega (arith, scripted .forged .filled .size, fresh .kept .size); kept = fresh .kept }
 
-  pub begun : Played s started r first
+  pub begun : PlayedTo s started r first
   begun = played-none s r after started first decoded fresh
 
   pub servers-few : plan-specs.Header.headerOf 16 s .n ≤ 16
@@ -100,7 +100,7 @@ module _ (s before after started : List ℕ) (r : script-specs.declared.Script.S
         (λ x l. K .behind x (omega arith) ∙ (fresh .kept .behind x (omega arith) ∙ scripted .forged .filled .other x (inr (omega (arith, player-laws.Feeding.range s r decoded .forgeries-hi)))))
 
     -- a server after the last of the ticks
-    pub seen : (b t : ℕ) (end : List ℕ) → b < plan-specs.Header.headerOf 16 s .n → p .tick ≡ suc t → end ≡ answers-specs.Workspace.zeroed work → player-specs.Player.Seen s b t (record { server = getD (p .cluster .servers) b absent; known = r .writes .known }) before end
+    pub seen : (b t : ℕ) (end : List ℕ) → b < plan-specs.Header.headerOf 16 s .n → p .tick ≡ suc t → end ≡ answers-specs.Workspace.zeroed work → player-specs.Player.Viewed s b t (record { server = getD (p .cluster .servers) b absent; known = r .writes .known }) before end
     unfolding planOf
     seen b t end l e z =
         let R = rw e at (W .played .state .servers b l) in

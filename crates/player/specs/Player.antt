@@ -16,7 +16,7 @@ pub record AllAnswered (s answers₀ answers₁ work₀ work₁ : List ℕ) : Ty
   pub workspace : work₁ ≡ zeroed work₀
 
 -- server b after tick t
-pub record Seen (s : List ℕ) (b t : ℕ) (x : View) (work₀ work₁ : List ℕ) : Type 0 where
+pub record Viewed (s : List ℕ) (b t : ℕ) (x : View) (work₀ work₁ : List ℕ) : Type 0 where
   pub status : serverOf (cluster (planOf 16 s) (suc t)) b .status ≡ statusOf (x .server .status)
   pub kept : serverOf (cluster (planOf 16 s) (suc t)) b .kept ≡ map (pairAt (x .known)) (keys (x .server .kept))
   pub narrow : Narrow (x .known)

@@ -44,7 +44,7 @@ pub record FedBy (s work : List ℕ) (r : Script) (number : ℕ) (ends : List �
   pub moves : Moves s (r .shape .period) t (f .movement)
 
 -- the ticks below t are played: what has begun, and what has ended
-pub record Played (s work : List ℕ) (r : Script) (p : Playing) : Type 0 where
+pub record PlayedTo (s work : List ℕ) (r : Script) (p : Playing) : Type 0 where
   pub size : length (p .cluster .servers) ≡ 16
   pub state : State (planOf 16 s) (pairAt (r .writes .known)) (r .writes .known .m) (p .tick) (p .cluster) work
   pub requested : Requested (planOf 16 s) (p .tick) work
@@ -59,7 +59,7 @@ answerIn s i = answerBytes 16 (getD (planOf 16 s .reads) i noRead) (answerOf (pl
 -- the ticks from p on are played up to q: the workspace past the calendar and the requests stays, and the reads that end in them are answered
 pub record Went (s work₀ work₁ answers₀ answers₁ : List ℕ) (r : Script) (p q : Playing) : Type 0 where
   pub kept : SameBehind work₀ work₁
-  pub played : Played s work₁ r q
+  pub played : PlayedTo s work₁ r q
   pub ordered : p .answered ≤ q .answered
   pub answers : answers₁ ≡ placed (answerIn s) (p .answered) (q .answered - p .answered) answers₀
 

@@ -8,7 +8,7 @@ ghost use Rattle.answers.specs.Answers.{answerSize};
 ghost use Rattle.answers.specs.Workspace.{workspaceSize};
 ghost use Rattle.script.specs.Forged.{entriesEnd};
 ghost use Rattle.player.specs.Run.{Fresh};
-ghost use Rattle.player.specs.Player.{AllAnswered, Seen};
+ghost use Rattle.player.specs.Player.{AllAnswered, Viewed};
 use calendar::PLACES;
 use cluster::Cluster;
 use cluster::Known;
@@ -69,7 +69,7 @@ pub fn play(plan: &[u8], answers: &mut [u8], work: &mut [u8])
 // A server after a tick; the workspace is zeroed.
 pub fn look(plan: &[u8], work: &mut [u8], server: usize, tick: u8) -> View
     requires { ⌜ Playable 16 (now plan) × (workspaceSize ≤ length (now work)) × (server < headerOf 16 (now plan) .n) × (tick < headerOf 16 (now plan) .ticks) ⌝ }
-    ensures { λ r. ⌜ Seen (now (plan .entry)) server tick r (now (work .entry)) (now (work .exit)) ⌝ }
+    ensures { λ r. ⌜ Viewed (now (plan .entry)) server tick r (now (work .entry)) (now (work .exit)) ⌝ }
 {
     let script = script::read(plan, work);
     let start = begin(work, script);

@@ -88,14 +88,14 @@ module _ {P : Plan} {x : Read} {values begun : List ℕ} {m last : ℕ} (K : Sou
   pub last-pair : lastFinished P x ≡ pairAt values last
   last-pair = go (last-cases P x)
     where
-      Known : Type 0
-      Known = (lastFinished P x ≡ P .initial) ⊎ ((u : Write) × In u (P .writes) × (lastFinished P x ≡ u .pair) × T (finished P x u))
+      Either : Type 0
+      Either = (lastFinished P x ≡ P .initial) ⊎ ((u : Write) × In u (P .writes) × (lastFinished P x ≡ u .pair) × T (finished P x u))
 
       by-number : (j : ℕ) → j ≤ last → lastFinished P x ≡ pairAt values j → Dec (j ≡ last) → lastFinished P x ≡ pairAt values last
       by-number j l e (yes d) = e ∙ ap (pairAt values) d
       by-number j l e (no d) = absurd (no-higher (omega arith) (omega (arith, pair-rises j last (omega arith))))
 
-      go : Known → lastFinished P x ≡ pairAt values last
+      go : Either → lastFinished P x ≡ pairAt values last
       go (inl e) = by-number 0 (omega arith) (e ∙ K .tables .initial) (ℕ-discrete 0 last)
       go (inr (u, i, e, t)) =
           let (j, p, l, w) = in-write u i in

@@ -48,7 +48,7 @@ module _ (plan : List ℕ) (links : serving-specs.declared.Links.Links) (n u : �
       let m : (u * p + (i + 1)) * p ≤ (u * p + p) * p = mul-le-mul {n₂ = u * p + p} {m₂ = p} (omega arith) (omega arith) in
       omega (arith, m, L .inside)
 
-module _ (plan : List ℕ) (links : serving-specs.declared.Links.Links) (n t : ℕ) (ends : List ℕ) (i : ℕ) (row : serving-specs.declared.Row.Row) where
+module _ (plan : List ℕ) (links : serving-specs.declared.Links.Links) (n t : ℕ) (ends : List ℕ) (i : ℕ) (row : serving-specs.declared.Outgoing.Outgoing) where
   -- ---- its votes
 
   -- the messages with the pairs of P to the servers but itself
@@ -215,10 +215,10 @@ module _ (plan : List ℕ) (links : serving-specs.declared.Links.Links) (n t : �
       posted-none a _ (λ x j k l m. rw (e, calendar-laws.Laws.bit-zero (x % receivers - 15), and-false (leb 16 (x % receivers))) (and-false (eqb k i)))
 
 -- a row of which only the replies matter
-abbrev pub replying : ℕ → List calendar-specs.declared.Stamped.Stamped → serving-specs.declared.Row.Row
+abbrev pub replying : ℕ → List calendar-specs.declared.Stamped.Stamped → serving-specs.declared.Outgoing.Outgoing
 replying readers kept = record { wrote = 0; echoed = false; readers = readers; kept = kept }
 
-module _ (plan : List ℕ) (links : serving-specs.declared.Links.Links) (n t : ℕ) (ends : List ℕ) (i : ℕ) (row : serving-specs.declared.Row.Row) where
+module _ (plan : List ℕ) (links : serving-specs.declared.Links.Links) (n t : ℕ) (ends : List ℕ) (i : ℕ) (row : serving-specs.declared.Outgoing.Outgoing) where
   pub replies-last : (a r : List ℕ) → Posted a r (repliesBelow plan links n t ends i (replying (row .readers) (row .kept)) 5)
       → Posted a r (λ x j k. eqb k i && sendsReply plan links n t ends i row x j)
   unfolding sendsReply

@@ -8,15 +8,15 @@ use Rattle.calendar.specs.Bits.{bit}
 use Rattle.calendar.specs.Layout.{receivers}
 use Rattle.calendar.specs.Posts.{among}
 use Rattle.serving.specs.declared.Links.{Links}
-use Rattle.serving.specs.declared.Row.{Row}
+use Rattle.serving.specs.declared.Outgoing.{Outgoing}
 use Rattle.serving.specs.Links.{delayAt}
 
 -- its votes: for the pair of a WRITE, and at an echo for the pairs that it keeps
-abbrev pub votesFor : Row → ℕ → Bool
+abbrev pub votesFor : Outgoing → ℕ → Bool
 votesFor row j = eqb j (row .wrote) || (row .echoed && among (row .kept) j)
 
 -- server i in tick t, among n servers; `ends` has the tick in which each reader's last read ends
-module _ (plan : List ℕ) (links : Links) (n t : ℕ) (ends : List ℕ) (i : ℕ) (row : Row) where
+module _ (plan : List ℕ) (links : Links) (n t : ℕ) (ends : List ℕ) (i : ℕ) (row : Outgoing) where
   -- the tick in which what it sends reaches party q
   abbrev pub reaches : ℕ → ℕ
   reaches q = t + delayAt plan links t i q

@@ -12,7 +12,7 @@ use Rattle.serving.specs.declared.Status.{Status as StoredStatus}
 use Rattle.serving.specs.declared.Status.the-variants.{Faulty, Cured, Correct}
 use Rattle.serving.specs.declared.Voters.{Voters}
 use Rattle.serving.specs.declared.Server.{Server}
-use Rattle.serving.specs.declared.Row.{Row}
+use Rattle.serving.specs.declared.Outgoing.{Outgoing}
 use Rattle.serving.specs.declared.Delivery.{Delivery}
 use Rattle.calendar.specs.Bits.{bit}
 use Rattle.serving.specs.Bits.{sets, listed}
@@ -57,13 +57,13 @@ putAt i p ps = take i ps ++ (p ∷ drop i ps)
 abbrev pub server : Server → Plain
 server s = record { status = statusOf (s .status); kept = keys (s .kept); pending = λ x. bit x (s .pending); fresh = sets (listed (s .fresh)); old = sets (listed (s .old)) }
 
-abbrev pub saidBy : Row → Said
+abbrev pub saidBy : Outgoing → Said
 saidBy r = record { wrote = r .wrote; echoed = r .echoed; readers = λ x. bit x (r .readers); pairs = keys (r .kept) }
 
 -- a server, and what it sends
 pub record Step : Type 0 where
   pub server : Server
-  pub row : Row
+  pub row : Outgoing
 
 abbrev pub both : Step → Both
 both s = record { server = server (s .server); said = saidBy (s .row) }

@@ -59,7 +59,7 @@ pub struct Links {
 }
 
 // What a server sends in a tick: a vote for the pair of a WRITE (NO_PAIR: none), votes for its pairs if it echoes, its pairs to some readers.
-pub struct Row {
+pub struct Outgoing {
     pub wrote: u8,
     pub echoed: bool,
     pub readers: u8,
@@ -69,5 +69,5 @@ pub struct Row {
 // What a server makes of what arrives: the readers on its list, and what it sends.
 pub struct Delivery {
     pub pending: u8,
-    pub row: Row,
+    pub row: Outgoing,
 }

@@ -9,10 +9,10 @@ ghost use Rattle.calendar.specs.View.{Posted};
 ghost use Rattle.serving.specs.Links.{Linked};
 ghost use Rattle.serving.specs.Sends.{sendsVote, sendsReply, sends};
 use super::Links;
+use super::Outgoing;
 use super::PAST_READERS;
 use super::READERS;
 use super::READERS_AT;
-use super::Row;
 use super::delays;
 use calendar::PLACES;
 use calendar::Sending;
@@ -35,7 +35,7 @@ fn send_votes(
     n: usize,
     t: usize,
     i: usize,
-    row: Row,
+    row: Outgoing,
     ends: [u8; READERS],
 )
     requires { ⌜ (calendarSize ≤ length (now work)) × Linked (now plan) links n (t + 1) × (t < 128) × (i < n) ⌝ }
@@ -60,7 +60,7 @@ fn send_replies(
     n: usize,
     t: usize,
     i: usize,
-    row: Row,
+    row: Outgoing,
     ends: [u8; READERS],
 )
     requires { ⌜ (calendarSize ≤ length (now work)) × Linked (now plan) links n (t + 1) × (t < 128) × (i < n) ⌝ }
@@ -90,7 +90,7 @@ pub fn send(
     n: usize,
     t: usize,
     i: usize,
-    row: Row,
+    row: Outgoing,
     ends: [u8; READERS],
 )
     requires { ⌜ (calendarSize ≤ length (now work)) × Linked (now plan) links n (t + 1) × (t < 128) × (i < n) ⌝ }

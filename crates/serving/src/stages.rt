@@ -8,7 +8,7 @@ ghost use Rattle.serving.specs.Bits.{sets, listed};
 ghost use Rattle.serving.specs.Stored.{keys, server, saidBy, deliveredTo};
 ghost use Rattle.serving.specs.Stages.{silent, within, quorate, taken, voting, withWrite, deliveredOf, movedOn};
 use super::Delivery;
-use super::Row;
+use super::Outgoing;
 use super::Rules;
 use super::Server;
 use super::Status;
@@ -92,11 +92,11 @@ fn replied(correct: bool, same: bool, asks: u8, pending: u8) -> u8
 }
 
 // The row of a server that sends nothing.
-pub fn quiet() -> Row
+pub fn quiet() -> Outgoing
     ensures { λ r. ⌜ saidBy r ≡ silent ⌝ }
 {
     let none = store::none();
-    Row {
+    Outgoing {
         wrote: NO_PAIR,
         echoed: false,
         readers: 0,
@@ -135,7 +135,7 @@ pub fn deliver(
         asks,
         pending,
     );
-    let row = Row {
+    let row = Outgoing {
         wrote,
         echoed: false,
         readers,

@@ -17,7 +17,7 @@ use Rattle.answers.proofs.Lengths.{answer-length, answers-length}
 use Rattle.simulator.proofs.Bytes.{field-high, field-low, parts-lt, field-bytes, joined, field-joined}
 
 -- an answer whose parts fit their fields
-pub record Fits (w : ℕ) (r : Read) (a : Answer) : Type 0 where
+pub record FieldsFit (w : ℕ) (r : Read) (a : Answer) : Type 0 where
   pub begun-fits : r .begun < 128
   pub reader-fits : r .reader < 8
   pub number-fits : numberOf w (a .pair) < 256
@@ -54,7 +54,7 @@ module _ (w : ℕ) (r : Read) (a : Answer) where
   unfolding packed begin-reader with-value with-number with-count
   packed-parts = omega arith
 
-  packed-lt : Fits w r a → with-count * 2 ^ 1 + 0 < 2 ^ (10 + w + 8 + 5 + 1)
+  packed-lt : FieldsFit w r a → with-count * 2 ^ 1 + 0 < 2 ^ (10 + w + 8 + 5 + 1)
   unfolding begin-reader with-value with-number with-count
   packed-lt F =
       parts-lt (10 + w + 8 + 5) 1
@@ -63,13 +63,13 @@ module _ (w : ℕ) (r : Read) (a : Answer) where
       (parts-lt 10 w
       (parts-lt 7 3 (F .begun-fits) (F .reader-fits)) (value-below w (a .pair))) (F .number-fits)) (F .count-fits)) (lit< tt)
 
-  all-bits : w % 8 ≡ 0 → Fits w r a → fieldOf (answerBytes w r a) 0 (10 + w + 8 + 5 + 1) ≡ with-count * 2 ^ 1 + 0
+  all-bits : w % 8 ≡ 0 → FieldsFit w r a → fieldOf (answerBytes w r a) 0 (10 + w + 8 + 5 + 1) ≡ with-count * 2 ^ 1 + 0
   unfolding answerBytes
   all-bits h F =
       let e : 8 * answerSize w ≡ 10 + w + 8 + 5 + 1 = omega arith in
       (rw e at (field-bytes (answerSize w) (packed w r a))) ∙ rw packed-parts (mod-eq-of-lt (packed-lt F))
 
-  pub reads-back : w % 8 ≡ 0 → Fits w r a → ReadsBack w (answerBytes w r a) r a
+  pub reads-back : w % 8 ≡ 0 → FieldsFit w r a → ReadsBack w (answerBytes w r a) r a
   unfolding begin-reader with-value with-number with-count
   reads-back h F =
       let b = answerBytes w r a in
@@ -102,7 +102,7 @@ module _ (w : ℕ) (P : Plan) where
   bytes-even r = answer-length w r (answerOf P r)
 
   -- the fields of answer i are those of its read
-  module _ (whole : w % 8 ≡ 0) (rs : List Read) (d : Read) (i : ℕ) (l : i < length rs) (F : Fits w (getD rs i d) (answerOf P (getD rs i d))) where
+  module _ (whole : w % 8 ≡ 0) (rs : List Read) (d : Read) (i : ℕ) (l : i < length rs) (F : FieldsFit w (getD rs i d) (answerOf P (getD rs i d))) where
     back : ReadsBack w (answerBytes w (getD rs i d) (answerOf P (getD rs i d))) (getD rs i d) (answerOf P (getD rs i d))
     back = reads-back w (getD rs i d) (answerOf P (getD rs i d)) whole F
 

@@ -19,7 +19,7 @@ use Rattle.plan.specs.Packed.{planOf}
 use Rattle.plan.proofs as plan-laws
 use Rattle.answers.specs.Answers.{answerSize, answersOf}
 use Rattle.simulator.specs.Judge.{readOf, answerFits, answerAllowed, judgeAfter, judgeOf}
-use Rattle.simulator.proofs.AnswerBytes.{Fits, begin-of, reader-of, pair-of, zero-of, answersOf-length}
+use Rattle.simulator.proofs.AnswerBytes.{FieldsFit, begin-of, reader-of, pair-of, zero-of, answersOf-length}
 
 -- what the regular register allows is the initial pair or that of a write
 pub allowed-cases : (P : Plan) (r : Read) (p : ℕ) → allowed P r p ≡ true → (p ≡ P .initial) ⊎ ((u : Write) × In u (P .writes) × (u .pair ≡ p))
@@ -29,10 +29,10 @@ allowed-cases P r p e = go (register-laws.Logic.or-e (eqb p (lastFinished P r)) 
     written : Write → Bool
     written u = eqb (u .pair) p && concurrent P r u
 
-    Known : Type 0
-    Known = (p ≡ P .initial) ⊎ ((u : Write) × In u (P .writes) × (u .pair ≡ p))
+    Either : Type 0
+    Either = (p ≡ P .initial) ⊎ ((u : Write) × In u (P .writes) × (u .pair ≡ p))
 
-    go : T (eqb p (lastFinished P r)) ⊎ T (any written (P .writes)) → Known
+    go : T (eqb p (lastFinished P r)) ⊎ T (any written (P .writes)) → Either
     go (inl h) =
         let q = eqb→eq p (lastFinished P r) h in
         elim (register-laws.Regular.last-cases P r) [ inl e ↦ inl (q ∙ e) | inr (u, i, e, t) ↦ inr (u, i, sym (q ∙ e)) ]
@@ -54,7 +54,7 @@ module _ (w : ℕ) (s : List ℕ) (A : plan-laws.Accept.Accepted w s) where
       go (inr (u, i, q)) = omega (arith, ap (numberOf w) q, plan-laws.AcceptWrites.number-hi w s (A .playable) u i)
 
   -- the answer of a served read fits its fields
-  pub fits : (r : Read) → In r (planOf w s .reads) → register-specs.Promise.Served (planOf w s) r → Fits w r (register-specs.Reading.answerOf (planOf w s) r)
+  pub fits : (r : Read) → In r (planOf w s .reads) → register-specs.Promise.Served (planOf w s) r → FieldsFit w r (register-specs.Reading.answerOf (planOf w s) r)
   unfolding register-specs.Reading.countIn planOf
   fits r i S =
       let P : Plan = planOf w s in
@@ -75,7 +75,7 @@ module _ (w : ℕ) (s : List ℕ) (A : plan-laws.Accept.Accepted w s) where
     read-in : (i : ℕ) → i < length (planOf w s .reads) → In (readOf (planOf w s) i) (planOf w s .reads)
     read-in i l = plan-laws.Tests.getD-in (planOf w s .reads) i none l
 
-    read-fits : (i : ℕ) → i < length (planOf w s .reads) → Fits w (readOf (planOf w s) i) (register-specs.Reading.answerOf (planOf w s) (readOf (planOf w s) i))
+    read-fits : (i : ℕ) → i < length (planOf w s .reads) → FieldsFit w (readOf (planOf w s) i) (register-specs.Reading.answerOf (planOf w s) (readOf (planOf w s) i))
     read-fits i l = fits (readOf (planOf w s) i) (read-in i l) (served (readOf (planOf w s) i) (read-in i l))
 
     all-fit : (i : ℕ) → i < length (planOf w s .reads) → T (answerFits w s (answersOf w s) i)

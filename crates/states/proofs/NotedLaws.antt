@@ -55,13 +55,13 @@ module _ (P : Plan) (G : Good P) (r : Read) (p i : ℕ) (l : i < P .n) where
   way s = replyWay P log (readEnd P r) r s p i
 
   -- one reply, and one forged reply, under way for tick s
-  abbrev Sent : ℕ → ℕ → Type 0
-  Sent s u = (u < readEnd P r) × T (replyFrom P log (readEnd P r) r u s p i)
+  abbrev SentFrom : ℕ → ℕ → Type 0
+  SentFrom s u = (u < readEnd P r) × T (replyFrom P log (readEnd P r) r u s p i)
 
-  abbrev Forged : ℕ → Forgery → Type 0
-  Forged s x = In x (P .forged) × (r .begun ≤ x .at) × (x .at < readEnd P r) × T (forgedAs P s (P .n + r .reader) p i x)
+  abbrev ForgedIn : ℕ → Forgery → Type 0
+  ForgedIn s x = In x (P .forged) × (r .begun ≤ x .at) × (x .at < readEnd P r) × T (forgedAs P s (P .n + r .reader) p i x)
 
-  way-e : (s : ℕ) → T (way s) → (s ≤ readEnd P r) × (((u : ℕ) × Sent s u) ⊎ ((x : Forgery) × Forged s x))
+  way-e : (s : ℕ) → T (way s) → (s ≤ readEnd P r) × (((u : ℕ) × SentFrom s u) ⊎ ((x : Forgery) × ForgedIn s x))
   unfolding replyWay
   way-e s h = (
     leb→le s (readEnd P r) (and-l (leb s (readEnd P r)) (anyUpTo (readEnd P r) f || any k (P .forged)) h),
@@ -87,13 +87,13 @@ module _ (P : Plan) (G : Good P) (r : Read) (p i : ℕ) (l : i < P .n) where
       k : Forgery → Bool
       k x = leb (r .begun) (x .at) && (ltb (x .at) (readEnd P r) && forgedAs P s (P .n + r .reader) p i x)
 
-  way-sent : (s u : ℕ) → s ≤ readEnd P r → Sent s u → T (way s)
+  way-sent : (s u : ℕ) → s ≤ readEnd P r → SentFrom s u → T (way s)
   unfolding replyWay
   way-sent s u h a =
       and-i (leb s (readEnd P r)) _ (le→leb s (readEnd P r) h)
       (or-l (anyUpTo (readEnd P r) (λ u. replyFrom P log (readEnd P r) r u s p i)) _ (anyUpTo-i (readEnd P r) (λ u. replyFrom P log (readEnd P r) r u s p i) u (a .0) (a .1)))
 
-  way-forged : (s : ℕ) (x : Forgery) → s ≤ readEnd P r → Forged s x → T (way s)
+  way-forged : (s : ℕ) (x : Forgery) → s ≤ readEnd P r → ForgedIn s x → T (way s)
   unfolding replyWay
   way-forged s x h a =
       and-i (leb s (readEnd P r)) _ (le→leb s (readEnd P r) h)
@@ -108,7 +108,7 @@ module _ (P : Plan) (G : Good P) (r : Read) (p i : ℕ) (l : i < P .n) where
   abbrev claim : Forgery → Claim
   claim x = claimOf (x .from) (x .pair)
 
-  forged-e : T (has (forgedTo P r) p i) → (x : Forgery) × Forged (x .at + P .delay (x .at) (x .from) (x .to)) x × (x .at + P .delay (x .at) (x .from) (x .to) ≤ readEnd P r)
+  forged-e : T (has (forgedTo P r) p i) → (x : Forgery) × ForgedIn (x .at + P .delay (x .at) (x .from) (x .to)) x × (x .at + P .delay (x .at) (x .from) (x .to) ≤ readEnd P r)
   unfolding forgedTo claimOf
   forged-e h =
       let c = has-in (map claim (filter isTo (P .forged))) p i h in
@@ -131,7 +131,7 @@ module _ (P : Plan) (G : Good P) (r : Read) (p i : ℕ) (l : i < P .n) where
         late,
       )
 
-  forged-i : (s : ℕ) (x : Forgery) → s ≤ readEnd P r → Forged s x → T (has (forgedTo P r) p i)
+  forged-i : (s : ℕ) (x : Forgery) → s ≤ readEnd P r → ForgedIn s x → T (has (forgedTo P r) p i)
   unfolding forgedTo claimOf
   forged-i s x h a =
       let arrival : ℕ = x .at + P .delay (x .at) (x .from) (x .to) in

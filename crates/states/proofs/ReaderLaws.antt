@@ -19,7 +19,7 @@ use Rattle.calendar.specs as calendar-specs
 use Rattle.calendar.specs.Layout.{rows, places, rowOf, sender}
 use Rattle.cluster.specs as cluster-specs
 use Rattle.serving.specs as serving-specs
-use Rattle.cluster.specs.Tick.{Feed, Ticked, noReader, endsOf, present}
+use Rattle.cluster.specs.Tick.{Fed, Ticked, noReader, endsOf, present}
 use Rattle.states.specs.Way.{forgedAs, replyWay, heardWay}
 use Rattle.states.specs.State.{Open, Idle, Hears, State}
 use Rattle.states.proofs as states-laws
@@ -46,7 +46,7 @@ module _ (P : Plan) (m t : ℕ) where
 
 -- ---- one tick
 
-module _ (P : Plan) (G : Good P) (F : Feed) (fit : cluster-specs.Inputs.Fits P (F .t) (F .plan) (F .rules) (F .known) (F .links) (F .arrivals) (F .movement))
+module _ (P : Plan) (G : Good P) (F : Fed) (fit : cluster-specs.Inputs.Fits P (F .t) (F .plan) (F .rules) (F .known) (F .links) (F .arrivals) (F .movement))
     (K : cluster-specs.Inputs.Knows P (cluster-specs.Inputs.pairAt (F .known)) (F .known .m)) (c r : cluster-specs.declared.Cluster.Cluster) (work : List ℕ) (D : Ticked F c r work (P .n))
     (S : State P (cluster-specs.Inputs.pairAt (F .known)) (F .known .m) (F .t) c (F .work))
     (ended : (b : ℕ) → b < P .n → states-laws.Told.End P (cluster-specs.Inputs.pairAt (F .known)) (F .known .m) (F .t) (end P (F .t) b) (serving-specs.Stored.both (D .outs b)))

@@ -65,7 +65,7 @@ module _ (s y : ℕ) (lo : 1 ≤ y) (hi : y ≤ 4) where
   reader-slot = row-slot s (15 + y) (omega arith)
 
   -- what a server posts in it in tick t
-  module _ (plan : List ℕ) (links : serving-specs.declared.Links.Links) (n t : ℕ) (few : n ≤ 16) (ends : List ℕ) (i : ℕ) (row : serving-specs.declared.Row.Row) (d : ℕ)
+  module _ (plan : List ℕ) (links : serving-specs.declared.Links.Links) (n t : ℕ) (few : n ≤ 16) (ends : List ℕ) (i : ℕ) (row : serving-specs.declared.Outgoing.Outgoing) (d : ℕ)
       (delay : serving-specs.Links.delayAt plan links t i (n + y) ≡ d) (slow : (1 ≤ d) × (d ≤ 15)) (after : t < s) (near : s ≤ t + 16) where
     pub no-vote : (j : ℕ) → serving-specs.Sends.sendsVote plan links n t ends i row (rowOf s (15 + y)) j ≡ false
     unfolding serving-specs.Sends.sendsVote

@@ -17,7 +17,7 @@ use Rattle.calendar.proofs.Spans.{empty-spanned}
 use Rattle.cluster.specs as cluster-specs
 use Rattle.serving.specs as serving-specs
 use Rattle.cluster.specs.Inputs.{pairAt, Knows, Fits}
-use Rattle.cluster.specs.Tick.{Feed, Ticked, Started, noReader}
+use Rattle.cluster.specs.Tick.{Fed, Ticked, Started, noReader}
 use Rattle.states.specs as states-specs
 use Rattle.cluster.proofs.Settled.{first-settled, settled-next}
 use Rattle.states.proofs.WayLaws.{none-any}
@@ -25,11 +25,11 @@ use Rattle.states.proofs.VoteLaws.{ended, among-is, new-server, new-vot
 use Rattle.states.proofs.ReaderLaws.{Begins, Forges, noted-end as reader-noted, hears-next, idle-now, way-next, none-next}
 
 -- the servers are settled, so that a tick may leave alone those that nothing reaches
-pub calm : (P : Plan) (F : Feed) → Fits P (F .t) (F .plan) (F .rules) (F .known) (F .links) (F .arrivals) (F .movement) → (c : cluster-specs.declared.Cluster.Cluster)
+pub calm : (P : Plan) (F : Fed) → Fits P (F .t) (F .plan) (F .rules) (F .known) (F .links) (F .arrivals) (F .movement) → (c : cluster-specs.declared.Cluster.Cluster)
     → states-specs.State.State P (pairAt (F .known)) (F .known .m) (F .t) c (F .work) → cluster-specs.Settled.Calm (F .rules) (F .known) (c .servers)
 calm P F fit c S b l = rw (fit .echo, fit .reply) (S .settled b (omega (arith, fit .n)))
 
-module _ (P : Plan) (G : register-laws.Good.Good P) (F : Feed) (fit : Fits P (F .t) (F .plan) (F .rules) (F .known) (F .links) (F .arrivals) (F .movement))
+module _ (P : Plan) (G : register-laws.Good.Good P) (F : Fed) (fit : Fits P (F .t) (F .plan) (F .rules) (F .known) (F .links) (F .arrivals) (F .movement))
     (K : Knows P (pairAt (F .known)) (F .known .m)) (c r : cluster-specs.declared.Cluster.Cluster) (work : List ℕ) (fed : Ticked F c r work (F .rules .n))
     (S : states-specs.State.State P (pairAt (F .known)) (F .known .m) (F .t) c (F .work)) where
   abbrev t : ℕ

@@ -56,7 +56,7 @@ stages-law m rules w votes asks live mv false h h' t s o k2 delta e r a b c d f 
 
 -- ---- one tick
 
-module _ (P : Plan) (G : register-laws.Good.Good P) (F : cluster-specs.Tick.Feed) (fit : cluster-specs.Inputs.Fits P (F .t) (F .plan) (F .rules) (F .known) (F .links) (F .arrivals) (F .movement))
+module _ (P : Plan) (G : register-laws.Good.Good P) (F : cluster-specs.Tick.Fed) (fit : cluster-specs.Inputs.Fits P (F .t) (F .plan) (F .rules) (F .known) (F .links) (F .arrivals) (F .movement))
     (K : cluster-specs.Inputs.Knows P (cluster-specs.Inputs.pairAt (F .known)) (F .known .m)) (c r : cluster-specs.declared.Cluster.Cluster) (work : List ℕ) (D : cluster-specs.Tick.Ticked F c r work (P .n))
     (S : State P (cluster-specs.Inputs.pairAt (F .known)) (F .known .m) (F .t) c (F .work)) where
   abbrev t : ℕ

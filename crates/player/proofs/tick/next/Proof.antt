@@ -49,7 +49,7 @@ use Rattle.script.specs.declared.Script.{Script}
 use Rattle.script.proofs.Script as S
 use Rattle.script.proofs.Script.Laws as S′
 use Rattle.player.specs.declared.Playing.{Playing}
-use Rattle.player.specs.Run.{Ready, Played, Went}
+use Rattle.player.specs.Run.{Ready, PlayedTo, Went}
 use Rattle.player.proofs.Playing as T
 use Rattle.player.proofs.Playing.Laws as T′
 use Rattle.player.proofs.tick.tick as tick
@@ -72,7 +72,7 @@ mach = LL.val T.the-type T′.the-laws
 
 -- what is asked of `tick`, and what it says of the state, the answers and the workspace that it leaves
 abbrev Asked : Playing → RefT (List ℕ) → RefT (List ℕ) → RefT (List ℕ) → Script → Type 0
-Asked h p a w s = Ready (now p) (now w) s × Played (now p) (now w) s h × (h .tick < s .shape .ticks) × (answerSize 16 * s .reads .m ≤ length (now a))
+Asked h p a w s = Ready (now p) (now w) s × PlayedTo (now p) (now w) s h × (h .tick < s .shape .ticks) × (answerSize 16 * s .reads .m ≤ length (now a))
 
 abbrev Said : Playing → RefT (List ℕ) → RefT (List ℕ) → RefT (List ℕ) → Script → Playing → List ℕ → List ℕ → Type 0
 Said h p a w s r ys zs = Went (now p) (now w) zs (now a) ys s h r × (r .tick ≡ suc (h .tick))
