@@ -1,7 +1,9 @@
 // Judge: answers against a plan. The plan's operations are decoded once; one loop tests that each answer is to its read, one more its pair.
+use calendar::PLACES;
 use plan::Checked;
 use plan::header::Shape;
 use regular::is_allowed;
+use script::operations::TABLE_READS;
 use script::operations::reads_of;
 use script::operations::writes_of;
 use simulator::judge::Judged;
@@ -21,11 +23,11 @@ ghost use Rattle.judge.specs.Fitting.{fitsRead};
 // Do all answers hold allowed pairs?
 fn all_allowed(
     answers: &[u8],
-    values: &[u32; 65],
-    begun: &[u8; 65],
+    values: &[u32; PLACES],
+    begun: &[u8; PLACES],
     m: usize,
     delta: u8,
-    reads: &[u8; 255],
+    reads: &[u8; TABLE_READS],
     count: usize,
 ) -> bool
     requires { ⌜ (1 ≤ m) × (m ≤ 65) × (count ≤ 255) × (answerSize 16 * count ≤ length (now answers)) ⌝ }
@@ -62,7 +64,12 @@ fn is_fitting(answers: &[u8], i: usize, begun: u8, reader: u8) -> bool
 }
 
 // The same of all answers. Both tables are fields of one struct, so they share a lifetime.
-fn all_fit<'a>(answers: &[u8], begun: &'a [u8; 255], reader: &'a [u8; 255], count: usize) -> bool
+fn all_fit<'a>(
+    answers: &[u8],
+    begun: &'a [u8; TABLE_READS],
+    reader: &'a [u8; TABLE_READS],
+    count: usize,
+) -> bool
     requires { ⌜ (count ≤ 255) × (answerSize 16 * count ≤ length (now answers)) ⌝ }
     ensures { λ r. ⌜ r ≡ allUpTo count (λ i. fitsRead (now (answers .entry)) i (getD (now (begun .entry)) i 0) (getD (now (reader .entry)) i 0)) ⌝ }
 {

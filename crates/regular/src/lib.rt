@@ -6,6 +6,7 @@ ghost use lib.ListN.{getD};
 ghost use Rattle.register.specs.Plan.{Plan, Read, Write, stamped};
 ghost use Rattle.register.specs.Regular.{finished, allowed};
 ghost use Rattle.regular.specs.Tables.{Tables, Last};
+use calendar::PLACES;
 
 // Did a write begun in tick `begun` finish before a read begun in tick `read`?
 fn is_finished(begun: u8, delta: u8, read: u8) -> bool
@@ -22,7 +23,7 @@ fn is_begun_by_end(begun: u8, delta: u8, read: u8) -> bool
 }
 
 // The highest number of a write that finished before the read; 0, the initial pair's, if none did.
-fn last_finished(begun: &[u8; 65], m: usize, delta: u8, read: u8) -> usize
+fn last_finished(begun: &[u8; PLACES], m: usize, delta: u8, read: u8) -> usize
     requires { ⌜ (1 ≤ m) × (m ≤ 65) ⌝ }
     ensures { λ r. ⌜ (r < m) × ((P : Plan) (x : Read) (w : ℕ → Write) → P .delta ≡ delta → x .begun ≡ read
         → ((j : ℕ) → w j .begun ≡ getD (now (begun .entry)) j 0) → Last (λ j. finished P x (w j)) m r) ⌝ }
@@ -40,8 +41,8 @@ fn last_finished(begun: &[u8; 65], m: usize, delta: u8, read: u8) -> usize
 
 // Does the regular register allow this value and number as an answer to the read?
 pub fn is_allowed(
-    values: &[u32; 65],
-    begun: &[u8; 65],
+    values: &[u32; PLACES],
+    begun: &[u8; PLACES],
     m: usize,
     delta: u8,
     read: u8,
