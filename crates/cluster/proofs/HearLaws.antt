@@ -1,6 +1,6 @@
 -- The readers note what arrives one after the other, and their rows of the calendar are taken. It stands on the calendar's laws of clearing.
 use mathlib.Core.Path.{_≡_, refl, sym, ap, _∙_}
-use mathlib.Core.Bool.{Bool, true, false, not, _&&_, and-false, or-false, and-true}
+use mathlib.Core.Bool.{Bool, not, _&&_, and-false, or-false, and-true}
 use mathlib.Core.List.{List}
 use Prim.Native.Nat.{ℕ, _+_, _-_, _/_, _%_, _≤_, _<_}
 use native.Mathlib.Omega.{arith}

@@ -14,7 +14,6 @@ use Rattle.bits.proofs.Laws.{field-first, field-inner, field-last, field-part}
 use Rattle.register.specs as register-specs
 use Rattle.register.proofs.Counting.{none-up}
 use Rattle.plan.specs.Header.{Header, headerOf, operationAt, forgeryAt}
-use Rattle.plan.specs.Parts as Parts
 use Rattle.plan.specs.Parts.{inPlacement, operationOf, operationsOf, forgeryOf}
 use Rattle.plan.specs as plan-specs
 use Rattle.plan.specs.Check.{readOpen, forgeryStands, forgeryRises}

@@ -1,6 +1,6 @@
 -- From a script that was read to the end of its ticks: the start, one tick more, all answers, and what is left of the workspace.
 -- It stands on Turns and Buffers.
-use mathlib.Core.Path.{_≡_, refl, sym, ap, _∙_}
+use mathlib.Core.Path.{_≡_, refl, ap, _∙_}
 use mathlib.Core.Logic.{inr}
 use mathlib.Core.List.{List, _++_}
 use Prim.Native.Nat.{ℕ, zero, suc, _+_, _*_, _-_, _≤_, _<_}

@@ -1,6 +1,6 @@
 // A tick of a plan: what it is fed, the write that begins in it, and the whole of it on a state that is lent.
 ghost use mathlib.Core.Path.{_≡_};
-ghost use Prim.Native.Nat.{suc, _+_, _*_, _≤_, _<_};
+ghost use Prim.Native.Nat.{suc, _*_, _≤_, _<_};
 ghost use lib.ListN.{length};
 ghost use Rattle.requests.specs.Requests.{requestsEnd};
 ghost use Rattle.answers.specs.Answers.{answerSize};

@@ -1,13 +1,10 @@
 -- A server and its row apart from how they are stored: sets as functions, a store as the list of its pairs.
 use mathlib.Core.Bool.{Bool, cond}
 use mathlib.Core.List.{List, [], _∷_, _++_}
-use Prim.Native.Nat.{ℕ, suc, _^_, _≤_, _<_}
-use lib.ListN.{length, getD, take, drop}
-use Rattle.register.specs.Plan.{stamped, valueOf, numberOf}
+use Prim.Native.Nat.{ℕ, suc}
+use lib.ListN.{take, drop}
 use Rattle.register.specs.Server.{Status, faulty, cured, correct}
 use Rattle.calendar.specs.declared.Stamped.{Stamped}
-use Rattle.calendar.specs.Layout.{depth}
-use Rattle.calendar.specs.Posts.{vacant}
 use Rattle.serving.specs.declared.Status.{Status as StoredStatus}
 use Rattle.serving.specs.declared.Status.the-variants.{Faulty, Cured, Correct}
 use Rattle.serving.specs.declared.Voters.{Voters}

@@ -1,5 +1,5 @@
 -- Stages 3 and 4 of the engine keep the relation with the step rules, at a movement and in any other tick. They stand on Told.
-use mathlib.Core.Path.{_≡_, refl, sym, ap, _∙_}
+use mathlib.Core.Path.{_≡_, refl, sym, _∙_}
 use mathlib.Core.Bool.{Bool, true, false, not, cond, and-false, or-false}
 use mathlib.Core.List.{List, [], _++_, map}
 use Prim.Native.Nat.{ℕ, suc, _/_, _<_}

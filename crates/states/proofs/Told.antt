@@ -5,12 +5,10 @@ use mathlib.Core.Bool.{Bool, true, false, not, _&&_, _||_}
 use mathlib.Core.List.{List, _++_, map}
 use Prim.Native.Nat.{ℕ, suc, _≤_, _<_}
 use lib.Dec.{T, eqb}
-use lib.ListN.{length}
 use Rattle.register.specs.Lists.{any, In, member}
 use Rattle.register.specs.Plan.{Plan, Read, readEnd}
 use Rattle.register.specs.Server.{isFaulty, Claim, Server, Sent, Out}
 use Rattle.register.specs.Reading.{sameRead}
-use Rattle.calendar.specs.Layout.{depth}
 use Rattle.serving.specs.Stored.{Said, Both}
 use Rattle.states.specs.State.{Votes, Rep}
 

@@ -4,29 +4,29 @@
 use mathlib.Core.Path.{_≡_, refl, sym, ap, _∙_}
 use mathlib.Core.Bool.{Bool, true, false, not, _&&_, _||_, cond, or-false, and-or-distrib-left}
 use mathlib.Core.Logic.{inl, inr}
-use mathlib.Core.List.{List, [], _∷_, _++_}
-use Prim.Native.Nat.{ℕ, zero, suc, _+_, _-_, _/_, _%_, _^_, _≤_, _<_}
+use mathlib.Core.List.{List, _++_}
+use Prim.Native.Nat.{ℕ, suc, _+_, _-_, _/_, _%_, _≤_, _<_}
 use native.Mathlib.Omega.{arith}
 use native.Mathlib.Decide.{decLe, ℕ-discrete}
-use lib.Dec.{eqb, ltb, eqb→eq, eqb-refl}
-use lib.ListN.{getD, length}
+use lib.Dec.{eqb, ltb, eqb→eq}
+use lib.ListN.{getD}
 use borrow.Author.Tests.{lt-ltb, le-ltb, lt-leb, eq-eqb, ne-eqb}
 use Rattle.register.specs.Lists.{any, In, member}
-use Rattle.register.specs.Plan.{Plan, Read, Forgery, kk, echoQuorum, replyQuorum, isMove, stamped, numberOf}
+use Rattle.register.specs.Plan.{Plan, Read, Forgery, kk, echoQuorum, replyQuorum, isMove}
 use Rattle.register.specs.Server.{isFaulty, Claim, has, Server, stage3, stage4}
 use Rattle.register.specs.Cluster.{sentIn, writesIn, readsIn, votesIn, serverOf, cluster}
 use Rattle.register.specs.Reading.{sameRead}
 use Rattle.register.proofs as register-laws
 use Rattle.register.proofs.Trace.{before, delivered, mid, end, before-suc, sent-row}
 use Rattle.calendar.specs as calendar-specs
-use Rattle.calendar.specs.Layout.{receivers, rows, depth, rowOf, sender}
+use Rattle.calendar.specs.Layout.{receivers, rows, rowOf, sender}
 use Rattle.calendar.proofs.Spans.{row-receiver, row-slot}
 use Rattle.cluster.specs as cluster-specs
 use Rattle.serving.specs as serving-specs
 use Rattle.serving.specs.Stored.{Plain, Both, keys, server, both, absent}
 use Rattle.serving.proofs.StoreLaws.{among-keys}
 use Rattle.states.proofs as states-laws
-use Rattle.serving.specs.Stages.{isNew, stageOne, stageTwo, stageFour, stagesOf}
+use Rattle.serving.specs.Stages.{stageOne, stageTwo, stageFour, stagesOf}
 use Rattle.states.specs.Way.{forgedAs, voteWay}
 use Rattle.states.specs.State.{Votes, Rep, State}
 

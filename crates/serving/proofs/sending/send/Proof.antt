@@ -1,6 +1,5 @@
 -- `sending::send` meets its contract: the votes, then the replies if any reader is to have one.
 use borrow.Author.Needs.{needs}
-use native.Mathlib.Omega.{arith}
 use Rattle.serving.proofs.SendLaws.{sent-both, replies-nobody}
 use Rattle.serving.proofs.sending.send.Statement.{statement}
 use Rattle.serving.proofs.sending.send.Tie as tie
