@@ -1,4 +1,3 @@
-pub mod Sizes
 pub mod Chosen
 pub mod Answered
 pub mod Stored

@@ -3,15 +3,20 @@ ghost use mathlib.Core.Path.{_≡_};
 ghost use mathlib.Core.Bool.{true, cond};
 ghost use Prim.Native.Nat.{_≤_};
 ghost use lib.Dec.{leb};
+ghost use Rattle.register.specs.Lists.{count};
+ghost use Rattle.calendar.specs.Bits.{bit};
 ghost use Rattle.calendar.specs.Layout.{places};
 ghost use Rattle.serving.specs.Bits.{sets};
 ghost use Rattle.answers.specs.Choosing.{highestOf};
 use super::Choice;
-use calendar::PLACES;
+use serving::Voters;
+use serving::sets;
 
-fn better(best: Choice, j: u8, count: u32, reply: u32) -> Choice
-    ensures { λ r. ⌜ r ≡ cond (leb reply count) (record { found = true; number = j; count = count }) best ⌝ }
+// Pair j, if this set of at least `reply` servers named it.
+fn better(best: Choice, j: u8, set: u16, reply: u32) -> Choice
+    ensures { λ r. ⌜ r ≡ cond (leb reply (count (λ i. bit i set) 16)) (record { found = true; number = j; count = count (λ i. bit i set) 16 }) best ⌝ }
 {
+    let count = u16::count_ones(set);
     if reply <= count {
         return Choice {
             found: true,
@@ -23,7 +28,7 @@ fn better(best: Choice, j: u8, count: u32, reply: u32) -> Choice
 }
 
 // The highest number below m that at least `reply` servers named.
-pub fn chosen(names: [u16; PLACES], m: usize, reply: u32) -> Choice
+pub fn chosen(names: Voters, m: usize, reply: u32) -> Choice
     requires { ⌜ m ≤ places ⌝ }
     ensures { λ r. ⌜ r ≡ highestOf (sets names) reply m ⌝ }
 {
@@ -34,8 +39,8 @@ pub fn chosen(names: [u16; PLACES], m: usize, reply: u32) -> Choice
     };
     let mut j: usize = 0;
     while j < m {
-        let set = names[j];
-        best = better(best, j as u8, u16::count_ones(set), reply);
+        let set = sets::at(&names.most, names.last, j);
+        best = better(best, j as u8, set, reply);
         j += 1;
     }
     best

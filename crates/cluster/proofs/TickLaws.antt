@@ -12,11 +12,11 @@ use Rattle.serving.specs.declared.Server.{Server}
 use Rattle.cluster.specs.declared.Reader.{Reader}
 use Rattle.serving.specs.declared.Rules.{Rules}
 use Rattle.serving.specs.declared.Status.the-variants.{Correct}
-use Rattle.serving.specs.Bits.{sets, listed}
+use Rattle.serving.specs.Bits.{noVoters}
 use Rattle.serving.specs.Stored.{Plain, Both, server, keys, absent}
-use Rattle.serving.specs.Stages.{noVotes, Voted, stageOne, delivered, deliveredOf, stageTwo, stageFour, stagesOf}
+use Rattle.serving.specs.Stages.{Voted, stageOne, delivered, deliveredOf, stageTwo, stageFour, stagesOf}
 use Rattle.cluster.specs.Tick.{noReader, endsOf, firstServer, Started}
-use Rattle.serving.proofs.StageLaws.{zero-set, write-kept}
+use Rattle.serving.proofs.StageLaws.{zero-table, zero-set, write-kept}
 
 -- ---- the stages do not look at the fresh votes that a server had
 
@@ -67,9 +67,9 @@ four-ends (a ∷ b ∷ c ∷ d ∷ x ∷ rs) e = absurd (omega arith)
 
 -- ---- the start
 
-pub first-server : (ps : List Stamped) (z : Voters) → keys ps ≡ 0 ∷ [] → sets (listed z) ≡ noVotes
+pub first-server : (ps : List Stamped) (z : Voters) → keys ps ≡ 0 ∷ [] → z ≡ noVoters
     → server (record { status = Correct; kept = ps; pending = 0; fresh = z; old = z }) ≡ firstServer
-first-server ps z k e = rw (k, e, zero-set)
+first-server ps z k e = rw (k, e, zero-table, zero-set)
 
 pub started : (s : Server) (r : Reader) → server s ≡ firstServer → r .end ≡ 0 → Started (record { servers = replicate 16 s; readers = replicate 4 r })
 started s r e f = record {

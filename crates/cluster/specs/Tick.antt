@@ -29,7 +29,7 @@ use Rattle.cluster.specs.Inputs.{wroteAt, asksAt}
 
 -- what is read past the end of an array of readers
 abbrev pub noReader : Reader
-noReader = record { end = 0; named = [] }
+noReader = record { end = 0; named = record { most = []; last = 0 } }
 
 abbrev pub endsOf : List Reader → List ℕ
 endsOf rs = map (λ (r : Reader). r .end) rs

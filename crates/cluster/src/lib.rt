@@ -7,6 +7,7 @@ use serving::Links;
 use serving::READERS;
 use serving::Rules;
 use serving::Server;
+use serving::Voters;
 
 // How many servers there may be.
 pub const SERVERS: usize = 16;
@@ -14,7 +15,7 @@ pub const SERVERS: usize = 16;
 // A reader (document 01: a screen): the tick in which its last read ends, and the servers that named each known pair to that read.
 pub struct Reader {
     pub end: u8,
-    pub named: [u16; PLACES],
+    pub named: Voters,
 }
 
 // The cluster (document 01: the hall).

@@ -5,7 +5,6 @@ ghost use Rattle.calendar.specs.Layout.{rows, places, calendarSize};
 ghost use Rattle.calendar.specs.View.{Spanned};
 ghost use Rattle.cluster.specs.Tick.{Noted};
 use super::Reader;
-use serving::sets;
 
 impl Reader {
     // Notes the replies that arrive in its row of the calendar.
@@ -14,7 +13,7 @@ impl Reader {
         ensures { λ r. ⌜ Noted (now (work .entry)) row self r ⌝ }
     {
         let named = self.named;
-        let more = sets::joined(named, work, row);
+        let more = named.joined(work, row);
         self.named = more;
         self
     }

@@ -18,7 +18,6 @@ use super::REQUESTERS;
 use super::Reader;
 use super::SERVERS;
 use calendar::NO_PAIR;
-use calendar::PLACES;
 use calendar::Stamped;
 use serving::READERS;
 use serving::Server;
@@ -235,7 +234,6 @@ pub fn start() -> Cluster
         number: 0,
     };
     let kept = store::insert(store::none(), first);
-    let zero = [0u16; PLACES];
     let nobody = Voters::none();
     let correct = Status::Correct;
     let s = Server {
@@ -247,7 +245,7 @@ pub fn start() -> Cluster
     };
     let reader = Reader {
         end: 0,
-        named: zero,
+        named: nobody,
     };
     Cluster {
         servers: [s; SERVERS],

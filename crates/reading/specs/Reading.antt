@@ -4,11 +4,11 @@ use mathlib.Core.Bool.{Bool, _&&_}
 use mathlib.Core.List.{List, _++_}
 use Prim.Native.Nat.{ℕ, zero, suc, _+_, _*_, _-_, _≤_, _<_}
 use lib.Dec.{ltb}
-use lib.ListN.{getD, set, take, drop, replicate}
+use lib.ListN.{getD, set, take, drop}
 use Rattle.calendar.specs.Layout.{places}
 use Rattle.cluster.specs.declared.Known.{Known}
 use Rattle.cluster.specs.declared.Reader.{Reader}
-use Rattle.serving.specs.Bits.{sets}
+use Rattle.serving.specs.Bits.{sets, noVoters}
 use Rattle.cluster.specs.Inputs.{pairAt, Narrow}
 use Rattle.cluster.specs.Tick.{noReader, endsOf}
 use Rattle.script.specs.declared.operations.Reads.{Reads}
@@ -57,7 +57,7 @@ placed f k (suc n) b = placedAt (k + n) (f (k + n)) (placed f k n b)
 
 -- a reader whose read ends in this tick and has noted nothing
 abbrev pub freshReader : ℕ → Reader
-freshReader end = record { end = end; named = replicate places 0 }
+freshReader end = record { end = end; named = noVoters }
 
 -- the readers with those of the reads from k on, n of them, set up
 unfoldable pub begunBy : List ℕ → ℕ → ℕ → ℕ → List Reader → List Reader

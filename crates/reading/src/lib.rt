@@ -13,7 +13,6 @@ ghost use Rattle.answers.specs.Choosing.{highestOf, answerBy};
 ghost use Rattle.serving.specs.Links.{Linked};
 ghost use Rattle.requests.specs.Requests.{requestsEnd};
 ghost use Rattle.reading.specs.Reading.{Until, There, chosenBytes, placed, begunBy, isBefore, Begun, WentOn};
-use calendar::PLACES;
 use cluster::Known;
 use cluster::Reader;
 use cluster::tick;
@@ -21,6 +20,7 @@ use plan::header::Shape;
 use script::Script;
 use script::operations::TABLE_READS;
 use serving::READERS;
+use serving::Voters;
 
 // The readers, the ticks in which their last reads end, and how many reads have begun and been answered.
 pub struct Reading {
@@ -66,7 +66,7 @@ pub fn first_from(begun: &[u8; TABLE_READS], m: usize, k: usize, u: usize) -> us
 }
 
 // Writes the answer of a read at the start of its part of the answer buffer: its reader chooses of what it has noted.
-fn answer(out: &mut [u8], names: [u16; PLACES], known: Known, reply: u32, begun: u8, reader: u8)
+fn answer(out: &mut [u8], names: Voters, known: Known, reply: u32, begun: u8, reader: u8)
     requires { ⌜ (answerSize 16 ≤ length (now out)) × (known .m ≤ places) × Narrow known ⌝ }
     ensures { λ _. ⌜ now (out .exit) ≡ answerBytes 16 (record { begun = begun; reader = reader }) (answerBy (pairAt known) (highestOf (sets names) reply (known .m))) ++ drop (answerSize 16) (now (out .entry)) ⌝ }
 {
@@ -130,7 +130,7 @@ pub fn begin_all(
     requires { ⌜ There (now by) from to ⌝ }
     ensures { λ r. ⌜ r ≡ begunBy (now (by .entry)) end from (to - from) readers ⌝ }
 {
-    let named = [0u16; PLACES];
+    let named = Voters::none();
     let fresh = Reader { end, named };
     let mut rs = readers;
     let mut i = from;

@@ -17,12 +17,13 @@ use Rattle.register.proofs as register-laws
 use Rattle.calendar.specs.Bits.{bit}
 use Rattle.calendar.specs.Layout.{depth, sender}
 use Rattle.calendar.proofs.Laws.{bit-zero, bit-or}
-use Rattle.serving.specs.Bits.{sets, Joined}
+use Rattle.serving.specs.declared.Voters.{Voters}
+use Rattle.serving.specs.Bits.{sets, listed, noVoters, Joined}
 use Rattle.serving.specs.Stored.{Plain, Said, Both}
 use Rattle.serving.specs.Stages.{Voted, nobody, noVotes, blankAs, silent, restated, written, resetAt, cureEnded, turned, within, quorate, taken, voting, withWrite, repliesTo, delivered, deliveredOf, stageOne, stageTwo, movedOn, stageFour}
 use Rattle.serving.proofs.BitLaws.{bit-and, unmarked, ones-count, ones-either}
 
-pub zero-table : sets (replicate 65 0) ≡ noVotes
+pub zero-table : sets noVoters ≡ noVotes
 zero-table = fun-ext (λ j. fun-ext (λ k. unmarked 65 j k))
 
 pub zero-set : (λ x. bit x 0) ≡ nobody
@@ -51,9 +52,9 @@ unvoted e r f o he hr ef eo = rw (ef, eo) (go (count (λ i. bit i 0) 16) (count 
     go x y a b = rw (lt-leb e x (omega arith), lt-leb r y (omega arith))
 
 -- the test of pair j
-pub voting-at : (e r : ℕ) (xs ys : List ℕ) (j f o : ℕ) (b : Bool) → f ≡ getD xs j 0 → o ≡ getD ys j 0 → b ≡ quorate e r (λ i. bit i f) (λ i. bit i o) → voting e r (sets xs) (sets ys) j ≡ b
-voting-at e r xs ys j f o b h k q =
-    ap (λ (x : ℕ). quorate e r (λ i. bit i x) (λ i. bit i (getD ys j 0))) (sym h) ∙ (ap (λ (y : ℕ). quorate e r (λ i. bit i f) (λ i. bit i y)) (sym k) ∙ sym q)
+pub voting-at : (e r : ℕ) (v w : Voters) (j f o : ℕ) (b : Bool) → f ≡ getD (listed v) j 0 → o ≡ getD (listed w) j 0 → b ≡ quorate e r (λ i. bit i f) (λ i. bit i o) → voting e r (sets v) (sets w) j ≡ b
+voting-at e r v w j f o b h k q =
+    ap (λ (x : ℕ). quorate e r (λ i. bit i x) (λ i. bit i (getD (listed w) j 0))) (sym h) ∙ (ap (λ (y : ℕ). quorate e r (λ i. bit i f) (λ i. bit i y)) (sym k) ∙ sym q)
 
 -- a pair in the span
 pub in-span : (low high j : ℕ) (b v : Bool) → low ≤ j → j < high → v ≡ b → within low high j && v ≡ b
@@ -126,9 +127,9 @@ not-cured delta t (cured u) e h = let z : _≡_ {A = ℕ} 0 1 = ap (λ (x : Bool
 not-cured delta t correct e h = let z : _≡_ {A = ℕ} 0 1 = ap (λ (x : Bool). cond x 1 0) e in omega arith
 
 -- a new period: no fresh votes, and of the old ones those that still count
-pub turned-law : (two : Bool) (s : Plain) (fresh old : ℕ → ℕ → Bool) → fresh ≡ noVotes → old ≡ cond two (s .fresh) noVotes
-    → record { status = s .status; kept = s .kept; pending = s .pending; fresh = fresh; old = old } ≡ turned two s
-turned-law two s fresh old e f = rw (e, f)
+pub turned-law : (two : Bool) (s : Plain) (v : Voters) (old : ℕ → ℕ → Bool) → v ≡ noVoters → old ≡ cond two (s .fresh) noVotes
+    → record { status = s .status; kept = s .kept; pending = s .pending; fresh = sets v; old = old } ≡ turned two s
+turned-law two s v old e f = rw (e, zero-table, f)
 
 -- a server that becomes faulty is reset first
 pub seized : (t : ℕ) (s q : Plain) → q ≡ resetAt t → s ≡ restated faulty q → s ≡ blankAs faulty
@@ -145,7 +146,7 @@ echo-law two h t o s e p q = rw (q, p)
 pub votes-lost : (f : ℕ → ℕ → Bool) (s : Plain) → isFaulty (s .status) ≡ true → Voted f s s
 votes-lost f s h = record { status = refl; kept = refl; pending = refl; old = refl; fresh = λ e. absurd (true≢false (sym h ∙ e)); lost = λ e. refl }
 
-pub votes-noted : (work : List ℕ) (row : ℕ) (fresh : List ℕ) (s r : Plain) → s .fresh ≡ sets fresh → (more : List ℕ)
+pub votes-noted : (work : List ℕ) (row : ℕ) (fresh : Voters) (s r : Plain) → s .fresh ≡ sets fresh → (more : Voters)
     → isFaulty (s .status) ≡ false → Joined work row fresh more
     → r ≡ record { status = s .status; kept = s .kept; pending = s .pending; fresh = sets more; old = s .old } → Voted (sender work row) s r
 votes-noted work row fresh s r q more h J e = record {

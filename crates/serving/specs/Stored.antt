@@ -12,7 +12,7 @@ use Rattle.serving.specs.declared.Server.{Server}
 use Rattle.serving.specs.declared.Outgoing.{Outgoing}
 use Rattle.serving.specs.declared.Delivery.{Delivery}
 use Rattle.calendar.specs.Bits.{bit}
-use Rattle.serving.specs.Bits.{sets, listed}
+use Rattle.serving.specs.Bits.{sets}
 
 -- a server; votes by the number of a pair and the sender
 pub record Plain : Type 0 where
@@ -52,7 +52,7 @@ abbrev pub putAt : ℕ → Stamped → List Stamped → List Stamped
 putAt i p ps = take i ps ++ (p ∷ drop i ps)
 
 abbrev pub server : Server → Plain
-server s = record { status = statusOf (s .status); kept = keys (s .kept); pending = λ x. bit x (s .pending); fresh = sets (listed (s .fresh)); old = sets (listed (s .old)) }
+server s = record { status = statusOf (s .status); kept = keys (s .kept); pending = λ x. bit x (s .pending); fresh = sets (s .fresh); old = sets (s .old) }
 
 abbrev pub saidBy : Outgoing → Said
 saidBy r = record { wrote = r .wrote; echoed = r .echoed; readers = λ x. bit x (r .readers); pairs = keys (r .kept) }
@@ -68,7 +68,7 @@ both s = record { server = server (s .server); said = saidBy (s .row) }
 -- a server and what it makes of what arrives
 abbrev pub deliveredTo : Server → Delivery → Both
 deliveredTo s d = record {
-  server = record { status = statusOf (s .status); kept = keys (d .row .kept); pending = λ x. bit x (d .pending); fresh = sets (listed (s .fresh)); old = sets (listed (s .old)) };
+  server = record { status = statusOf (s .status); kept = keys (d .row .kept); pending = λ x. bit x (d .pending); fresh = sets (s .fresh); old = sets (s .old) };
   said = saidBy (d .row);
 }
 

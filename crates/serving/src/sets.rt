@@ -5,27 +5,9 @@ ghost use mathlib.Core.List.{[], _∷_, _++_};
 ghost use lib.ListN.{length, getD};
 ghost use Rattle.calendar.specs.Layout.{rows, places, calendarSize};
 ghost use Rattle.calendar.specs.View.{Spanned};
-ghost use Rattle.serving.specs.Bits.{sets, Joined, listed};
-ghost use Rattle.serving.specs.Stages.{noVotes};
+ghost use Rattle.serving.specs.Bits.{listed, noVoters, Joined};
 use super::MOST;
 use super::Voters;
-use calendar::PLACES;
-
-// The senders of what arrives in a row of the calendar join.
-pub fn joined(table: [u16; PLACES], work: &[u8], row: usize) -> [u16; PLACES]
-    requires { ⌜ (row < rows) × (calendarSize ≤ length (now work)) × Spanned (now work) places ⌝ }
-    ensures { λ r. ⌜ Joined (now (work .entry)) row table r ⌝ }
-{
-    let mut more = table;
-    let high = calendar::high(work, row);
-    let mut j = calendar::low(work, row);
-    while j < high {
-        let m = more[j];
-        more[j] = m | calendar::senders(work, row, j);
-        j += 1;
-    }
-    more
-}
 
 // The lower of two numbers.
 pub fn lower(a: usize, b: usize) -> usize
@@ -51,7 +33,7 @@ pub fn at(most: &[u16; MOST], last: u16, j: usize) -> u16
 impl Voters {
     // Nobody, for any pair.
     pub fn none() -> Voters
-        ensures { λ r. ⌜ sets (listed r) ≡ noVotes ⌝ }
+        ensures { λ r. ⌜ r ≡ noVoters ⌝ }
     {
         let most = [0u16; MOST];
         Voters { most, last: 0 }
@@ -60,7 +42,7 @@ impl Voters {
     // The senders of what arrives in a row of the calendar join.
     pub fn joined(self, work: &[u8], row: usize) -> Voters
         requires { ⌜ (row < rows) × (calendarSize ≤ length (now work)) × Spanned (now work) places ⌝ }
-        ensures { λ r. ⌜ Joined (now (work .entry)) row (listed self) (listed r) ⌝ }
+        ensures { λ r. ⌜ Joined (now (work .entry)) row self r ⌝ }
     {
         let mut most = self.most;
         let high = calendar::high(work, row);

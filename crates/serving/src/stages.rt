@@ -4,7 +4,7 @@ ghost use mathlib.Core.Bool.{_&&_, cond};
 ghost use Prim.Native.Nat.{_≤_};
 ghost use Rattle.calendar.specs.Bits.{bit};
 ghost use Rattle.calendar.specs.Layout.{places};
-ghost use Rattle.serving.specs.Bits.{sets, listed};
+ghost use Rattle.serving.specs.Bits.{sets};
 ghost use Rattle.serving.specs.Stored.{keys, server, saidBy, deliveredTo};
 ghost use Rattle.serving.specs.Stages.{silent, within, quorate, taken, voting, withWrite, deliveredOf, movedOn};
 use super::Delivery;
@@ -57,7 +57,7 @@ fn take_in(
     rules: Rules,
 ) -> [Stamped; DEPTH]
     requires { ⌜ (m ≤ places) × (1 ≤ rules .echo) × (1 ≤ rules .reply) ⌝ }
-    ensures { λ r. ⌜ keys r ≡ taken (λ j. within low high j && voting (rules .echo) (rules .reply) (sets (listed fresh)) (sets (listed old)) j) m (keys kept) ⌝ }
+    ensures { λ r. ⌜ keys r ≡ taken (λ j. within low high j && voting (rules .echo) (rules .reply) (sets fresh) (sets old) j) m (keys kept) ⌝ }
 {
     let end = sets::lower(high, m);
     let mut k = kept;

@@ -16,46 +16,47 @@ abbrev μ-loop : tie.MeasureT-loop
 μ-loop by from to end fresh rs₀ i₀ rs i = to - i
 
 loop-holds : tie.Need-loop-holds Inv-loop μ-loop
-loop-holds c = (omega arith, c .pre .ordered, c .good .0 .1 .0 .1, begun-none _ _ _ _)
+loop-holds c = (omega arith, c .before .pre .ordered, c .before .good .0 .1 .0 .1, begun-none _ _ _ _)
 
 element-copy-out-size-of : tie.Need-element-copy-out-size-of Inv-loop μ-loop
-element-copy-out-size-of c = let h : c .before .loop .i < 255 = omega (arith, c .loop-test .taken, c .before .before .pre .few) in search needs
+element-copy-out-size-of c = let h : c .before .loop .i < 255 = omega (arith, c .loop-test .taken, c .before .before .before .pre .few) in search needs
 
 sub-x : tie.Need-sub-x Inv-loop μ-loop
 sub-x c =
     let l = c .before .before .before .loop in
-    let h = c .before .before .before .before .pre .readers (l .i) (l .inv .0) (c .before .before .loop-test .taken) in
+    let h = c .before .before .before .before .before .pre .readers (l .i) (l .inv .0) (c .before .before .loop-test .taken) in
     omega (arith, h .0, c .size-of .ensures)
 
 mul-rs : tie.Need-mul-rs Inv-loop μ-loop
 mul-rs c =
     let l = c .before .before .before .loop in
-    let h = c .before .before .before .before .pre .readers (l .i) (l .inv .0) (c .before .before .loop-test .taken) in
+    let h = c .before .before .before .before .before .pre .readers (l .i) (l .inv .0) (c .before .before .loop-test .taken) in
     let m : c .size-of .result ≤ 4 = omega (arith, h .1, c .size-of .ensures) in
     search needs
 
 array-set-from-rs : tie.Need-array-set-from-rs Inv-loop μ-loop
 array-set-from-rs c =
     let l = c .before .before .before .loop in
-    let h = c .before .before .before .before .pre .readers (l .i) (l .inv .0) (c .before .before .loop-test .taken) in
+    let h = c .before .before .before .before .before .pre .readers (l .i) (l .inv .0) (c .before .before .loop-test .taken) in
     omega (arith, h .0, h .1, c .size-of .ensures)
 
 add-i : tie.Need-add-i Inv-loop μ-loop
-add-i c = let h : c .before .before .before .loop .i < 255 = omega (arith, c .before .before .loop-test .taken, c .before .before .before .before .pre .few) in search needs
+add-i c = let h : c .before .before .before .loop .i < 255 = omega (arith, c .before .before .loop-test .taken, c .before .before .before .before .before .pre .few) in search needs
 
 loop-again : tie.Need-loop-again Inv-loop μ-loop
 loop-again c =
-    let l = c .before .before .before .loop in (
+    let a = c .before .before .before in
+    let l = a .loop in (
       omega (arith, l .inv .0),
       omega (arith, c .before .before .loop-test .taken),
       simp length-set (l .inv .2),
-      begun-more _ _ _ _ (l .i) (l .rs) _ (l .inv .0) (l .inv .3) (rw (c .size-of .ensures)),
+      begun-more _ _ _ _ (l .i) (l .rs) _ (l .inv .0) (l .inv .3) (rw (c .size-of .ensures, a .before .none .ensures)),
     )
 
 returns : tie.Need-returns Inv-loop μ-loop
-returns c = let e : c .before .loop .i ≡ c .before .before .args .to = omega (arith, c .before .loop .inv .1, c .loop-test .left) in rw e at (c .before .loop .inv .3)
+returns c = let e : c .before .loop .i ≡ c .before .before .before .args .to = omega (arith, c .before .loop .inv .1, c .loop-test .left) in rw e at (c .before .loop .inv .3)
 
 pub begin-all-spec : {M : Type 1} → statement M
 begin-all-spec =
     tie.close
-    (tie.spec Inv-loop μ-loop loop-holds element-copy-out-size-of (search needs) sub-x mul-rs array-set-from-rs add-i (search needs) loop-again returns)
+    (tie.spec Inv-loop μ-loop (search needs) loop-holds element-copy-out-size-of (search needs) sub-x mul-rs array-set-from-rs add-i (search needs) loop-again returns)

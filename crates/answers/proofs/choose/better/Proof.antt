@@ -1,13 +1,15 @@
 -- `choose::better` meets its contract.
+use native.Mathlib.Omega.{arith}
 use borrow.Author.Tests.{le-leb, lt-leb}
+use Rattle.serving.proofs.BitLaws.{ones-count}
 use Rattle.answers.proofs.choose.better.Statement.{statement}
 use Rattle.answers.proofs.choose.better.Tie as tie
 
 returns : tie.Need-returns
-returns c = rw (le-leb _ _ (c .if1 .taken))
+returns c = let a = c .before .args in rw (← ones-count 16 (a .set) (omega arith), le-leb _ _ (c .if1 .taken))
 
 returns-2 : tie.Need-returns-2
-returns-2 c = rw (lt-leb _ _ (c .if1 .left))
+returns-2 c = let a = c .before .args in rw (← ones-count 16 (a .set) (omega arith), lt-leb _ _ (c .if1 .left))
 
 pub better-spec : {M : Type 1} → statement M
 better-spec = tie.close (tie.spec returns returns-2)

@@ -10,7 +10,7 @@ use borrow.Author.Needs.{needs}
 use borrow.Author.Tests.{not-true, not-false}
 use Rattle.register.specs.Server.{isFaulty, curedAt}
 use Rattle.calendar.specs.Bits.{bit}
-use Rattle.serving.specs.Bits.{sets, listed}
+use Rattle.serving.specs.Bits.{sets}
 use Rattle.serving.specs.Stored.{Step, server, both, statusOf}
 use Rattle.serving.specs.Stages.{stageOne, stageTwo, stagesOf}
 use Rattle.cluster.specs.Inputs.{wroteAt, asksAt}
@@ -70,7 +70,7 @@ returns c =
     let w = wroteAt (F .arrivals .requests) (F .arrivals .number) (s .args .b) in
     let asks : ℕ → Bool = asksAt (F .arrivals .requests) (s .args .b) in
     let live : ℕ → Bool = λ x. bit x (F .arrivals .live) in
-    let votes = sets (listed (v .result .fresh)) in
+    let votes = sets (v .result .fresh) in
     let o₁ : Step = record { server = first .if1 .x; row = first .if1 .row } in
     let o₂ : Step = record { server = second .if2 .x; row = second .if2 .row } in
     let o₃ : Step = record { server = third .if3 .x; row = third .if3 .row } in

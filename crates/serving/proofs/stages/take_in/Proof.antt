@@ -6,7 +6,7 @@ use Prim.Native.Nat.{ℕ, _≤_, _<_, _-_}
 use native.Mathlib.Omega.{arith}
 use borrow.Author.Needs.{needs}
 use Rattle.calendar.specs.Layout.{places}
-use Rattle.serving.specs.Bits.{sets, listed}
+use Rattle.serving.specs.Bits.{sets}
 use Rattle.serving.specs.Stored.{keys}
 use Rattle.serving.specs.Stages.{within, taken, voting}
 use Rattle.serving.proofs.Sizes.{most-length}
@@ -24,7 +24,7 @@ Inv-loop low high m rules fresh old end k₀ j₀ k j =
     × (end ≤ m)
     × (high ≤ m → high ≤ end)
     × (m ≤ high → m ≤ end)
-    × (keys k ≡ taken (λ i. within low high i && voting (rules .echo) (rules .reply) (sets (listed fresh)) (sets (listed old)) i) j (keys k₀))
+    × (keys k ≡ taken (λ i. within low high i && voting (rules .echo) (rules .reply) (sets fresh) (sets old) i) j (keys k₀))
 
 abbrev μ-loop : tie.MeasureT-loop
 μ-loop low high m rules fresh old end k₀ j₀ k j = end - j
@@ -60,9 +60,9 @@ loop-again c = let h = c .before .before .before .before .before .before .before
     let k = c .before .before .before .before .before .before .before .before .before .loop .k in
     let a = c .before .before .before .before .before .before .before .before .before .before .before .before .args in
     let d = c .before .before .before .before .before .before .before .before .loop-test .taken in
-    let C : ℕ → Bool = λ i. within (a .low) (a .high) i && voting (a .rules .echo) (a .rules .reply) (sets (listed (a .t2))) (sets (listed (a .t3))) i in
+    let C : ℕ → Bool = λ i. within (a .low) (a .high) i && voting (a .rules .echo) (a .rules .reply) (sets (a .t2)) (sets (a .t3)) i in
     let voted : C j ≡ c .before .is-voted .result = in-span (a .low) (a .high) j _ _ (h .2 (omega (arith, d, h .4))) (omega (arith, d, h .3))
-    (voting-at (a .rules .echo) (a .rules .reply) (listed (a .t2)) (listed (a .t3)) j _ _ _ (c .before .before .before .before .before .at .ensures) (c .before .before .at2 .ensures) (c .before .is-voted .ensures)) in (
+    (voting-at (a .rules .echo) (a .rules .reply) (a .t2) (a .t3) j _ _ _ (c .before .before .before .before .before .at .ensures) (c .before .before .at2 .ensures) (c .before .is-voted .ensures)) in (
       omega (arith, d, h .4),
       h .1,
       λ l. omega (arith, h .2 (omega (arith, d, h .4))),
