@@ -67,7 +67,7 @@ emptied-more a r row from at hr ha hf size E = record {
   };
   front = λ k l. put-byte r (cellWord row at) 0 k (λ e. omega arith) (λ e. omega arith) ∙ E .front k l;
   cells = λ x j i l m. put-none r (cellWord row at) (cellWord x j) i (omega arith)
-      ∙ rw (same-cell x row j at l hr, E .cells x j i l m) (out-more (eqb x row) from at j (sender a x j i) hf);
+      ∙ rw (same-cell x row j at m ha, E .cells x j i l m) (out-more (eqb x row) from at j (sender a x j i) hf);
 }
 
 -- the pairs from `from` on below the later of two numbers
@@ -96,13 +96,12 @@ cleared a r row hr size E = record {
   high = λ x l d. put-byte r row 0 (2 * x + 1) (λ e. omega arith) (λ e. d (omega arith)) ∙ E .front (2 * x + 1) (omega arith);
 }
 
--- everything up to the cells of pair m is zeroed
-pub started : (a r : List ℕ) (m to : ℕ) → m ≤ places → to ≡ 2 * (cellsAt + rows * m) → Zeroed a r 0 to → SamePast a r × Empty r m
-started a r m to h d Z = (
+pub started : (a r : List ℕ) → Zeroed a r 0 calendarSize → SamePast a r × Empty r
+started a r Z = (
   record { size = Z .size; past = λ k l. Z .above k (omega arith) },
   record {
     low = λ x l. Z .zero (2 * x) (omega arith) (omega arith);
     high = λ x l. Z .zero (2 * x + 1) (omega arith) (omega arith);
-    cells = λ x j i l n. rw (zeroed-word a r 0 to (cellWord x j) (omega arith) (omega arith) Z) (bit-zero i);
+    cells = λ x j i l n. rw (zeroed-word a r 0 calendarSize (cellWord x j) (omega arith) (omega arith) Z) (bit-zero i);
   },
 )

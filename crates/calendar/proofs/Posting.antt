@@ -107,8 +107,8 @@ low-bottom low high j m h g = go (eqb high 0) (ltb j low) refl
 
 -- ---- one message
 
-pub same-cell : (x row y j : ℕ) → x < rows → row < rows → eqb (cellWord x y) (cellWord row j) ≡ eqb x row && eqb y j
-same-cell x row y j hx hr = go (ℕ-discrete x row) (ℕ-discrete y j)
+pub same-cell : (x row y j : ℕ) → y < places → j < places → eqb (cellWord x y) (cellWord row j) ≡ eqb x row && eqb y j
+same-cell x row y j hy hj = go (ℕ-discrete x row) (ℕ-discrete y j)
   where
     go : Dec (x ≡ row) → Dec (y ≡ j) → eqb (cellWord x y) (cellWord row j) ≡ eqb x row && eqb y j
     go (yes p) (yes q) = rw (eq-eqb x row p, eq-eqb y j q, eq-eqb (cellWord x y) (cellWord row j) (omega arith))
@@ -217,7 +217,7 @@ module _ (a : List ℕ) (row j i : ℕ) (hr : row < rows) (hj : j < places) (siz
           ∙ put-byte a (cellWord row j) _ k (λ e. omega arith) (λ e. omega arith);
     };
     cells = λ x y k l m. rw (widened-word (added a row j i) row j (cellWord x y) (λ e. omega arith)) (put-member a (cellWord row j) i (cellWord x y) k (omega arith)
-        ∙ rw (same-cell x row y j l hr) (turn (sender a x y k) (eqb x row) (eqb y j) (eqb k i)));
+        ∙ rw (same-cell x row y j m hj) (turn (sender a x y k) (eqb x row) (eqb y j) (eqb k i)));
     wider = here-wider;
     grown = λ x y k l m q.
         let b = and-both (eqb x row) (eqb k i && eqb y j) q in

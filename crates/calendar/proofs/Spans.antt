@@ -15,24 +15,23 @@ use Rattle.calendar.proofs.Laws.{or-either}
 
 -- ---- the spans
 
-pub posted-spanned : (a r : List ℕ) (f : Messages) (m : ℕ) → m ≤ places → Posted a r f
-    → ((x j k : ℕ) → x < rows → j < places → f x j k ≡ true → j < m) → Spanned a m → Spanned r m
-posted-spanned a r f m h P g S = record {
-  top = λ x l. P .top x m l (S .top x l) (λ j k n q. g x j k l n q);
-  within = λ x j k l n q. or-either (Inside r x j) (sender a x j k) (f x j k) (sym (P .cells x j k l (omega arith)) ∙ q)
-      (λ p. P .wider x j l (S .within x j k l n p)) (λ p. P .grown x j k l (omega arith) p);
+pub posted-spanned : (a r : List ℕ) (f : Messages) → Posted a r f → Spanned a → Spanned r
+posted-spanned a r f P S = record {
+  top = λ x l. P .top x places l (S .top x l) (λ j k n q. n);
+  within = λ x j k l n q. or-either (Inside r x j) (sender a x j k) (f x j k) (sym (P .cells x j k l n) ∙ q)
+      (λ p. P .wider x j l (S .within x j k l n p)) (λ p. P .grown x j k l n p);
 }
 
-pub empty-spanned : (r : List ℕ) (m : ℕ) → Empty r m → Spanned r m
-empty-spanned r m E = record {
+pub empty-spanned : (r : List ℕ) → Empty r → Spanned r
+empty-spanned r E = record {
   top = λ x l. omega (arith, E .high x l);
   within = λ x j k l n q. absurd (false≢true (sym (E .cells x j k l n) ∙ q));
 }
 
-module _ (a r : List ℕ) (row m : ℕ) (h : m ≤ places) (C : Cleared a r row) (S : Spanned a m) where
+module _ (a r : List ℕ) (row : ℕ) (C : Cleared a r row) (S : Spanned a) where
   -- nothing arrives in a row that is cleared, and the other rows stay
-  pub cleared-cells : (x j k : ℕ) → x < rows → j < m → sender r x j k ≡ not (eqb x row) && sender a x j k
-  cleared-cells x j k l n = C .cells x j k l (omega arith) ∙ go (ℕ-discrete x row)
+  pub cleared-cells : (x j k : ℕ) → x < rows → j < places → sender r x j k ≡ not (eqb x row) && sender a x j k
+  cleared-cells x j k l n = C .cells x j k l n ∙ go (ℕ-discrete x row)
     where
       go : Dec (x ≡ row) → not (eqb x row && covers a row j) && sender a x j k ≡ not (eqb x row) && sender a x j k
       go (no d) = rw (ne-eqb x row d)
@@ -42,14 +41,14 @@ module _ (a r : List ℕ) (row m : ℕ) (h : m ≤ places) (C : Cleared a r row)
           or true q = let i = rw e at (S .within x j k l n q) in rw (le-leb (lowOf a row) j (i .0), lt-ltb j (highOf a row) (i .1))
           or false q = and-false (not (covers a row j))
 
-  pub cleared-spanned : Spanned r m
+  pub cleared-spanned : Spanned r
   cleared-spanned = record { top = λ x l. up x l (ℕ-discrete x row); within = λ x j k l n q. in-span x j k l n q (ℕ-discrete x row) }
     where
-      up : (x : ℕ) → x < rows → Dec (x ≡ row) → highOf r x ≤ m
+      up : (x : ℕ) → x < rows → Dec (x ≡ row) → highOf r x ≤ places
       up x l (yes e) = rw (e, C .highHere) (omega arith)
       up x l (no d) = rw (C .high x l d) (S .top x l)
 
-      in-span : (x j k : ℕ) → x < rows → j < m → sender r x j k ≡ true → Dec (x ≡ row) → Inside r x j
+      in-span : (x j k : ℕ) → x < rows → j < places → sender r x j k ≡ true → Dec (x ≡ row) → Inside r x j
       in-span x j k l n q (yes e) = absurd (false≢true (rw (eq-eqb x row e) at (sym (cleared-cells x j k l n) ∙ q)))
       in-span x j k l n q (no d) = rw (C .low x l d, C .high x l d)
           (S .within x j k l n (and-both (not (eqb x row)) (sender a x j k) (sym (cleared-cells x j k l n) ∙ q) .1))

@@ -13,21 +13,18 @@ use Rattle.calendar.specs.View.{Posted, Cleared, Empty, Spanned}
 use Rattle.calendar.specs.Posts.{inRow}
 use Rattle.calendar.proofs.Spans.{posted-spanned, empty-spanned, cleared-cells}
 
-module _ (a b : List ℕ) (m row i : ℕ) (P : ℕ → Bool) (h : m ≤ places) (known : (j : ℕ) → P j ≡ true → j < m)
-    (E : Empty a m) (A : Posted a b (inRow row i P)) where
-  pub posted-arrives : (x j k : ℕ) → x < rows → j < m → sender b x j k ≡ inRow row i P x j k
-  posted-arrives x j k l n = A .cells x j k l (omega arith) ∙ rw (E .cells x j k l n)
+module _ (a b : List ℕ) (row i : ℕ) (P : ℕ → Bool) (E : Empty a) (A : Posted a b (inRow row i P)) where
+  pub posted-arrives : (x j k : ℕ) → x < rows → j < places → sender b x j k ≡ inRow row i P x j k
+  posted-arrives x j k l n = A .cells x j k l n ∙ rw (E .cells x j k l n)
 
-  pub posted-inside : Spanned b m
-  posted-inside =
-      posted-spanned a b (inRow row i P) m h A
-      (λ x j k l n q. known j (and-both (eqb k i) (P j) (and-both (eqb x row) (eqb k i && P j) q .1) .1)) (empty-spanned a m E)
+  pub posted-inside : Spanned b
+  posted-inside = posted-spanned a b (inRow row i P) A (empty-spanned a E)
 
-  pub taken-empty : (c : List ℕ) → Cleared b c row → Empty c m
+  pub taken-empty : (c : List ℕ) → Cleared b c row → Empty c
   taken-empty c C = record {
     low = λ x l. low x l (ℕ-discrete x row);
     high = λ x l. high x l (ℕ-discrete x row);
-    cells = λ x j k l n. cleared-cells b c row m h C posted-inside x j k l n ∙ rw (posted-arrives x j k l n) (gone (eqb x row) (eqb k i && P j));
+    cells = λ x j k l n. cleared-cells b c row C posted-inside x j k l n ∙ rw (posted-arrives x j k l n) (gone (eqb x row) (eqb k i && P j));
   }
     where
       gone : (p q : Bool) → not p && (p && q) ≡ false

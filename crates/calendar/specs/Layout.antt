@@ -1,7 +1,7 @@
 -- Where the calendar stands in the lent workspace. Receivers are the servers 0 .. 15 and the readers 16 .. 19; what arrives at receiver r in
 -- tick t belongs to row 20 (t % 16) + r, for every message is under way for 1 to 15 ticks. In words of two bytes:
 --    0  of each row the lowest pair that may arrive, and one more than the highest: one byte each; both 0 where nothing arrives
---  320  the servers whose messages with pair j arrive in the row, at 320 j + row
+--  320  the servers whose messages with pair j arrive in the row, at 65 row + j
 use mathlib.Core.Bool.{Bool}
 use mathlib.Core.List.{List}
 use Prim.Native.Nat.{ℕ, _+_, _*_, _%_}
@@ -40,7 +40,7 @@ abbrev pub rowOf : ℕ → ℕ → ℕ
 rowOf t r = receivers * (t % 16) + r
 
 abbrev pub cellWord : ℕ → ℕ → ℕ
-cellWord row j = cellsAt + (rows * j + row)
+cellWord row j = cellsAt + (places * row + j)
 
 -- ---- what the bytes say
 

@@ -20,10 +20,10 @@ Inside work x j = (lowOf work x ≤ j) × (j < highOf work x)
 abbrev pub covers : List ℕ → ℕ → ℕ → Bool
 covers work x j = leb (lowOf work x) j && ltb j (highOf work x)
 
--- of the m known pairs, what arrives lies in the spans
-pub record Spanned (work : List ℕ) (m : ℕ) : Type 0 where
-  pub top : (x : ℕ) → x < rows → highOf work x ≤ m
-  pub within : (x j i : ℕ) → x < rows → j < m → sender work x j i ≡ true → Inside work x j
+-- what arrives lies in the spans
+pub record Spanned (work : List ℕ) : Type 0 where
+  pub top : (x : ℕ) → x < rows → highOf work x ≤ places
+  pub within : (x j i : ℕ) → x < rows → j < places → sender work x j i ≡ true → Inside work x j
 
 -- the messages of f (row, pair, sender) are posted: the spans grow as far as they must and no further
 pub record Posted (a r : List ℕ) (f : ℕ → ℕ → ℕ → Bool) : Type 0 where
@@ -45,11 +45,11 @@ pub record Cleared (a r : List ℕ) (row : ℕ) : Type 0 where
   pub low : (x : ℕ) → x < rows → (x ≡ row → ⊥) → lowOf r x ≡ lowOf a x
   pub high : (x : ℕ) → x < rows → (x ≡ row → ⊥) → highOf r x ≡ highOf a x
 
--- nothing is under way of m known pairs
-pub record Empty (work : List ℕ) (m : ℕ) : Type 0 where
+-- nothing is under way
+pub record Empty (work : List ℕ) : Type 0 where
   pub low : (x : ℕ) → x < rows → lowOf work x ≡ 0
   pub high : (x : ℕ) → x < rows → highOf work x ≡ 0
-  pub cells : (x j i : ℕ) → x < rows → j < m → sender work x j i ≡ false
+  pub cells : (x j i : ℕ) → x < rows → j < places → sender work x j i ≡ false
 
 -- the bytes from one place to before another are 0, the others stay
 pub record Zeroed (a r : List ℕ) (from to : ℕ) : Type 0 where

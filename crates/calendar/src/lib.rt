@@ -97,15 +97,15 @@ fn cell(row: usize, j: usize) -> usize
     requires { ⌜ (row < rows) × (j < places) ⌝ }
     ensures { λ w. ⌜ (w ≡ cellWord row j) × (2 * w + 1 < calendarSize) ⌝ }
 {
-    CELLS + (ROWS * j + row)
+    CELLS + (PLACES * row + j)
 }
 
-// Nothing is under way; m pairs are known.
-pub fn start(work: &mut [u8], m: usize)
-    requires { ⌜ (m ≤ places) × (calendarSize ≤ length (now work)) ⌝ }
-    ensures { λ _. ⌜ SamePast (now (work .entry)) (now (work .exit)) × Empty (now (work .exit)) m ⌝ }
+// Nothing is under way.
+pub fn start(work: &mut [u8])
+    requires { ⌜ calendarSize ≤ length (now work) ⌝ }
+    ensures { λ _. ⌜ SamePast (now (work .entry)) (now (work .exit)) × Empty (now (work .exit)) ⌝ }
 {
-    words::zero(work, 0, 2 * (CELLS + ROWS * m));
+    words::zero(work, 0, BYTES);
 }
 
 // The servers whose messages with pair j arrive in the row.

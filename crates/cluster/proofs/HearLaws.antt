@@ -28,10 +28,10 @@ taken-more t x y h l b = let e : 16 + (x + 1) ≡ 16 + x + 1 = omega arith in rw
 pub record Hearing-to (work : List ℕ) (t : ℕ) (s r : List Reader) (after : List ℕ) (n : ℕ) : Type 0 where
   pub readers : Hearing work t s r n
   pub rest : SamePast work after
-  pub spans : Spanned after places
+  pub spans : Spanned after
   pub cells : (y j i : ℕ) → y < rows → j < places → sender after y j i ≡ not (taken t n y) && sender work y j i
 
-pub hearing-none : (work : List ℕ) (t : ℕ) (s : List Reader) → Spanned work places → Hearing-to work t s s work 0
+pub hearing-none : (work : List ℕ) (t : ℕ) (s : List Reader) → Spanned work → Hearing-to work t s s work 0
 unfolding taken
 hearing-none work t s S = record {
   readers = record { size = refl; each = λ x l. absurd (omega arith); rest = λ x l. refl };

@@ -58,12 +58,12 @@ module _ (work : List ℕ) (b : ℕ) (arrivals : cluster-specs.declared.Arrivals
 
 -- ---- its row
 
-module _ (work : List ℕ) (row : ℕ) (S : Spanned work places) where
+module _ (work : List ℕ) (row : ℕ) (S : Spanned work) where
   pub emptied-now : (after : List ℕ) → Cleared work after row → cluster-specs.Tick.Emptied work after row
   emptied-now after C = record {
     rest = C .rest;
-    spans = calendar-laws.Spans.cleared-spanned work after row places (omega arith) C S;
-    cells = λ x j i h m. calendar-laws.Spans.cleared-cells work after row places (omega arith) C S x j i h m;
+    spans = calendar-laws.Spans.cleared-spanned work after row C S;
+    cells = λ x j i h m. calendar-laws.Spans.cleared-cells work after row C S x j i h m;
   }
 
   -- nothing arrives in a row without a span
@@ -119,7 +119,7 @@ only-first m rules w votes asks live moving h t s o e d one = rw (e, ← one) (s
     still : (o : Both) → curedAt (rules .delta) t (o .server .status) ≡ false → o ≡ stageTwo (rules .delta) t o
     still o d = rw d
 
-module _ (F : cluster-specs.Tick.Fed) (ends : List ℕ) (b : ℕ) (s : serving-specs.declared.Server.Server) (l : b < 16) (S : Spanned (F .work) places) (few : F .known .m ≤ places)
+module _ (F : cluster-specs.Tick.Fed) (ends : List ℕ) (b : ℕ) (s : serving-specs.declared.Server.Server) (l : b < 16) (S : Spanned (F .work)) (few : F .known .m ≤ places)
     (U : Unreached (F .work) b (F .arrivals) (F .movement) (F .t) (F .rules .delta) (statusOf (s .status)) (s .pending) (keys (s .kept)))
     (K : cluster-specs.Settled.Settled (F .known .m) (F .rules .echo) (F .rules .reply) (server s)) where
   -- no vote for a new pair arrives

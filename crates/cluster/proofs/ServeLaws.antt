@@ -91,7 +91,7 @@ feedAt F work = record {
 }
 
 -- what arrived is cleared, and what it sends is posted
-pub turned-here : (F : Fed) (ends : List ℕ) (b : ℕ) (s : Server) (o : Step) (cleared after : List ℕ) → Spanned (F .work) places
+pub turned-here : (F : Fed) (ends : List ℕ) (b : ℕ) (s : Server) (o : Step) (cleared after : List ℕ) → Spanned (F .work)
     → (Settled (F .known .m) (F .rules .echo) (F .rules .reply) (server s) → Stepped (F .work) b (F .arrivals) (F .movement) (F .t) (F .rules) (F .known .m) (server s) (both o))
     → Cleared (F .work) cleared (rowOf (F .t) b) → Posted cleared after (λ x j k. eqb k b && sends (F .plan) (F .links) (F .rules .n) (F .t) ends b (o .row) x j)
     → CalmlyTurned F ends b s (o .server) after
@@ -104,15 +104,15 @@ turned-here F ends b s o cleared after S T C P = record {
     next = refl;
     rest = rest;
     spans = spans;
-    cells = λ x j i h m. P .cells x j i h m ∙ rw (calendar-laws.Spans.cleared-cells (F .work) cleared (rowOf (F .t) b) places (omega arith) C S x j i h m);
+    cells = λ x j i h m. P .cells x j i h m ∙ rw (calendar-laws.Spans.cleared-cells (F .work) cleared (rowOf (F .t) b) C S x j i h m);
   };
 }
   where
     rest : SamePast (F .work) after
     rest = record { size = P .rest .size ∙ C .rest .size; past = λ k h. P .rest .past k h ∙ C .rest .past k h }
 
-    spans : Spanned after places
-    spans = calendar-laws.Spans.posted-spanned cleared after _ places (omega arith) P (λ x j k h m q. m) (calendar-laws.Spans.cleared-spanned (F .work) cleared (rowOf (F .t) b) places (omega arith) C S)
+    spans : Spanned after
+    spans = calendar-laws.Spans.posted-spanned cleared after _ P (calendar-laws.Spans.cleared-spanned (F .work) cleared (rowOf (F .t) b) C S)
 
 -- ---- the loop over the servers
 
@@ -127,11 +127,11 @@ module _ (F : Fed) (ends : List ℕ) (c : List Server) where
   -- the first n servers have done the tick, if all were settled; the others are as they were
   pub record Serving (r : List Server) (work : List ℕ) (n : ℕ) : Type 0 where
     pub past : SamePast (F .work) work
-    pub spans : Spanned work places
+    pub spans : Spanned work
     pub rest : (b : ℕ) → n ≤ b → getD r b absent ≡ getD c b absent
     pub served : Calm (F .rules) (F .known) c → TurnedFirst F ends c r work n
 
-  pub serving-none : Spanned (F .work) places → Serving c (F .work) 0
+  pub serving-none : Spanned (F .work) → Serving c (F .work) 0
   serving-none S = record {
     past = record { size = refl; past = λ k l. refl };
     spans = S;
@@ -261,7 +261,7 @@ module _ (F : Fed) (ends : List ℕ) (c : List Server) where
 -- ---- the whole tick
 
 pub sized-after : (plan work after : List ℕ) (t : ℕ) (rules : serving-specs.declared.Rules.Rules) (known : cluster-specs.declared.Known.Known) (links : serving-specs.declared.Links.Links)
-    → cluster-specs.Inputs.Tickable plan work t rules known links → SamePast work after → Spanned after places → cluster-specs.Inputs.Tickable plan after t rules known links
+    → cluster-specs.Inputs.Tickable plan work t rules known links → SamePast work after → Spanned after → cluster-specs.Inputs.Tickable plan after t rules known links
 sized-after plan work after t rules known links Z P S = record {
   room = omega (arith, Z .room, P .size);
   spans = S;

@@ -187,7 +187,7 @@ changes p k n d = let z : _≡_ {A = ℕ} 0 1 = ap (λ (x : Bool). cond x 1 0) (
 
 -- of a settled server that has noted the votes of a row, the pairs outside the row's span are taken in to no effect
 module _ (m e r w : ℕ) (work : List ℕ) (row : ℕ) (s q : Plain) (Z : Voted (sender work row) s q) (K : Settled m e r s) (alive : isFaulty (s .status) ≡ false)
-    (few : m ≤ places) (l : row < rows) (S : Spanned work places) where
+    (few : m ≤ places) (l : row < rows) (S : Spanned work) where
   silent-outside : (j : ℕ) → j < m → within (lowOf work row) (highOf work row) j ≡ false → q .fresh j ≡ s .fresh j
   silent-outside j h out = fun-ext (λ i. Z .fresh alive j i (omega arith) ∙ rw (none i (sender work row j i) refl) (or-false (s .fresh j i)))
     where

@@ -61,7 +61,7 @@ asksAt requests b x = ltb x requesters && (ltb 0 x && bit b (getD requests x 0))
 -- what a tick's code needs of the sizes
 pub record Tickable (plan work : List ℕ) (t : ℕ) (rules : Rules) (known : Known) (links : Links) : Type 0 where
   pub room : calendarSize ≤ length work
-  pub spans : Spanned work places
+  pub spans : Spanned work
   pub tick : t < 128
   pub servers : rules .n ≤ 16
   pub delta : rules .delta ≤ 15

@@ -40,17 +40,17 @@ module _ (F : Fed) where
   -- server b has done the tick if it was settled; the workspace is in order in any case
   pub record CalmlyTurned (ends : List ℕ) (b : ℕ) (s r : Server) (work : List ℕ) : Type 0 where
     pub rest : SamePast (F .work) work
-    pub spans : Spanned work places
+    pub spans : Spanned work
     pub turned : Settled (F .known .m) (F .rules .echo) (F .rules .reply) (server s) → Turned F ends b s r work
 
   -- the servers have done the tick if they were settled; the workspace is in order in any case
   pub record CalmlyServed (ends : List ℕ) (c r : List Server) (work : List ℕ) : Type 0 where
     pub rest : SamePast (F .work) work
-    pub spans : Spanned work places
+    pub spans : Spanned work
     pub served : Calm (F .rules) (F .known) c → TurnedFirst F ends c r work (F .rules .n)
 
   -- the cluster likewise
   pub record CalmlyTicked (c r : Cluster) (work : List ℕ) : Type 0 where
     pub rest : SamePast (F .work) work
-    pub spans : Spanned work places
+    pub spans : Spanned work
     pub ticked : Calm (F .rules) (F .known) (c .servers) → Ticked F c r work (F .rules .n)

@@ -49,7 +49,7 @@ pub record Hearing (work : List ℕ) (t : ℕ) (s r : List Reader) (n : ℕ) : T
 pub record Heard (work after : List ℕ) (t : ℕ) (s r : List Reader) : Type 0 where
   pub readers : Hearing work t s r 4
   pub rest : SamePast work after
-  pub spans : Spanned after places
+  pub spans : Spanned after
   pub cells : (x j i : ℕ) → x < rows → j < places → sender after x j i ≡ (not (eqb (x / receivers) (t % 16) && leb 16 (x % receivers)) && sender work x j i)
 
 -- ---- one server
@@ -57,7 +57,7 @@ pub record Heard (work after : List ℕ) (t : ℕ) (s r : List Reader) : Type 0 
 -- what arrives in a row is taken; the other rows are as they were
 pub record Emptied (work after : List ℕ) (row : ℕ) : Type 0 where
   pub rest : SamePast work after
-  pub spans : Spanned after places
+  pub spans : Spanned after
   pub cells : (x j i : ℕ) → x < rows → j < places → sender after x j i ≡ (not (eqb x row) && sender work x j i)
 
 -- the stages of server b in tick t, with the votes that arrive for pairs that are new to it; what it notes of other votes changes nothing
@@ -105,7 +105,7 @@ module _ (F : Fed) where
     pub done : Stepped (F .work) b (F .arrivals) (F .movement) (F .t) (F .rules) (F .known .m) (server s) (both out)
     pub next : r ≡ out .server
     pub rest : SamePast (F .work) work
-    pub spans : Spanned work places
+    pub spans : Spanned work
     pub cells : (x j i : ℕ) → x < rows → j < places
         → sender work x j i ≡ ((not (eqb x (rowOf (F .t) b)) && sender (F .work) x j i) || (eqb i b && sends (F .plan) (F .links) (F .rules .n) (F .t) ends b (out .row) x j))
 
@@ -117,7 +117,7 @@ module _ (F : Fed) where
     pub done : (b : ℕ) → b < n → Stepped (F .work) b (F .arrivals) (F .movement) (F .t) (F .rules) (F .known .m) (server (getD c b absent)) (both (outs b))
     pub next : (b : ℕ) → b < n → getD r b absent ≡ outs b .server
     pub rest : SamePast (F .work) work
-    pub spans : Spanned work places
+    pub spans : Spanned work
     pub cells : (x j i : ℕ) → x < rows → j < places
         → sender work x j i ≡ ((not (eqb (x / receivers) (F .t % 16) && ltb (x % receivers) n) && sender (F .work) x j i)
         || (ltb i n && sends (F .plan) (F .links) (F .rules .n) (F .t) ends i (outs i .row) x j))
@@ -132,7 +132,7 @@ module _ (F : Fed) where
     pub heard : Hearing (F .work) (F .t) (c .readers) (r .readers) 4
     -- what arrived is taken, and what each server sent is under way
     pub rest : SamePast (F .work) work
-    pub spans : Spanned work places
+    pub spans : Spanned work
     pub cells : (x j i : ℕ) → x < rows → j < places
         → sender work x j i ≡ ((not (present n x) && sender (F .work) x j i) || (ltb i n && sends (F .plan) (F .links) (F .rules .n) (F .t) (endsOf (c .readers)) i (outs i .row) x j))
 

@@ -46,7 +46,7 @@ pub fn is_heard(work: &[u8], t: usize, x: usize) -> bool
 
 // Reader x notes the replies that arrive in tick t, which are then no longer under way.
 pub fn hear(reader: Reader, work: &mut [u8], t: usize, x: usize) -> Reader
-    requires { ⌜ (x < 4) × (calendarSize ≤ length (now work)) × Spanned (now work) places ⌝ }
+    requires { ⌜ (x < 4) × (calendarSize ≤ length (now work)) × Spanned (now work) ⌝ }
     ensures { λ r. ⌜ Noted (now (work .entry)) (rowOf t (16 + x)) reader r × Emptied (now (work .entry)) (now (work .exit)) (rowOf t (16 + x)) ⌝ }
 {
     let row = calendar::row(t, SERVERS + x);
@@ -125,7 +125,7 @@ fn is_called(
 
 // Is server b called, or does a vote reach it for a pair that is new to its store: other votes never come to anything, and a faulty server loses all.
 pub fn is_reached(s: Server, work: &[u8], b: usize, feed: Feed, due: u16) -> bool
-    requires { ⌜ (b < 16) × (calendarSize ≤ length (now work)) × Spanned (now work) places ⌝ }
+    requires { ⌜ (b < 16) × (calendarSize ≤ length (now work)) × Spanned (now work) ⌝ }
     ensures { λ r. ⌜ r ≡ reached (called b due (feed .arrivals .live) (feed .movement .moving) (feed .t) (feed .rules .delta) (statusOf (s .status)) (s .pending)) (now (work .entry)) (rowOf (feed .t) b) (statusOf (s .status)) (keys (s .kept)) ⌝ }
 {
     let t = feed.t;
@@ -153,7 +153,7 @@ pub fn is_reached(s: Server, work: &[u8], b: usize, feed: Feed, due: u16) -> boo
 
 // What arrives at server b is taken, to no effect.
 pub fn pass_over(work: &mut [u8], t: usize, b: usize)
-    requires { ⌜ (b < 16) × (calendarSize ≤ length (now work)) × Spanned (now work) places ⌝ }
+    requires { ⌜ (b < 16) × (calendarSize ≤ length (now work)) × Spanned (now work) ⌝ }
     ensures { λ _. ⌜ Emptied (now (work .entry)) (now (work .exit)) (rowOf t b) ⌝ }
 {
     let row = calendar::row(t, b);

@@ -66,7 +66,7 @@ pub record Went (s work₀ work₁ answers₀ answers₁ : List ℕ) (r : Script
 -- nothing is under way before the first tick
 pub record Fresh (work₀ work₁ : List ℕ) (r : Script) (p : Playing) : Type 0 where
   pub kept : SameBehind work₀ work₁
-  pub empty : Empty work₁ places
+  pub empty : Empty work₁
   pub unasked : Unasked work₁
   pub first : p ≡ record { cluster = p .cluster; written = 0; begun = 0; answered = 0; tick = 0 }
   pub started : Started (p .cluster)

@@ -9,7 +9,6 @@ ghost use Rattle.answers.specs.Workspace.{workspaceSize};
 ghost use Rattle.script.specs.Forged.{entriesEnd};
 ghost use Rattle.player.specs.Run.{Fresh};
 ghost use Rattle.player.specs.Player.{AllAnswered, Viewed};
-use calendar::PLACES;
 use cluster::Cluster;
 use cluster::Known;
 use plan::header::Shape;
@@ -43,7 +42,7 @@ fn begin(work: &mut [u8], script: Script) -> Playing
     requires { ⌜ entriesEnd ≤ length (now work) ⌝ }
     ensures { λ r. ⌜ Fresh (now (work .entry)) (now (work .exit)) script r ⌝ }
 {
-    calendar::start(work, PLACES);
+    calendar::start(work);
     requests::start(work);
     let cluster = cluster::tick::start();
     Playing {

@@ -141,7 +141,7 @@ module _ (a r : List ℕ) (O : SameOutside a r) where
   pub outside-sender : (x j i : ℕ) → x < rows → j < places → sender r x j i ≡ sender a x j i
   outside-sender x j i l m = rw (laws.word-same a r (cellWord x j) (O .before (2 * cellWord x j) (omega arith)) (O .before (2 * cellWord x j + 1) (omega arith)))
 
-  pub outside-spanned : Spanned a places → Spanned r places
+  pub outside-spanned : Spanned a → Spanned r
   outside-spanned S = record {
     top = λ x l. rw (O .before (2 * x + 1) (omega arith)) (S .top x l);
     within = λ x j i l m e.
@@ -149,7 +149,7 @@ module _ (a r : List ℕ) (O : SameOutside a r) where
         (rw (O .before (2 * x) (omega arith)) (w .0), rw (O .before (2 * x + 1) (omega arith)) (w .1));
   }
 
-  pub outside-empty : Empty a places → Empty r places
+  pub outside-empty : Empty a → Empty r
   outside-empty E = record {
     low = λ x l. O .before (2 * x) (omega arith) ∙ E .low x l;
     high = λ x l. O .before (2 * x + 1) (omega arith) ∙ E .high x l;

@@ -147,7 +147,7 @@ module _ (s before after : List ℕ) (A : plan-specs.Playable.Playable 16 s) (r 
       rw (script-laws.Placing.link-delay s A (r .links) (R .links) t i q below (omega (arith, n)) (omega (arith, R .links .parties)) (script-laws.Messages.other-link (headerOf 16 s .n) i q (omega (arith, n)) d (λ z. w (z ∙ sym n))))
       (plan-laws.AcceptGood.delay-range 16 s A t i q .0)
 
-  pub script-sized : (work : List ℕ) (t : ℕ) → t < headerOf 16 s .ticks → script-specs.Forged.entriesEnd ≤ length work → calendar-specs.View.Spanned work calendar-specs.Layout.places → Tickable s work t (r .rules) (r .writes .known) (r .links)
+  pub script-sized : (work : List ℕ) (t : ℕ) → t < headerOf 16 s .ticks → script-specs.Forged.entriesEnd ≤ length work → calendar-specs.View.Spanned work → Tickable s work t (r .rules) (r .writes .known) (r .links)
   script-sized work t below room spans =
       let H = plan-laws.Accept.in-range 16 s A in
       record {

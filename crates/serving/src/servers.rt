@@ -5,7 +5,6 @@ ghost use Prim.Native.Nat.{_≤_, _<_};
 ghost use lib.ListN.{length};
 ghost use Rattle.register.specs.Server.{isFaulty, isCorrect, curedAt};
 ghost use Rattle.calendar.specs.Layout.{rows, places, calendarSize, sender};
-ghost use Rattle.calendar.specs.View.{Spanned};
 ghost use Rattle.serving.specs.Stored.{statusOf, server};
 ghost use Rattle.serving.specs.Stages.{restated, written, Voted, resetAt, cureEnded, turned};
 use super::Server;
@@ -78,7 +77,7 @@ impl Server {
 
     // Notes the votes that arrive in its row of the calendar, forged or not. 'A held box loses what arrives.'
     pub fn vote(mut self, work: &[u8], row: usize) -> Self
-        requires { ⌜ (row < rows) × (calendarSize ≤ length (now work)) × Spanned (now work) places ⌝ }
+        requires { ⌜ (row < rows) × (calendarSize ≤ length (now work)) ⌝ }
         ensures { λ r. ⌜ Voted (λ j i. sender (now (work .entry)) row j i) (server self) (server r) ⌝ }
     {
         let status = self.status;

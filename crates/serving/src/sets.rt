@@ -4,7 +4,6 @@ ghost use Prim.Native.Nat.{_≤_, _<_};
 ghost use mathlib.Core.List.{[], _∷_, _++_};
 ghost use lib.ListN.{length, getD};
 ghost use Rattle.calendar.specs.Layout.{rows, places, calendarSize};
-ghost use Rattle.calendar.specs.View.{Spanned};
 ghost use Rattle.serving.specs.Bits.{listed, noVoters, Joined};
 use super::MOST;
 use super::Voters;
@@ -39,29 +38,21 @@ impl Voters {
         Voters { most, last: 0 }
     }
 
-    // The senders of what arrives in a row of the calendar join.
+    // The senders of what arrives in a row of the calendar join: all the row's words, for whole arrays are joined by many words at a time.
     pub fn joined(self, work: &[u8], row: usize) -> Voters
-        requires { ⌜ (row < rows) × (calendarSize ≤ length (now work)) × Spanned (now work) places ⌝ }
+        requires { ⌜ (row < rows) × (calendarSize ≤ length (now work)) ⌝ }
         ensures { λ r. ⌜ Joined (now (work .entry)) row self r ⌝ }
     {
         let mut most = self.most;
-        let high = calendar::high(work, row);
-        let end = lower(high, MOST);
-        let mut j = calendar::low(work, row);
-        while j < end {
+        let mut j: usize = 0;
+        while j < MOST {
             let m = most[j];
             most[j] = m | calendar::senders(work, row, j);
             j += 1;
         }
-        if MOST < high {
-            return Voters {
-                most,
-                last: self.last | calendar::senders(work, row, MOST),
-            };
-        }
         Voters {
             most,
-            last: self.last,
+            last: self.last | calendar::senders(work, row, MOST),
         }
     }
 }

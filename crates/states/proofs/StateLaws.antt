@@ -63,7 +63,7 @@ module _ (P : Plan) (G : register-laws.Good.Good P) (F : Fed) (fit : Fits P (F .
 
   -- a tick of the engine is a tick of the cluster
   pub next-state : (n : cluster-specs.declared.Cluster.Cluster) (then : List ℕ) (f : ℕ → ℕ → ℕ → Bool) → n .servers ≡ r .servers → Begins P (F .known .m) (F .t) (r .readers) (n .readers)
-      → ((x j i : ℕ) → x < rows → j < places → sender then x j i ≡ (sender work x j i || f x j i)) → Spanned then places
+      → ((x j i : ℕ) → x < rows → j < places → sender then x j i ≡ (sender work x j i || f x j i)) → Spanned then
       → Forges P (F .known .m) (F .t) (pairAt (F .known)) f
       → states-specs.State.State P (pairAt (F .known)) (F .known .m) (suc (F .t)) n then
   next-state n then f same B cells spans Y = record {
@@ -83,7 +83,7 @@ module _ (P : Plan) (G : register-laws.Good.Good P) (F : Fed) (fit : Fits P (F .
 
 -- ---- the start
 
-pub first-state : (P : Plan) (g : ℕ → ℕ) (m : ℕ) → Knows P g m → (c : cluster-specs.declared.Cluster.Cluster) (work : List ℕ) → Started c → Empty work places → states-specs.State.State P g m 0 c work
+pub first-state : (P : Plan) (g : ℕ → ℕ) (m : ℕ) → Knows P g m → (c : cluster-specs.declared.Cluster.Cluster) (work : List ℕ) → Started c → Empty work → states-specs.State.State P g m 0 c work
 unfolding register-specs.Server.has register-specs.Lists.any register-specs.Lists.anyUpTo register-laws.Trace.before states-specs.Way.voteWay
 first-state P g m K c work S E = record {
   servers = λ b lb. rw (register-laws.Trace.before-zero P b lb, S .each b (omega (arith, K .servers))) (record {
@@ -103,7 +103,7 @@ first-state P g m K c work S E = record {
         ∙ rw (none-any (λ x. ltb (x .at) 0 && states-specs.Way.forgedAs P s b (g j) i x) (P .forged) (λ x. rw (le-ltb (x .at) 0 (omega arith)))) (nobody i);
     replies = λ r o. absurd (omega (arith, o .begun));
     none = λ r l o s j i a z h. let k = K .readers r l in E .cells (rowOf s (15 + r .reader)) j i (omega arith) (omega (arith, K .few));
-    spans = empty-spanned work places E;
+    spans = empty-spanned work E;
   };
   readers = record {
     size = S .readers;

@@ -57,7 +57,7 @@ module _ (P : Plan) where
       pub replies : (r : Read) → Open t r → (s j i : ℕ) → t ≤ s → s < t + 16 → j < m
           → sender work (rowOf s (15 + r .reader)) j i ≡ (ltb i (P .n) && replyWay P log t r s (g j) i)
       pub none : (r : Read) → In r (P .reads) → Idle t (r .reader) → (s j i : ℕ) → t ≤ s → s < t + 16 → j < m → sender work (rowOf s (15 + r .reader)) j i ≡ false
-      pub spans : Spanned work places
+      pub spans : Spanned work
 
     -- what the readers have noted before tick t
     pub record Hears (t : ℕ) (log : Log) (readers : List Reader) : Type 0 where

@@ -27,7 +27,7 @@ high-requires : tie.Need-high-requires
 high-requires c κs = (c .before .before .before .row .ensures .1, c .before .before .before .before .before .before .before .before .before .pre .1 .room)
 
 vote-requires : tie.Need-vote-requires
-vote-requires c κs = let p = c .before .before .before .before .before .before .before .before .before .before .before .pre .1 in (c .before .before .before .before .before .row .ensures .1, p .room, p .spans)
+vote-requires c κs = (c .before .before .before .before .before .row .ensures .1, c .before .before .before .before .before .before .before .before .before .before .before .pre .1 .room)
 
 wrote-at-requires : tie.Need-wrote-at-requires
 wrote-at-requires c κs = omega (arith, c .before .before .before .before .before .before .before .before .before .before .before .before .before .before .before .before .pre .0, c .before .before .before .before .before .before .before .before .before .before .before .before .before .before .before .before .pre .1 .servers)
