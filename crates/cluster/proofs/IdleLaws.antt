@@ -1,7 +1,7 @@
 -- A settled server that nothing new reaches has done the tick as it stands, once its row is empty: its stages change nothing, and it sends
 -- nothing. It stands on Settled and StageLaws.
 use mathlib.Core.Path.{_≡_, refl, sym, ap, _∙_, fun-ext}
-use mathlib.Core.Bool.{Bool, true, false, not, _&&_, _||_, and-false, or-false}
+use mathlib.Core.Bool.{Bool, true, false, not, _&&_, _||_, cond, and-false, or-false}
 use mathlib.Core.List.{List, []}
 use Prim.Native.Nat.{ℕ, _-_, _/_, _%_, _≤_, _<_}
 use native.Mathlib.Omega.{arith}
@@ -154,33 +154,21 @@ module _ (F : cluster-specs.Tick.Fed) (ends : List ℕ) (b : ℕ) (s : serving-s
   none-taken : server s .kept ≡ taken (voting (F .rules .echo) (F .rules .reply) (server s .fresh) (server s .old)) (F .known .m) (server s .kept)
   none-taken = sym (cluster-laws.Settled.taken-none _ (F .known .m) (server s .kept) (K .same))
 
-  -- the row of a server that says nothing
-  quiet : Bool → serving-specs.declared.Outgoing.Outgoing
-  quiet true = record { wrote = noPair; echoed = false; readers = 0; kept = [] }
-  quiet false = record { wrote = w; echoed = false; readers = 0; kept = s .kept }
+  -- what a server sends that says nothing
+  abbrev quiet : Bool → serving-specs.declared.Outgoing.Outgoing
+  quiet c = record { wrote = cond c noPair w; echoed = false; readers = 0; kept = cond c [] (s .kept) }
 
   first : (c : Bool) → isFaulty (statusOf (s .status)) ≡ c
       → record { server = server s; said = saidBy (quiet c) } ≡ stageOne (F .known .m) (F .rules .echo) (F .rules .reply) w (server s .fresh) asked going (server s)
-  unfolding quiet keys
+  unfolding keys
   first true e = serving-laws.StageLaws.lost-law (F .known .m) (F .rules .echo) (F .rules .reply) w (server s .fresh) asked going (server s) (saidBy (quiet true)) e (rw serving-laws.StageLaws.zero-set)
   first false e = serving-laws.StageLaws.taken-law (F .known .m) (F .rules .echo) (F .rules .reply) w (server s .fresh) asked going (server s) _ (voting (F .rules .echo) (F .rules .reply) (server s .fresh) (server s .old)) e
       (serving-laws.StageLaws.delivered-law (F .known .m) _ w (server s .fresh) asked going (server s) (server s .kept) (server s .kept) (server s .pending) (λ x. bit x 0)
       (ap (λ (x : Plain). x .kept) no-write ∙ serving-laws.StageLaws.write-kept (F .known .m) w (server s)) none-taken pend (serving-laws.StageLaws.zero-set ∙ rw (serving-laws.StoreLaws.same-as-itself (server s .kept)) (no-replies (isCorrect (statusOf (s .status))) asked (server s .pending) none-asked))) refl
 
   quiet-wrote : (c : Bool) → places ≤ quiet c .wrote
-  unfolding quiet
   quiet-wrote true = omega arith
   quiet-wrote false = U .wrote
-
-  quiet-echoed : (c : Bool) → quiet c .echoed ≡ false
-  unfolding quiet
-  quiet-echoed true = refl
-  quiet-echoed false = refl
-
-  quiet-readers : (c : Bool) → quiet c .readers ≡ 0
-  unfolding quiet
-  quiet-readers true = refl
-  quiet-readers false = refl
 
   pub idle-turned : (after : List ℕ) → cluster-specs.Tick.Emptied (F .work) after (rowOf (F .t) b) → cluster-specs.Tick.Turned F ends b s s after
   idle-turned after E =
@@ -193,7 +181,5 @@ module _ (F : cluster-specs.Tick.Fed) (ends : List ℕ) (b : ℕ) (s : serving-s
           stages = only-first (F .known .m) (F .rules) w (server s .fresh) asked going (F .movement .moving) (bit (15 - b) (F .movement .faulty)) (F .t) (server s) _ (U .moving) (U .cured) (first c refl);
         };
         next = refl;
-        rest = E .rest;
-        spans = E .spans;
-        cells = λ x j i h m. rw (sends-none (F .plan) (F .links) (F .rules .n) (F .t) ends b (quiet c) (quiet-wrote c) (quiet-echoed c) (quiet-readers c) x j m, and-false (eqb i b), or-false (not (eqb x (rowOf (F .t) b)) && sender (F .work) x j i)) (E .cells x j i h m);
+        cells = λ x j i h m. rw (sends-none (F .plan) (F .links) (F .rules .n) (F .t) ends b (quiet c) (quiet-wrote c) refl refl x j m, and-false (eqb i b), or-false (not (eqb x (rowOf (F .t) b)) && sender (F .work) x j i)) (E .cells x j i h m);
       }

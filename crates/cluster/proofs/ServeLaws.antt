@@ -96,23 +96,15 @@ pub turned-here : (F : Fed) (ends : List ℕ) (b : ℕ) (s : Server) (o : Step) 
     → Cleared (F .work) cleared (rowOf (F .t) b) → Posted cleared after (λ x j k. eqb k b && sends (F .plan) (F .links) (F .rules .n) (F .t) ends b (o .row) x j)
     → CalmlyTurned F ends b s (o .server) after
 turned-here F ends b s o cleared after S T C P = record {
-  rest = rest;
-  spans = spans;
+  rest = record { size = P .rest .size ∙ C .rest .size; past = λ k h. P .rest .past k h ∙ C .rest .past k h };
+  spans = calendar-laws.Spans.posted-spanned cleared after _ P (calendar-laws.Spans.cleared-spanned (F .work) cleared (rowOf (F .t) b) C S);
   turned = λ K. record {
     out = o;
     done = T K;
     next = refl;
-    rest = rest;
-    spans = spans;
     cells = λ x j i h m. P .cells x j i h m ∙ rw (calendar-laws.Spans.cleared-cells (F .work) cleared (rowOf (F .t) b) C S x j i h m);
   };
 }
-  where
-    rest : SamePast (F .work) after
-    rest = record { size = P .rest .size ∙ C .rest .size; past = λ k h. P .rest .past k h ∙ C .rest .past k h }
-
-    spans : Spanned after
-    spans = calendar-laws.Spans.posted-spanned cleared after _ P (calendar-laws.Spans.cleared-spanned (F .work) cleared (rowOf (F .t) b) C S)
 
 -- ---- the loop over the servers
 
@@ -141,8 +133,6 @@ module _ (F : Fed) (ends : List ℕ) (c : List Server) where
       size = refl;
       done = λ b l. absurd (omega arith);
       next = λ b l. absurd (omega arith);
-      rest = record { size = refl; past = λ k l. refl };
-      spans = S;
       cells = λ x j i l m.
           rw (le-ltb (x % receivers) 0 (omega arith), le-ltb i 0 (omega arith), and-false (eqb (x / receivers) (F .t % 16))) (sym (or-false (sender (F .work) x j i)));
     };
@@ -216,8 +206,6 @@ module _ (F : Fed) (ends : List ℕ) (c : List Server) where
         size = length-set r b q ∙ S .size;
         done = λ i h. done i h (ℕ-discrete i b);
         next = λ i h. next i h (ℕ-discrete i b);
-        rest = record { size = T .rest .size ∙ S .rest .size; past = λ k h. T .rest .past k h ∙ S .rest .past k h };
-        spans = T .spans;
         cells = cells;
       }
         where
@@ -298,8 +286,6 @@ module _ (F : Fed) (c : cluster-specs.declared.Cluster.Cluster) (heard : List cl
         record { votes = T .votes; came = λ h j i m n. T .came h j i m n ∙ rw (same-votes b j i (omega arith) m); stages = T .stages };
     next = S .next;
     heard = H .readers;
-    rest = record { size = S .rest .size ∙ H .rest .size; past = λ k l. S .rest .past k l ∙ H .rest .past k l };
-    spans = S .spans;
     cells = λ x j i l m. S .cells x j i l m
         ∙ rw (H .cells x j i l m, two-taken (eqb (x / receivers) (F .t % 16)) (ltb (x % receivers) n) (leb 16 (x % receivers)) (sender (F .work) x j i));
   }

@@ -104,8 +104,6 @@ module _ (F : Fed) where
     pub out : Step
     pub done : Stepped (F .work) b (F .arrivals) (F .movement) (F .t) (F .rules) (F .known .m) (server s) (both out)
     pub next : r ≡ out .server
-    pub rest : SamePast (F .work) work
-    pub spans : Spanned work
     pub cells : (x j i : ℕ) → x < rows → j < places
         → sender work x j i ≡ ((not (eqb x (rowOf (F .t) b)) && sender (F .work) x j i) || (eqb i b && sends (F .plan) (F .links) (F .rules .n) (F .t) ends b (out .row) x j))
 
@@ -116,8 +114,6 @@ module _ (F : Fed) where
     pub size : length r ≡ length c
     pub done : (b : ℕ) → b < n → Stepped (F .work) b (F .arrivals) (F .movement) (F .t) (F .rules) (F .known .m) (server (getD c b absent)) (both (outs b))
     pub next : (b : ℕ) → b < n → getD r b absent ≡ outs b .server
-    pub rest : SamePast (F .work) work
-    pub spans : Spanned work
     pub cells : (x j i : ℕ) → x < rows → j < places
         → sender work x j i ≡ ((not (eqb (x / receivers) (F .t % 16) && ltb (x % receivers) n) && sender (F .work) x j i)
         || (ltb i n && sends (F .plan) (F .links) (F .rules .n) (F .t) ends i (outs i .row) x j))
@@ -131,8 +127,6 @@ module _ (F : Fed) where
     pub next : (b : ℕ) → b < n → getD (r .servers) b absent ≡ outs b .server
     pub heard : Hearing (F .work) (F .t) (c .readers) (r .readers) 4
     -- what arrived is taken, and what each server sent is under way
-    pub rest : SamePast (F .work) work
-    pub spans : Spanned work
     pub cells : (x j i : ℕ) → x < rows → j < places
         → sender work x j i ≡ ((not (present n x) && sender (F .work) x j i) || (ltb i n && sends (F .plan) (F .links) (F .rules .n) (F .t) (endsOf (c .readers)) i (outs i .row) x j))
 

@@ -66,7 +66,7 @@ module _ (s : List ℕ) (r : script-specs.declared.Script.Script) (R : Decoded s
       ticked = subst (λ (x : cluster-specs.declared.Feed.Feed). cluster-specs.Settled.CalmlyTicked (feedOf s work x) c d work₁) (F .same) fed .ticked (states-laws.StateLaws.calm (planOf 16 s) (feedOf s work feed) fits c S)
 
       pub kept : SamePast work work₁
-      kept = ticked .rest
+      kept = fed .rest
 
       pub servers-there : length (d .servers) ≡ 16
       servers-there = ticked .servers
@@ -300,4 +300,4 @@ module _ (s : List ℕ) (r : script-specs.declared.Script.Script) (R : Decoded s
         state-next n work₂ es er N =
             states-laws.StateLaws.next-state (planOf 16 s) (good 16 s (R .playable)) (feedOf s work feed) fits (knows s r R) c d work₁ ticked S n work₂ posts es (rw er begins)
             (λ x j i l m. N .cells x j i l m ∙ rw (outside-sender work₁ between O x j i l m))
-            (posted-spanned between work₂ posts N (outside-spanned work₁ between O (ticked .spans))) forges-now
+            (posted-spanned between work₂ posts N (outside-spanned work₁ between O (fed .spans))) forges-now
