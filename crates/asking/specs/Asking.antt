@@ -6,13 +6,14 @@ use Prim.Native.Nat.{ℕ, suc, _+_, _%_, _≤_, _<_}
 use lib.Dec.{eqb, leb, ltb}
 use lib.ListN.{getD}
 use Rattle.register.specs.Lists.{anyUpTo}
+use Rattle.calendar.specs.Layout.{slots}
 use Rattle.serving.specs.declared.Links.{Links}
 use Rattle.serving.specs.Links.{delayAt}
 use Rattle.requests.specs.Requests.{parties, reachedBy, SameOutside}
 
 -- party p's request, sent in tick t to all servers, reaches server b in tick s
 unfoldable pub askedBy : List ℕ → Links → ℕ → ℕ → ℕ → ℕ → ℕ → ℕ → Bool
-askedBy plan links n t p s q b = ltb b n && (eqb q p && eqb ((t + delayAt plan links t (n + p) b) % 16) (s % 16))
+askedBy plan links n t p s q b = ltb b n && (eqb q p && eqb ((t + delayAt plan links t (n + p) b) % slots) (s % slots))
 
 -- the reads from .. to - 1 are in the table, and their readers are parties
 pub record Readers (by : List ℕ) (from to n parties : ℕ) : Type 0 where
@@ -33,4 +34,4 @@ pub record WroteOn (plan : List ℕ) (links : Links) (n t : ℕ) (begun : List �
   pub next : r ≡ cond (begins begun m t number) (suc number) number
   pub outside : SameOutside a b
   pub requests : (s q c : ℕ) → q < parties
-      → reachedBy b s q c ≡ ((not (eqb (s % 16) (t % 16)) && reachedBy a s q c) || (begins begun m t number && askedBy plan links n t 0 s q c))
+      → reachedBy b s q c ≡ ((not (eqb (s % slots) (t % slots)) && reachedBy a s q c) || (begins begun m t number && askedBy plan links n t 0 s q c))

@@ -4,17 +4,32 @@
 --  320  the servers whose messages with pair j arrive in the row, at 65 row + j
 use mathlib.Core.Bool.{Bool}
 use mathlib.Core.List.{List}
-use Prim.Native.Nat.{ℕ, _+_, _*_, _%_}
+use Prim.Native.Nat.{ℕ, _+_, _-_, _*_, _%_}
 use lib.ListN.{getD}
 use Rattle.calendar.specs.Bits.{bit, wordOf}
 
--- how many parties receive votes or replies
-abbrev pub receivers : ℕ
-receivers = 20
+-- how many servers there may be
+abbrev pub mostServers : ℕ
+mostServers = 16
 
--- 16 ticks of them
+-- how many readers
+abbrev pub mostReaders : ℕ
+mostReaders = 4
+
+-- the parties that receive votes or replies
+abbrev pub receivers : ℕ
+receivers = mostServers + mostReaders
+
+-- the ticks that have rows of their own at a time
+abbrev pub slots : ℕ
+slots = 16
+
 abbrev pub rows : ℕ
-rows = 320
+rows = slots * receivers
+
+-- reader y, from 1 on, receives as party readersAt + y
+abbrev pub readersAt : ℕ
+readersAt = mostServers - 1
 
 -- how many pairs may be known
 abbrev pub places : ℕ
@@ -37,7 +52,7 @@ abbrev pub calendarSize : ℕ
 calendarSize = 2 * (cellsAt + rows * places)
 
 abbrev pub rowOf : ℕ → ℕ → ℕ
-rowOf t r = receivers * (t % 16) + r
+rowOf t r = receivers * (t % slots) + r
 
 abbrev pub cellWord : ℕ → ℕ → ℕ
 cellWord row j = cellsAt + (places * row + j)

@@ -19,10 +19,22 @@ pub const NO_PAIR: u8 = 255;
 // How many pairs a server keeps (document 01: three).
 pub const DEPTH: usize = 3;
 
-// How many parties receive votes or replies; 16 ticks of them.
-const RECEIVERS: usize = 20;
+// How many servers there may be.
+pub const SERVERS: usize = 16;
 
-const ROWS: usize = 320;
+// How many readers there may be.
+pub const READERS: usize = 4;
+
+// The parties that receive votes or replies.
+const RECEIVERS: usize = SERVERS + READERS;
+
+// The ticks that have rows of their own at a time.
+pub const SLOTS: usize = 16;
+
+const ROWS: usize = SLOTS * RECEIVERS;
+
+// Reader y, from 1 on, receives as party READERS_AT + y.
+pub const READERS_AT: usize = SERVERS - 1;
 
 // The word at which the cells begin, behind the rows' spans.
 const CELLS: usize = ROWS;
@@ -90,7 +102,7 @@ pub fn row(t: usize, r: usize) -> usize
     requires { ⌜ r < receivers ⌝ }
     ensures { λ x. ⌜ (x ≡ rowOf t r) × (x < rows) ⌝ }
 {
-    RECEIVERS * (t % 16) + r
+    RECEIVERS * (t % SLOTS) + r
 }
 
 fn cell(row: usize, j: usize) -> usize

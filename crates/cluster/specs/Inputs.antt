@@ -10,7 +10,7 @@ use Rattle.register.specs.Plan.{Plan, Write, Read, stamped, kk, echoQuorum, rep
 use Rattle.register.specs.Cluster.{writesIn, readsIn}
 use Rattle.register.specs.Reading.{sameRead}
 use Rattle.calendar.specs.Bits.{bit}
-use Rattle.calendar.specs.Layout.{places, noPair, depth, calendarSize}
+use Rattle.calendar.specs.Layout.{mostServers, mostReaders, places, noPair, depth, calendarSize}
 use Rattle.calendar.specs.View.{Spanned}
 use Rattle.cluster.specs.declared.Known.{Known}
 use Rattle.serving.specs.declared.Rules.{Rules}
@@ -30,13 +30,13 @@ Narrow known = (j : ℕ) → getD (known .values) j 0 < 2 ^ 16
 -- the plan's pairs are g 0 .. g (m - 1), of a table that strictly rises
 pub record Knows (P : Plan) (g : ℕ → ℕ) (m : ℕ) : Type 0 where
   pub few : m ≤ places
-  pub servers : P .n ≤ 16
+  pub servers : P .n ≤ mostServers
   pub slow : P .delta ≤ 15
   pub depth : P .depth ≡ depth
   pub rising : (i j : ℕ) → i < j → g i < g j
   pub first : (0 < m) × (P .initial ≡ g 0)
   pub write : (w : Write) → In w (P .writes) → (j : ℕ) × (j < m) × (w .pair ≡ g j)
-  pub readers : (r : Read) → In r (P .reads) → (1 ≤ r .reader) × (r .reader ≤ 4)
+  pub readers : (r : Read) → In r (P .reads) → (1 ≤ r .reader) × (r .reader ≤ mostReaders)
 
 -- ---- what arrives at one server
 
@@ -63,7 +63,7 @@ pub record Tickable (plan work : List ℕ) (t : ℕ) (rules : Rules) (known : Kn
   pub room : calendarSize ≤ length work
   pub spans : Spanned work
   pub tick : t < 128
-  pub servers : rules .n ≤ 16
+  pub servers : rules .n ≤ mostServers
   pub delta : rules .delta ≤ 15
   pub pairs : known .m ≤ places
   pub echo : 1 ≤ rules .echo
@@ -83,7 +83,7 @@ pub record Fits (P : Plan) (t : ℕ) (plan : List ℕ) (rules : Rules) (known : 
   pub delays : (i b : ℕ) → i < P .n → b < P .n → (i ≡ b → ⊥) → delayAt plan links t i b ≡ P .delay t i b
   pub replies : (i : ℕ) (r : Read) → i < P .n → In r (P .reads) → (P .n + r .reader < links .parties) × (delayAt plan links t i (P .n + r .reader) ≡ P .delay t i (P .n + r .reader))
   pub moving : movement .moving ≡ isMove P t
-  pub faulty : isMove P t ≡ true → (b : ℕ) → b < P .n → bit (15 - b) (movement .faulty) ≡ P .placed (t / P .period) b
+  pub faulty : isMove P t ≡ true → (b : ℕ) → b < P .n → bit (mostServers - 1 - b) (movement .faulty) ≡ P .placed (t / P .period) b
   pub wrote : (b j : ℕ) → b < P .n → j < known .m → member (pairAt known j) (writesIn P t b) ≡ eqb j (wroteAt (arrivals .requests) (arrivals .number) b)
   pub asks : (b : ℕ) (r : Read) → b < P .n → In r (P .reads) → r .begun < t → t ≤ readEnd P r
       → any (sameRead r) (readsIn P t b) ≡ asksAt (arrivals .requests) b (r .reader)

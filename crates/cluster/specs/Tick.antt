@@ -8,7 +8,7 @@ use lib.Dec.{eqb, leb, ltb}
 use lib.ListN.{length, getD}
 use Rattle.register.specs.Server.{correct, isFaulty}
 use Rattle.calendar.specs.Bits.{bit}
-use Rattle.calendar.specs.Layout.{receivers, rows, places, rowOf, sender}
+use Rattle.calendar.specs.Layout.{mostServers, mostReaders, slots, receivers, rows, places, rowOf, sender}
 use Rattle.calendar.specs.View.{SamePast, Spanned}
 use Rattle.serving.specs.declared.Server.{Server}
 use Rattle.cluster.specs.declared.Reader.{Reader}
@@ -42,15 +42,15 @@ pub record Noted (work : List ℕ) (row : ℕ) (s r : Reader) : Type 0 where
 -- the first n readers have noted what arrives in tick t; the others are as they were
 pub record Hearing (work : List ℕ) (t : ℕ) (s r : List Reader) (n : ℕ) : Type 0 where
   pub size : length r ≡ length s
-  pub each : (x : ℕ) → x < n → Noted work (rowOf t (16 + x)) (getD s x noReader) (getD r x noReader)
+  pub each : (x : ℕ) → x < n → Noted work (rowOf t (mostServers + x)) (getD s x noReader) (getD r x noReader)
   pub rest : (x : ℕ) → n ≤ x → getD r x noReader ≡ getD s x noReader
 
 -- all readers have, and their rows are empty now; the other rows are as they were
 pub record Heard (work after : List ℕ) (t : ℕ) (s r : List Reader) : Type 0 where
-  pub readers : Hearing work t s r 4
+  pub readers : Hearing work t s r mostReaders
   pub rest : SamePast work after
   pub spans : Spanned after
-  pub cells : (x j i : ℕ) → x < rows → j < places → sender after x j i ≡ (not (eqb (x / receivers) (t % 16) && leb 16 (x % receivers)) && sender work x j i)
+  pub cells : (x j i : ℕ) → x < rows → j < places → sender after x j i ≡ (not (eqb (x / receivers) (t % slots) && leb mostServers (x % receivers)) && sender work x j i)
 
 -- ---- one server
 
@@ -65,7 +65,7 @@ pub record Stepped (work : List ℕ) (b : ℕ) (arrivals : Arrivals) (movement :
   pub votes : ℕ → ℕ → Bool
   pub came : isFaulty (s .status) ≡ false → (j i : ℕ) → j < places → isNew j (s .kept) ≡ true → votes j i ≡ (s .fresh j i || sender work (rowOf t b) j i)
   pub stages : r ≡ stagesOf m rules (wroteAt (arrivals .requests) (arrivals .number) b) votes (asksAt (arrivals .requests) b) (λ x. bit x (arrivals .live))
-      (movement .moving) (bit (15 - b) (movement .faulty)) t s
+      (movement .moving) (bit (mostServers - 1 - b) (movement .faulty)) t s
 
 -- ---- all servers
 
@@ -96,7 +96,7 @@ feedOf plan work f = record {
 module _ (F : Fed) where
   -- the rows of the present tick: of the first n servers, and of the readers
   unfoldable pub present : ℕ → ℕ → Bool
-  present n x = eqb (x / receivers) (F .t % 16) && (ltb (x % receivers) n || leb 16 (x % receivers))
+  present n x = eqb (x / receivers) (F .t % slots) && (ltb (x % receivers) n || leb mostServers (x % receivers))
 
   -- server b has done the tick: what arrived is taken, and what it sent is under way
   pub record Turned (ends : List ℕ) (b : ℕ) (s r : Server) (work : List ℕ) : Type 0 where
@@ -115,17 +115,17 @@ module _ (F : Fed) where
     pub done : (b : ℕ) → b < n → Stepped (F .work) b (F .arrivals) (F .movement) (F .t) (F .rules) (F .known .m) (server (getD c b absent)) (both (outs b))
     pub next : (b : ℕ) → b < n → getD r b absent ≡ outs b .server
     pub cells : (x j i : ℕ) → x < rows → j < places
-        → sender work x j i ≡ ((not (eqb (x / receivers) (F .t % 16) && ltb (x % receivers) n) && sender (F .work) x j i)
+        → sender work x j i ≡ ((not (eqb (x / receivers) (F .t % slots) && ltb (x % receivers) n) && sender (F .work) x j i)
         || (ltb i n && sends (F .plan) (F .links) (F .rules .n) (F .t) ends i (outs i .row) x j))
 
   -- the first n servers and all readers have done the tick
   pub record Ticked (c r : Cluster) (work : List ℕ) (n : ℕ) : Type 0 where
     -- what each server came to
     pub outs : ℕ → Step
-    pub servers : length (r .servers) ≡ 16
+    pub servers : length (r .servers) ≡ mostServers
     pub done : (b : ℕ) → b < n → Stepped (F .work) b (F .arrivals) (F .movement) (F .t) (F .rules) (F .known .m) (server (getD (c .servers) b absent)) (both (outs b))
     pub next : (b : ℕ) → b < n → getD (r .servers) b absent ≡ outs b .server
-    pub heard : Hearing (F .work) (F .t) (c .readers) (r .readers) 4
+    pub heard : Hearing (F .work) (F .t) (c .readers) (r .readers) mostReaders
     -- what arrived is taken, and what each server sent is under way
     pub cells : (x j i : ℕ) → x < rows → j < places
         → sender work x j i ≡ ((not (present n x) && sender (F .work) x j i) || (ltb i n && sends (F .plan) (F .links) (F .rules .n) (F .t) (endsOf (c .readers)) i (outs i .row) x j))
@@ -136,7 +136,7 @@ abbrev pub firstServer : Plain
 firstServer = record { status = correct; kept = 0 ∷ []; pending = nobody; fresh = noVotes; old = noVotes }
 
 pub record Started (c : Cluster) : Type 0 where
-  pub size : length (c .servers) ≡ 16
-  pub each : (b : ℕ) → b < 16 → server (getD (c .servers) b absent) ≡ firstServer
-  pub readers : length (c .readers) ≡ 4
-  pub idle : (x : ℕ) → x < 4 → getD (c .readers) x noReader .end ≡ 0
+  pub size : length (c .servers) ≡ mostServers
+  pub each : (b : ℕ) → b < mostServers → server (getD (c .servers) b absent) ≡ firstServer
+  pub readers : length (c .readers) ≡ mostReaders
+  pub idle : (x : ℕ) → x < mostReaders → getD (c .readers) x noReader .end ≡ 0

@@ -3,14 +3,12 @@ pub mod readers;
 pub mod tick;
 
 use calendar::PLACES;
+use calendar::READERS;
+use calendar::SERVERS;
 use serving::Links;
-use serving::READERS;
 use serving::Rules;
 use serving::Server;
 use serving::Voters;
-
-// How many servers there may be.
-pub const SERVERS: usize = 16;
 
 // A reader (document 01: a screen): the tick in which its last read ends, and the servers that named each known pair to that read.
 pub struct Reader {

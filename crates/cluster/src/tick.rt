@@ -5,7 +5,7 @@ ghost use Prim.Native.Nat.{_+_, _<_, _≤_};
 ghost use lib.Dec.{eqb};
 ghost use lib.ListN.{length};
 ghost use Rattle.calendar.specs.Bits.{bit};
-ghost use Rattle.calendar.specs.Layout.{places, calendarSize, rowOf, highOf};
+ghost use Rattle.calendar.specs.Layout.{mostServers, mostReaders, places, calendarSize, rowOf, highOf};
 ghost use Rattle.calendar.specs.View.{Spanned};
 ghost use Rattle.serving.specs.Stored.{statusOf, keys};
 ghost use Rattle.cluster.specs.Inputs.{Tickable, isAsked, wroteAt, asksAt};
@@ -16,10 +16,10 @@ use super::Cluster;
 use super::Feed;
 use super::REQUESTERS;
 use super::Reader;
-use super::SERVERS;
 use calendar::NO_PAIR;
+use calendar::READERS;
+use calendar::SERVERS;
 use calendar::Stamped;
-use serving::READERS;
 use serving::Server;
 use serving::Status;
 use serving::Voters;
@@ -30,7 +30,7 @@ use serving::store;
 
 // Is b in the set.
 fn has(set: u16, b: usize) -> bool
-    requires { ⌜ b < 16 ⌝ }
+    requires { ⌜ b < mostServers ⌝ }
     ensures { λ r. ⌜ r ≡ bit b set ⌝ }
 {
     (set >> b) % 2 == 1
@@ -38,16 +38,16 @@ fn has(set: u16, b: usize) -> bool
 
 // Does anything reach reader x in tick t. Most often: no.
 pub fn is_heard(work: &[u8], t: usize, x: usize) -> bool
-    requires { ⌜ (x < 4) × (calendarSize ≤ length (now work)) ⌝ }
-    ensures { λ r. ⌜ r ≡ not (eqb (highOf (now (work .entry)) (rowOf t (16 + x))) 0) ⌝ }
+    requires { ⌜ (x < mostReaders) × (calendarSize ≤ length (now work)) ⌝ }
+    ensures { λ r. ⌜ r ≡ not (eqb (highOf (now (work .entry)) (rowOf t (mostServers + x))) 0) ⌝ }
 {
     calendar::high(work, calendar::row(t, SERVERS + x)) != 0
 }
 
 // Reader x notes the replies that arrive in tick t, which are then no longer under way.
 pub fn hear(reader: Reader, work: &mut [u8], t: usize, x: usize) -> Reader
-    requires { ⌜ (x < 4) × (calendarSize ≤ length (now work)) × Spanned (now work) ⌝ }
-    ensures { λ r. ⌜ Noted (now (work .entry)) (rowOf t (16 + x)) reader r × Emptied (now (work .entry)) (now (work .exit)) (rowOf t (16 + x)) ⌝ }
+    requires { ⌜ (x < mostReaders) × (calendarSize ≤ length (now work)) × Spanned (now work) ⌝ }
+    ensures { λ r. ⌜ Noted (now (work .entry)) (rowOf t (mostServers + x)) reader r × Emptied (now (work .entry)) (now (work .exit)) (rowOf t (mostServers + x)) ⌝ }
 {
     let row = calendar::row(t, SERVERS + x);
     let heard = reader.note(work, row);
@@ -71,7 +71,7 @@ pub fn together(arrivals: Arrivals) -> u16
 
 // The number of the WRITE that reaches server b, or NO_PAIR.
 fn wrote_at(requests: [u16; REQUESTERS], number: u8, b: usize) -> u8
-    requires { ⌜ b < 16 ⌝ }
+    requires { ⌜ b < mostServers ⌝ }
     ensures { λ r. ⌜ r ≡ wroteAt requests number b ⌝ }
 {
     if has(requests[0], b) {
@@ -82,7 +82,7 @@ fn wrote_at(requests: [u16; REQUESTERS], number: u8, b: usize) -> u8
 
 // The readers whose READ reaches server b.
 fn asks_at(requests: [u16; REQUESTERS], b: usize) -> u8
-    requires { ⌜ b < 16 ⌝ }
+    requires { ⌜ b < mostServers ⌝ }
     ensures { λ r. ⌜ (λ x. bit x r) ≡ asksAt requests b ⌝ }
 {
     let mut r: u8 = 0;
@@ -108,7 +108,7 @@ fn is_called(
     status: Status,
     pending: u8,
 ) -> bool
-    requires { ⌜ b < 16 ⌝ }
+    requires { ⌜ b < mostServers ⌝ }
     ensures { λ r. ⌜ r ≡ called b due live moving t delta (statusOf status) pending ⌝ }
 {
     if moving {
@@ -125,7 +125,7 @@ fn is_called(
 
 // Is server b called, or does a vote reach it for a pair that is new to its store: other votes never come to anything, and a faulty server loses all.
 pub fn is_reached(s: Server, work: &[u8], b: usize, feed: Feed, due: u16) -> bool
-    requires { ⌜ (b < 16) × (calendarSize ≤ length (now work)) × Spanned (now work) ⌝ }
+    requires { ⌜ (b < mostServers) × (calendarSize ≤ length (now work)) × Spanned (now work) ⌝ }
     ensures { λ r. ⌜ r ≡ reached (called b due (feed .arrivals .live) (feed .movement .moving) (feed .t) (feed .rules .delta) (statusOf (s .status)) (s .pending)) (now (work .entry)) (rowOf (feed .t) b) (statusOf (s .status)) (keys (s .kept)) ⌝ }
 {
     let t = feed.t;
@@ -153,7 +153,7 @@ pub fn is_reached(s: Server, work: &[u8], b: usize, feed: Feed, due: u16) -> boo
 
 // What arrives at server b is taken, to no effect.
 pub fn pass_over(work: &mut [u8], t: usize, b: usize)
-    requires { ⌜ (b < 16) × (calendarSize ≤ length (now work)) × Spanned (now work) ⌝ }
+    requires { ⌜ (b < mostServers) × (calendarSize ≤ length (now work)) × Spanned (now work) ⌝ }
     ensures { λ _. ⌜ Emptied (now (work .entry)) (now (work .exit)) (rowOf t b) ⌝ }
 {
     let row = calendar::row(t, b);

@@ -5,7 +5,7 @@ use Prim.Native.Nat.{ℕ, _+_, _-_, _≤_, _<_}
 use lib.Dec.{eqb, leb, ltb}
 use lib.ListN.{getD}
 use Rattle.register.specs.Lists.{anyUpTo}
-use Rattle.calendar.specs.Layout.{rowOf}
+use Rattle.calendar.specs.Layout.{mostReaders, readersAt, rowOf}
 use Rattle.calendar.specs.Posts.{Messages}
 use Rattle.script.specs.Forged.{entryAt, mostEntries}
 
@@ -15,7 +15,7 @@ module _ (ends : List ℕ) (n : ℕ) where
   unfoldable pub goesTo : ℕ → ℕ → ℕ → Bool
   goesTo q a x =
       (ltb q n && eqb x (rowOf a q))
-      || (ltb n q && (leb (q - n) 4 && (leb a (getD ends (q - n - 1) 0) && eqb x (rowOf a (15 + (q - n))))))
+      || (ltb n q && (leb (q - n) mostReaders && (leb a (getD ends (q - n - 1) 0) && eqb x (rowOf a (readersAt + (q - n))))))
 
   -- what entry e posts: its sender and its number, where it goes
   abbrev pub forgedEntry : List ℕ → ℕ → Messages

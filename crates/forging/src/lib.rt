@@ -2,13 +2,14 @@
 ghost use mathlib.Core.Path.{_≡_};
 ghost use Prim.Native.Nat.{_+_, _≤_, _<_};
 ghost use lib.ListN.{length, getD};
+ghost use Rattle.calendar.specs.Layout.{mostServers};
 ghost use Rattle.calendar.specs.View.{Posted};
 ghost use Rattle.script.specs.Forged.{entryAt, entriesEnd, mostEntries};
 ghost use Rattle.forging.specs.Forging.{forgedEntry, SentIn, forges};
+use calendar::READERS;
+use calendar::READERS_AT;
 use reading::size_of;
 use script::forged;
-use serving::READERS;
-use serving::READERS_AT;
 
 // Byte k of entry e.
 fn byte(work: &[u8], e: usize, k: usize) -> u8
@@ -20,7 +21,7 @@ fn byte(work: &[u8], e: usize, k: usize) -> u8
 
 // Entry e is under way: a vote, or a reply if it arrives by the end of its reader's read.
 fn post_entry(work: &mut [u8], ends: [u8; READERS], n: usize, e: usize)
-    requires { ⌜ (n ≤ 16) × (e < mostEntries) × (entriesEnd ≤ length (now work)) × (entryAt (now work) e 3 < 16) ⌝ }
+    requires { ⌜ (n ≤ mostServers) × (e < mostEntries) × (entriesEnd ≤ length (now work)) × (entryAt (now work) e 3 < mostServers) ⌝ }
     ensures { λ _. ⌜ Posted (now (work .entry)) (now (work .exit)) (forgedEntry ends n (now (work .entry)) e) ⌝ }
 {
     let arrival = size_of(byte(work, e, 1));
@@ -58,7 +59,7 @@ pub fn forge(
     starts: &[u16; forged::STARTS],
     t: usize,
 )
-    requires { ⌜ (n ≤ 16) × (t < 128) × (entriesEnd ≤ length (now work)) × SentIn (now work) (now starts) t ⌝ }
+    requires { ⌜ (n ≤ mostServers) × (t < 128) × (entriesEnd ≤ length (now work)) × SentIn (now work) (now starts) t ⌝ }
     ensures { λ _. ⌜ Posted (now (work .entry)) (now (work .exit)) (forges ends n (now (work .entry)) (getD (now (starts .entry)) t 0) (getD (now (starts .entry)) (t + 1) 0)) ⌝ }
 {
     let to = wide(starts[t + 1]);

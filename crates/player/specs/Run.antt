@@ -6,7 +6,7 @@ use lib.ListN.{length, getD}
 use Rattle.register.specs.Reading.{answerOf}
 use Rattle.plan.specs.Packed.{planOf}
 use Rattle.plan.specs.Playable.{Playable}
-use Rattle.calendar.specs.Layout.{places}
+use Rattle.calendar.specs.Layout.{mostServers}
 use Rattle.calendar.specs.View.{Empty}
 use Rattle.requests.specs.Requests.{SameBehind, Unasked}
 use Rattle.cluster.specs.declared.Feed.{Feed}
@@ -45,7 +45,7 @@ pub record FedBy (s work : List ℕ) (r : Script) (number : ℕ) (ends : List �
 
 -- the ticks below t are played: what has begun, and what has ended
 pub record PlayedTo (s work : List ℕ) (r : Script) (p : Playing) : Type 0 where
-  pub size : length (p .cluster .servers) ≡ 16
+  pub size : length (p .cluster .servers) ≡ mostServers
   pub state : State (planOf 16 s) (pairAt (r .writes .known)) (r .writes .known .m) (p .tick) (p .cluster) work
   pub requested : Requested (planOf 16 s) (p .tick) work
   pub written : LatestWrite (r .writes .begun) (r .writes .known .m) (p .tick) (p .written)

@@ -7,10 +7,10 @@ ghost use Rattle.player.specs.Run.{Ready, PlayedTo, Went};
 use super::Playing;
 use super::tick::feed_of;
 use super::tick::write_on;
+use calendar::READERS;
 use cluster::Cluster;
 use cluster::tick;
 use script::Script;
-use serving::READERS;
 
 // The ticks from the next one to before tick `to`; the reads that end in them are answered. Most ticks bring the readers nothing, and no read ends or
 // begins in them: then the readers stay where they are.

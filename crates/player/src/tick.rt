@@ -8,10 +8,10 @@ ghost use Rattle.asking.specs.Asking.{WroteOn};
 ghost use Rattle.player.specs.Run.{Decoded, FedBy, Ready, PlayedTo, Went};
 use super::Playing;
 use super::run;
+use calendar::READERS;
 use cluster::Feed;
 use script::Script;
 use script::inputs;
-use serving::READERS;
 
 // What tick t is fed; `written` is the number of the last write begun, `ends` has the ticks in which the readers' reads end.
 pub fn feed_of(

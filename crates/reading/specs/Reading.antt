@@ -5,7 +5,7 @@ use mathlib.Core.List.{List, _++_}
 use Prim.Native.Nat.{ℕ, zero, suc, _+_, _*_, _-_, _≤_, _<_}
 use lib.Dec.{ltb}
 use lib.ListN.{getD, set, take, drop}
-use Rattle.calendar.specs.Layout.{places}
+use Rattle.calendar.specs.Layout.{mostReaders, places}
 use Rattle.cluster.specs.declared.Known.{Known}
 use Rattle.cluster.specs.declared.Reader.{Reader}
 use Rattle.serving.specs.Bits.{sets, noVoters}
@@ -35,7 +35,7 @@ readAt reads i = record { begun = getD (reads .begun) i 0; reader = getD (reads 
 pub record There (by : List ℕ) (from to : ℕ) : Type 0 where
   pub ordered : from ≤ to
   pub few : to ≤ 255
-  pub readers : (i : ℕ) → from ≤ i → i < to → (1 ≤ getD by i 0) × (getD by i 0 ≤ 4)
+  pub readers : (i : ℕ) → from ≤ i → i < to → (1 ≤ getD by i 0) × (getD by i 0 ≤ mostReaders)
 
 -- ---- answers
 

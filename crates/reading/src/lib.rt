@@ -13,13 +13,13 @@ ghost use Rattle.answers.specs.Choosing.{highestOf, answerBy};
 ghost use Rattle.serving.specs.Links.{Linked};
 ghost use Rattle.requests.specs.Requests.{requestsEnd};
 ghost use Rattle.reading.specs.Reading.{Until, There, chosenBytes, placed, begunBy, isBefore, Begun, WentOn};
+use calendar::READERS;
 use cluster::Known;
 use cluster::Reader;
 use cluster::tick;
 use plan::header::Shape;
 use script::Script;
 use script::operations::TABLE_READS;
-use serving::READERS;
 use serving::Voters;
 
 // The readers, the ticks in which their last reads end, and how many reads have begun and been answered.

@@ -8,7 +8,7 @@ use lib.Dec.{eqb, ltb}
 use lib.ListN.{length, getD}
 use Rattle.calendar.specs.declared.Sending.{Sending}
 use Rattle.calendar.specs.Bits.{bit, wordOf}
-use Rattle.calendar.specs.Layout.{calendarSize}
+use Rattle.calendar.specs.Layout.{slots, calendarSize}
 use Rattle.calendar.specs.Posts.{arrivalOf}
 
 -- how many parties have room
@@ -21,10 +21,10 @@ requestsAt = calendarSize / 2
 
 -- the byte behind them
 abbrev pub requestsEnd : ℕ
-requestsEnd = calendarSize + 32 * parties
+requestsEnd = calendarSize + 2 * slots * parties
 
 abbrev pub requestWord : ℕ → ℕ → ℕ
-requestWord t p = requestsAt + (parties * (t % 16) + p)
+requestWord t p = requestsAt + (parties * (t % slots) + p)
 
 abbrev pub reachedOf : List ℕ → ℕ → ℕ → ℕ
 reachedOf work t p = wordOf work (requestWord t p)
@@ -45,7 +45,7 @@ pub record SameOutside (a r : List ℕ) : Type 0 where
 
 -- a request of party p to the first n servers
 abbrev pub askedFirst : Sending → ℕ → ℕ → ℕ → ℕ → ℕ → Bool
-askedFirst s p n t q b = ltb b n && (eqb q p && eqb (arrivalOf s b % 16) (t % 16))
+askedFirst s p n t q b = ltb b n && (eqb q p && eqb (arrivalOf s b % slots) (t % slots))
 
 -- the requests of g (tick, party, server) are under way, too
 pub record Asked (a r : List ℕ) (g : ℕ → ℕ → ℕ → Bool) : Type 0 where
@@ -55,7 +55,7 @@ pub record Asked (a r : List ℕ) (g : ℕ → ℕ → ℕ → Bool) : Type 0 wh
 -- those of tick t no longer are
 pub record Taken (a r : List ℕ) (t : ℕ) : Type 0 where
   pub outside : SameOutside a r
-  pub requests : (u p b : ℕ) → p < parties → reachedBy r u p b ≡ (not (eqb (u % 16) (t % 16)) && reachedBy a u p b)
+  pub requests : (u p b : ℕ) → p < parties → reachedBy r u p b ≡ (not (eqb (u % slots) (t % slots)) && reachedBy a u p b)
 
 -- none is
 pub record Unasked (work : List ℕ) : Type 0 where

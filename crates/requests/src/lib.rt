@@ -11,8 +11,8 @@ use calendar::words;
 // How many parties send requests, with room: the writer is 0, reader x is x.
 const PARTIES: usize = 8;
 
-// How many bytes the requests of 16 ticks take.
-const BYTES: usize = 32 * PARTIES;
+// How many bytes the requests of all slots take.
+const BYTES: usize = 2 * calendar::SLOTS * PARTIES;
 
 // The word at which they begin, behind the calendar.
 const WORDS: usize = calendar::BYTES / 2;
@@ -24,7 +24,7 @@ fn word(t: usize, p: usize) -> usize
     requires { ⌜ p < parties ⌝ }
     ensures { λ w. ⌜ (w ≡ requestWord t p) × (2 * w + 1 < requestsEnd) ⌝ }
 {
-    WORDS + (PARTIES * (t % 16) + p)
+    WORDS + (PARTIES * (t % calendar::SLOTS) + p)
 }
 
 // No request is under way.

@@ -5,10 +5,10 @@ ghost use lib.ListN.{length};
 ghost use Rattle.calendar.specs.Bits.{bit};
 ghost use Rattle.requests.specs.Requests.{requestsEnd};
 ghost use Rattle.script.specs.Inputs.{liveAt, Reached, Arrive, Moves};
+use calendar::READERS;
 use cluster::Arrivals;
 use cluster::Movement;
 use cluster::REQUESTERS;
-use serving::READERS;
 
 // The servers that each party's request reaches in tick t.
 fn reached(work: &[u8], t: usize) -> [u16; REQUESTERS]

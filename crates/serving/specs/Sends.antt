@@ -5,7 +5,7 @@ use Prim.Native.Nat.{ℕ, _+_, _-_, _/_, _%_}
 use lib.Dec.{eqb, leb, ltb}
 use lib.ListN.{getD}
 use Rattle.calendar.specs.Bits.{bit}
-use Rattle.calendar.specs.Layout.{receivers}
+use Rattle.calendar.specs.Layout.{mostServers, slots, readersAt, receivers}
 use Rattle.calendar.specs.Posts.{among}
 use Rattle.serving.specs.declared.Links.{Links}
 use Rattle.serving.specs.declared.Outgoing.{Outgoing}
@@ -26,17 +26,17 @@ module _ (plan : List ℕ) (links : Links) (n t : ℕ) (ends : List ℕ) (i : �
   sendsVote x j =
       ltb (x % receivers) n
       && (not (eqb (x % receivers) i)
-      && (eqb (reaches (x % receivers) % 16) (x / receivers)
+      && (eqb (reaches (x % receivers) % slots) (x / receivers)
       && votesFor row j))
 
   -- a reply that names pair j to reader x % receivers - 15, if there is such a reader and it arrives by the end of its read
   unfoldable pub sendsReply : ℕ → ℕ → Bool
   sendsReply x j =
-      leb 16 (x % receivers)
-      && (bit (x % receivers - 15) (row .readers)
-      && (ltb (n + (x % receivers - 15)) (links .parties)
-      && (leb (reaches (n + (x % receivers - 15))) (getD ends (x % receivers - 16) 0)
-      && (eqb (reaches (n + (x % receivers - 15)) % 16) (x / receivers)
+      leb mostServers (x % receivers)
+      && (bit (x % receivers - readersAt) (row .readers)
+      && (ltb (n + (x % receivers - readersAt)) (links .parties)
+      && (leb (reaches (n + (x % receivers - readersAt))) (getD ends (x % receivers - mostServers) 0)
+      && (eqb (reaches (n + (x % receivers - readersAt)) % slots) (x / receivers)
       && among (row .kept) j))))
 
   abbrev pub sends : ℕ → ℕ → Bool

@@ -7,7 +7,7 @@ use lib.Dec.{leb, ltb}
 use lib.ListN.{take}
 use Rattle.register.specs.Lists.{count, anyUpTo, sameList}
 use Rattle.register.specs.Server.{Status, faulty, cured, correct, isFaulty, isCorrect, curedAt, insert}
-use Rattle.calendar.specs.Layout.{places, depth}
+use Rattle.calendar.specs.Layout.{mostServers, places, depth}
 use Rattle.serving.specs.declared.Rules.{Rules}
 use Rattle.serving.specs.Stored.{Plain, Said, Both}
 
@@ -52,7 +52,7 @@ turned two s = record { status = s .status; kept = s .kept; pending = s .pending
 -- ---- stage 1
 
 abbrev pub quorate : ℕ → ℕ → (ℕ → Bool) → (ℕ → Bool) → Bool
-quorate e r f o = leb e (count f 16) || leb r (count (λ i. f i || o i) 16)
+quorate e r f o = leb e (count f mostServers) || leb r (count (λ i. f i || o i) mostServers)
 
 -- pair j has a quorum
 abbrev pub voting : ℕ → ℕ → (ℕ → ℕ → Bool) → (ℕ → ℕ → Bool) → ℕ → Bool

@@ -7,16 +7,11 @@ pub mod stages;
 pub mod store;
 
 use calendar::DEPTH;
+use calendar::READERS;
 use calendar::Stamped;
-
-// How many readers there may be.
-pub const READERS: usize = 4;
 
 // One more than the last reader's number: they count from 1.
 pub const PAST_READERS: usize = 1 + READERS;
-
-// Reader y receives as party READERS_AT + y: the readers stand behind 16 servers.
-pub const READERS_AT: usize = 15;
 
 // A server is faulty, cured since a tick, or correct (document 01: held, curing or sound).
 pub enum Status {

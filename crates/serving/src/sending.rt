@@ -11,10 +11,10 @@ ghost use Rattle.serving.specs.Sends.{sendsVote, sendsReply, sends};
 use super::Links;
 use super::Outgoing;
 use super::PAST_READERS;
-use super::READERS;
-use super::READERS_AT;
 use super::delays;
 use calendar::PLACES;
+use calendar::READERS;
+use calendar::READERS_AT;
 use calendar::Sending;
 
 // Is there a vote in the row at all.

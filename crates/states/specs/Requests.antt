@@ -6,6 +6,7 @@ use Prim.Native.Nat.{ℕ, _+_, _≤_, _<_}
 use lib.Dec.{eqb, ltb}
 use Rattle.register.specs.Lists.{any}
 use Rattle.register.specs.Plan.{Plan, Write, Read}
+use Rattle.calendar.specs.Layout.{mostReaders, slots}
 use Rattle.requests.specs.Requests.{reachedBy}
 
 module _ (P : Plan) where
@@ -26,8 +27,8 @@ module _ (P : Plan) where
 
   -- the requests under way before tick t, in the sixteen ticks from t on
   pub record Requested (t : ℕ) (work : List ℕ) : Type 0 where
-    pub writes : (s b : ℕ) → t ≤ s → s < t + 16 → b < P .n → reachedBy work s 0 b ≡ writeWay t s b
-    pub reads : (s x b : ℕ) → t ≤ s → s < t + 16 → 1 ≤ x → x ≤ 4 → b < P .n → reachedBy work s x b ≡ readWay t x s b
+    pub writes : (s b : ℕ) → t ≤ s → s < t + slots → b < P .n → reachedBy work s 0 b ≡ writeWay t s b
+    pub reads : (s x b : ℕ) → t ≤ s → s < t + slots → 1 ≤ x → x ≤ mostReaders → b < P .n → reachedBy work s x b ≡ readWay t x s b
 
   -- those that begin in tick t
   unfoldable pub writeBegins : ℕ → ℕ → ℕ → Bool

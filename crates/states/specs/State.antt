@@ -12,7 +12,7 @@ use Rattle.register.specs.Plan.{Plan, Read, readEnd, echoQuorum, replyQuorum}
 use Rattle.register.specs.Server.{Claim, Server, has, isFaulty}
 use Rattle.register.specs.Cluster.{Log, serverOf, cluster}
 use Rattle.register.specs.Reading.{sameRead}
-use Rattle.calendar.specs.Layout.{places, depth, rowOf, sender}
+use Rattle.calendar.specs.Layout.{mostReaders, slots, readersAt, places, depth, rowOf, sender}
 use Rattle.calendar.specs.View.{Spanned}
 use Rattle.cluster.specs.declared.Cluster.{Cluster}
 use Rattle.cluster.specs.declared.Reader.{Reader}
@@ -53,15 +53,15 @@ module _ (P : Plan) where
 
     -- what is under way before tick t, in the sixteen ticks from t on
     pub record Calendar (t : ℕ) (log : Log) (work : List ℕ) : Type 0 where
-      pub votes : (s b j i : ℕ) → t ≤ s → s < t + 16 → b < P .n → j < m → sender work (rowOf s b) j i ≡ (ltb i (P .n) && voteWay P log t s b (g j) i)
-      pub replies : (r : Read) → Open t r → (s j i : ℕ) → t ≤ s → s < t + 16 → j < m
-          → sender work (rowOf s (15 + r .reader)) j i ≡ (ltb i (P .n) && replyWay P log t r s (g j) i)
-      pub none : (r : Read) → In r (P .reads) → Idle t (r .reader) → (s j i : ℕ) → t ≤ s → s < t + 16 → j < m → sender work (rowOf s (15 + r .reader)) j i ≡ false
+      pub votes : (s b j i : ℕ) → t ≤ s → s < t + slots → b < P .n → j < m → sender work (rowOf s b) j i ≡ (ltb i (P .n) && voteWay P log t s b (g j) i)
+      pub replies : (r : Read) → Open t r → (s j i : ℕ) → t ≤ s → s < t + slots → j < m
+          → sender work (rowOf s (readersAt + r .reader)) j i ≡ (ltb i (P .n) && replyWay P log t r s (g j) i)
+      pub none : (r : Read) → In r (P .reads) → Idle t (r .reader) → (s j i : ℕ) → t ≤ s → s < t + slots → j < m → sender work (rowOf s (readersAt + r .reader)) j i ≡ false
       pub spans : Spanned work
 
     -- what the readers have noted before tick t
     pub record Hears (t : ℕ) (log : Log) (readers : List Reader) : Type 0 where
-      pub size : length readers ≡ 4
+      pub size : length readers ≡ mostReaders
       pub end : (r : Read) → Open t r → getD readers (r .reader - 1) noReader .end ≡ readEnd P r
       pub named : (r : Read) → Open t r → (j i : ℕ) → j < m → sets (getD readers (r .reader - 1) noReader .named) j i ≡ (ltb i (P .n) && heardWay P log t r (g j) i)
       -- a reader with no open read takes nothing that is sent now
