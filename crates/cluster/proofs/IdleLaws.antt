@@ -88,16 +88,16 @@ module _ (work : List ℕ) (row : ℕ) (S : Spanned work) where
 -- ---- what it sends
 
 -- no vote for a known pair, and no reply
-module _ (plan : List ℕ) (links : serving-specs.declared.Links.Links) (n t : ℕ) (ends : List ℕ) (i : ℕ) (row : serving-specs.declared.Outgoing.Outgoing) (wrote : places ≤ row .wrote) (echoed : row .echoed ≡ false) (readers : row .readers ≡ 0) where
-  pub sends-none : (x j : ℕ) → j < places → serving-specs.Sends.sends plan links n t ends i row x j ≡ false
+module _ (plan : List ℕ) (links : serving-specs.declared.Links.Links) (n t : ℕ) (ends : List ℕ) (i : ℕ) (sent : serving-specs.declared.Outgoing.Outgoing) (wrote : places ≤ sent .wrote) (echoed : sent .echoed ≡ false) (readers : sent .readers ≡ 0) where
+  pub sends-none : (x j : ℕ) → j < places → serving-specs.Sends.sends plan links n t ends i sent x j ≡ false
   unfolding serving-specs.Sends.sendsVote serving-specs.Sends.sendsReply
   sends-none x j l =
       rw (
-        ne-eqb j (row .wrote) (λ e. omega arith),
+        ne-eqb j (sent .wrote) (λ e. omega arith),
         echoed,
         readers,
         calendar-laws.Laws.bit-zero (x % receivers - 15),
-        and-false (eqb (serving-specs.Sends.reaches plan links n t ends i row (x % receivers) % 16) (x / receivers)),
+        and-false (eqb (serving-specs.Sends.reaches plan links n t ends i sent (x % receivers) % 16) (x / receivers)),
         and-false (not (eqb (x % receivers) i)),
         and-false (ltb (x % receivers) n),
       )
@@ -174,7 +174,7 @@ module _ (F : cluster-specs.Tick.Fed) (ends : List ℕ) (b : ℕ) (s : serving-s
   idle-turned after E =
       let c : Bool = isFaulty (statusOf (s .status)) in
       record {
-        out = record { server = s; row = quiet c };
+        out = record { server = s; sent = quiet c };
         done = record {
           votes = server s .fresh;
           came = λ h j i m n. rw (none-new h j i m n) (sym (or-false (server s .fresh j i)));

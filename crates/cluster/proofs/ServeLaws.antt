@@ -26,39 +26,39 @@ use Rattle.cluster.proofs.IdleLaws.{unreached, idle-turned}
 
 -- ---- nothing arrives in the tick in which it is sent
 
-module _ (plan : List ℕ) (links : serving-specs.declared.Links.Links) (n t : ℕ) (ends : List ℕ) (i : ℕ) (row : serving-specs.declared.Outgoing.Outgoing) (few : n < links .parties) (own : i < n)
+module _ (plan : List ℕ) (links : serving-specs.declared.Links.Links) (n t : ℕ) (ends : List ℕ) (i : ℕ) (sent : serving-specs.declared.Outgoing.Outgoing) (few : n < links .parties) (own : i < n)
     (later : (q : ℕ) → q < links .parties → (q ≡ i → ⊥) → (q ≡ n → ⊥) → 1 ≤ serving-specs.Links.delayAt plan links t i q) where
   other-tick : (x q : ℕ) → q < links .parties → (q ≡ i → ⊥) → (q ≡ n → ⊥) → x / receivers ≡ t % 16
-      → eqb (reaches plan links n t ends i row q % 16) (x / receivers) ≡ false
-  other-tick x q l d w e = ne-eqb (reaches plan links n t ends i row q % 16) (x / receivers) (λ p. never p (later q l d w) (field-lt plan (serving-specs.Links.linkBit links t i q) 4))
+      → eqb (reaches plan links n t ends i sent q % 16) (x / receivers) ≡ false
+  other-tick x q l d w e = ne-eqb (reaches plan links n t ends i sent q % 16) (x / receivers) (λ p. never p (later q l d w) (field-lt plan (serving-specs.Links.linkBit links t i q) 4))
     where
       never : (t + serving-specs.Links.delayAt plan links t i q) % 16 ≡ x / receivers → 1 ≤ serving-specs.Links.delayAt plan links t i q → serving-specs.Links.delayAt plan links t i q < 16 → ⊥
       never p a b = omega (arith, e)
 
-  no-vote : (x j : ℕ) → x / receivers ≡ t % 16 → sendsVote plan links n t ends i row x j ≡ false
+  no-vote : (x j : ℕ) → x / receivers ≡ t % 16 → sendsVote plan links n t ends i sent x j ≡ false
   unfolding sendsVote
   no-vote x j e = go (ltb (x % receivers) n) (eqb (x % receivers) i) refl refl
     where
       go : (a b : Bool) → ltb (x % receivers) n ≡ a → eqb (x % receivers) i ≡ b
-          → a && (not b && (eqb (reaches plan links n t ends i row (x % receivers) % 16) (x / receivers) && votesFor row j)) ≡ false
+          → a && (not b && (eqb (reaches plan links n t ends i sent (x % receivers) % 16) (x / receivers) && votesFor sent j)) ≡ false
       go false b p q = refl
       go true true p q = refl
       go true false p q =
           let l = ltb-true (x % receivers) n p in
           rw (other-tick x (x % receivers) (omega arith) (eqb-false (x % receivers) i q) (λ w. omega arith) e)
 
-  no-reply : (x j : ℕ) → x / receivers ≡ t % 16 → sendsReply plan links n t ends i row x j ≡ false
+  no-reply : (x j : ℕ) → x / receivers ≡ t % 16 → sendsReply plan links n t ends i sent x j ≡ false
   unfolding sendsReply
-  no-reply x j e = go (leb 16 (x % receivers)) (calendar-specs.Bits.bit (x % receivers - 15) (row .readers)) (ltb (n + (x % receivers - 15)) (links .parties)) refl refl
+  no-reply x j e = go (leb 16 (x % receivers)) (calendar-specs.Bits.bit (x % receivers - 15) (sent .readers)) (ltb (n + (x % receivers - 15)) (links .parties)) refl refl
     where
       q : ℕ
       q = n + (x % receivers - 15)
 
       late : Bool
-      late = leb (reaches plan links n t ends i row q) (getD ends (x % receivers - 16) 0)
+      late = leb (reaches plan links n t ends i sent q) (getD ends (x % receivers - 16) 0)
 
       go : (a b c : Bool) → leb 16 (x % receivers) ≡ a → ltb q (links .parties) ≡ c
-          → a && (b && (c && (late && (eqb (reaches plan links n t ends i row q % 16) (x / receivers) && calendar-specs.Posts.among (row .kept) j)))) ≡ false
+          → a && (b && (c && (late && (eqb (reaches plan links n t ends i sent q % 16) (x / receivers) && calendar-specs.Posts.among (sent .kept) j)))) ≡ false
       go false b c p r = refl
       go true false c p r = refl
       go true true false p r = refl
@@ -66,14 +66,14 @@ module _ (plan : List ℕ) (links : serving-specs.declared.Links.Links) (n t : �
           let l = leb-true 16 (x % receivers) p in
           rw (other-tick x q (ltb-true q (links .parties) r) (λ w. omega arith) (λ w. omega arith) e) (and-false late)
 
-  none-now : (x j : ℕ) → x / receivers ≡ t % 16 → sends plan links n t ends i row x j ≡ false
+  none-now : (x j : ℕ) → x / receivers ≡ t % 16 → sends plan links n t ends i sent x j ≡ false
   none-now x j e = rw (no-vote x j e, no-reply x j e)
 
 -- the same of the servers before b
-pub none-before : (F : Fed) (ends : List ℕ) → cluster-specs.Inputs.Tickable (F .plan) (F .work) (F .t) (F .rules) (F .known) (F .links) → (b : ℕ) → b < F .rules .n → (i x j : ℕ) (row : serving-specs.declared.Outgoing.Outgoing) → i < b
-    → x / receivers ≡ F .t % 16 → sends (F .plan) (F .links) (F .rules .n) (F .t) ends i row x j ≡ false
-none-before F ends Z b l i x j row h e =
-    none-now (F .plan) (F .links) (F .rules .n) (F .t) ends i row (Z .linked .writer) (omega arith) (λ q u v w. Z .delays i q (omega arith) u v w) x j e
+pub none-before : (F : Fed) (ends : List ℕ) → cluster-specs.Inputs.Tickable (F .plan) (F .work) (F .t) (F .rules) (F .known) (F .links) → (b : ℕ) → b < F .rules .n → (i x j : ℕ) (sent : serving-specs.declared.Outgoing.Outgoing) → i < b
+    → x / receivers ≡ F .t % 16 → sends (F .plan) (F .links) (F .rules .n) (F .t) ends i sent x j ≡ false
+none-before F ends Z b l i x j sent h e =
+    none-now (F .plan) (F .links) (F .rules .n) (F .t) ends i sent (Z .linked .writer) (omega arith) (λ q u v w. Z .delays i q (omega arith) u v w) x j e
 
 -- ---- one server
 
@@ -93,7 +93,7 @@ feedAt F work = record {
 -- what arrived is cleared, and what it sends is posted
 pub turned-here : (F : Fed) (ends : List ℕ) (b : ℕ) (s : Server) (o : Step) (cleared after : List ℕ) → Spanned (F .work)
     → (Settled (F .known .m) (F .rules .echo) (F .rules .reply) (server s) → Stepped (F .work) b (F .arrivals) (F .movement) (F .t) (F .rules) (F .known .m) (server s) (both o))
-    → Cleared (F .work) cleared (rowOf (F .t) b) → Posted cleared after (λ x j k. eqb k b && sends (F .plan) (F .links) (F .rules .n) (F .t) ends b (o .row) x j)
+    → Cleared (F .work) cleared (rowOf (F .t) b) → Posted cleared after (λ x j k. eqb k b && sends (F .plan) (F .links) (F .rules .n) (F .t) ends b (o .sent) x j)
     → CalmlyTurned F ends b s (o .server) after
 turned-here F ends b s o cleared after S T C P = record {
   rest = record { size = P .rest .size ∙ C .rest .size; past = λ k h. P .rest .past k h ∙ C .rest .past k h };
@@ -110,11 +110,11 @@ turned-here F ends b s o cleared after S T C P = record {
 
 -- before any server has done the tick
 noStep : Step
-noStep = record { server = absent; row = record { wrote = 0; echoed = false; readers = 0; kept = [] } }
+noStep = record { server = absent; sent = record { wrote = 0; echoed = false; readers = 0; kept = [] } }
 
 module _ (F : Fed) (ends : List ℕ) (c : List Server) where
-  abbrev sent : ℕ → serving-specs.declared.Outgoing.Outgoing → ℕ → ℕ → Bool
-  sent i row x j = sends (F .plan) (F .links) (F .rules .n) (F .t) ends i row x j
+  abbrev posts : ℕ → serving-specs.declared.Outgoing.Outgoing → ℕ → ℕ → Bool
+  posts i sent x j = sends (F .plan) (F .links) (F .rules .n) (F .t) ends i sent x j
 
   -- the first n servers have done the tick, if all were settled; the others are as they were
   pub record Serving (r : List Server) (work : List ℕ) (n : ℕ) : Type 0 where
@@ -139,14 +139,14 @@ module _ (F : Fed) (ends : List ℕ) (c : List Server) where
   }
 
   module _ (r : List Server) (work : List ℕ) (b : ℕ) (l : b < 16) (size : length c ≡ 16) (same : getD r b absent ≡ getD c b absent) (S : TurnedFirst F ends c r work b)
-      (now : (i x j : ℕ) (row : serving-specs.declared.Outgoing.Outgoing) → i < b → x / receivers ≡ F .t % 16 → sent i row x j ≡ false) where
+      (now : (i x j : ℕ) (sent : serving-specs.declared.Outgoing.Outgoing) → i < b → x / receivers ≡ F .t % 16 → posts i sent x j ≡ false) where
     -- no server before it has sent anything that arrives now
-    none-yet : (x j i : ℕ) → x / receivers ≡ F .t % 16 → ltb i b && sent i (S .outs i .row) x j ≡ false
+    none-yet : (x j i : ℕ) → x / receivers ≡ F .t % 16 → ltb i b && posts i (S .outs i .sent) x j ≡ false
     none-yet x j i e = go (ltb i b) refl
       where
-        go : (a : Bool) → ltb i b ≡ a → a && sent i (S .outs i .row) x j ≡ false
+        go : (a : Bool) → ltb i b ≡ a → a && posts i (S .outs i .sent) x j ≡ false
         go false p = refl
-        go true p = now i x j (S .outs i .row) (ltb-true i b p) e
+        go true p = now i x j (S .outs i .sent) (ltb-true i b p) e
 
     -- its row is as it was
     still : (j i : ℕ) → j < places → sender work (rowOf (F .t) b) j i ≡ sender (F .work) (rowOf (F .t) b) j i
@@ -180,13 +180,13 @@ module _ (F : Fed) (ends : List ℕ) (c : List Server) where
           record { votes = U .votes; came = λ h j i m n. U .came h j i m n ∙ rw (still j i m); stages = U .stages }
 
       cells : (x j i : ℕ) → x < rows → j < places
-          → sender after x j i ≡ (not (eqb (x / receivers) (F .t % 16) && ltb (x % receivers) (b + 1)) && sender (F .work) x j i) || (ltb i (b + 1) && sent i (outs i .row) x j)
+          → sender after x j i ≡ (not (eqb (x / receivers) (F .t % 16) && ltb (x % receivers) (b + 1)) && sender (F .work) x j i) || (ltb i (b + 1) && posts i (outs i .sent) x j)
       cells x j i h m =
           T .cells x j i h m
           ∙ rw (S .cells x j i h m)
-          (ap (λ (y : Bool). y || (eqb i b && sent b (T .out .row) x j)) (apart (eqb x (rowOf (F .t) b)) (not (eqb (x / receivers) (F .t % 16) && ltb (x % receivers) b) && sender (F .work) x j i) (ltb i b && sent i (S .outs i .row) x j) (λ e. none-yet x j i (its (eqb-true x (rowOf (F .t) b) e))))
+          (ap (λ (y : Bool). y || (eqb i b && posts b (T .out .sent) x j)) (apart (eqb x (rowOf (F .t) b)) (not (eqb (x / receivers) (F .t % 16) && ltb (x % receivers) b) && sender (F .work) x j i) (ltb i b && posts i (S .outs i .sent) x j) (λ e. none-yet x j i (its (eqb-true x (rowOf (F .t) b) e))))
           ∙ rw (taken-more x h (sender (F .work) x j i))
-          (or-assoc (not (eqb (x / receivers) (F .t % 16) && ltb (x % receivers) (b + 1)) && sender (F .work) x j i) (ltb i b && sent i (S .outs i .row) x j) (eqb i b && sent b (T .out .row) x j)
+          (or-assoc (not (eqb (x / receivers) (F .t % 16) && ltb (x % receivers) (b + 1)) && sender (F .work) x j i) (ltb i b && posts i (S .outs i .sent) x j) (eqb i b && posts b (T .out .sent) x j)
           ∙ rw (by-all (ℕ-discrete i b))))
         where
           apart : (a u f : Bool) → (a ≡ true → f ≡ false) → not a && (u || f) ≡ (not a && u) || f
@@ -196,9 +196,9 @@ module _ (F : Fed) (ends : List ℕ) (c : List Server) where
           its : x ≡ rowOf (F .t) b → x / receivers ≡ F .t % 16
           its e = omega arith
 
-          by-all : Dec (i ≡ b) → (ltb i b && sent i (S .outs i .row) x j) || (eqb i b && sent b (T .out .row) x j) ≡ ltb i (b + 1) && sent i (outs i .row) x j
+          by-all : Dec (i ≡ b) → (ltb i b && posts i (S .outs i .sent) x j) || (eqb i b && posts b (T .out .sent) x j) ≡ ltb i (b + 1) && posts i (outs i .sent) x j
           by-all (yes e) = rw (e, out-here, le-ltb b b (omega arith), eq-eqb b b refl, lt-ltb b (b + 1) (omega arith))
-          by-all (no d) = rw (out-there i d, ne-eqb i b d) (rw (ne-eqb i b d) at (calendar-laws.Laws.ltb-more i b (sent i (S .outs i .row) x j)))
+          by-all (no d) = rw (out-there i d, ne-eqb i b d) (rw (ne-eqb i b d) at (calendar-laws.Laws.ltb-more i b (posts i (S .outs i .sent) x j)))
 
       served-turn : TurnedFirst F ends c (set r b q) after (b + 1)
       served-turn = record {
@@ -219,7 +219,7 @@ module _ (F : Fed) (ends : List ℕ) (c : List Server) where
           next i h (no d) = rw (out-there i d) (getD-set-other r b i q absent d ∙ S .next i (omega arith))
 
   module _ (r : List Server) (work : List ℕ) (b : ℕ) (l : b < 16) (size : length c ≡ 16) (H : Serving r work b)
-      (now : (i x j : ℕ) (row : serving-specs.declared.Outgoing.Outgoing) → i < b → x / receivers ≡ F .t % 16 → sent i row x j ≡ false) where
+      (now : (i x j : ℕ) (sent : serving-specs.declared.Outgoing.Outgoing) → i < b → x / receivers ≡ F .t % 16 → posts i sent x j ≡ false) where
     -- a server that something reaches
     pub serving-turn : b < F .rules .n → (q : Server) (after : List ℕ) → CalmlyTurned (feedAt F work) ends b (getD r b absent) q after → Serving (set r b q) after (b + 1)
     serving-turn own q after T = record {

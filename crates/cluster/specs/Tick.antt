@@ -105,7 +105,7 @@ module _ (F : Fed) where
     pub done : Stepped (F .work) b (F .arrivals) (F .movement) (F .t) (F .rules) (F .known .m) (server s) (both out)
     pub next : r ≡ out .server
     pub cells : (x j i : ℕ) → x < rows → j < places
-        → sender work x j i ≡ ((not (eqb x (rowOf (F .t) b)) && sender (F .work) x j i) || (eqb i b && sends (F .plan) (F .links) (F .rules .n) (F .t) ends b (out .row) x j))
+        → sender work x j i ≡ ((not (eqb x (rowOf (F .t) b)) && sender (F .work) x j i) || (eqb i b && sends (F .plan) (F .links) (F .rules .n) (F .t) ends b (out .sent) x j))
 
   -- the first n servers have done the tick: what arrived is taken, and what each of them sent is under way
   pub record TurnedFirst (ends : List ℕ) (c r : List Server) (work : List ℕ) (n : ℕ) : Type 0 where
@@ -116,7 +116,7 @@ module _ (F : Fed) where
     pub next : (b : ℕ) → b < n → getD r b absent ≡ outs b .server
     pub cells : (x j i : ℕ) → x < rows → j < places
         → sender work x j i ≡ ((not (eqb (x / receivers) (F .t % slots) && ltb (x % receivers) n) && sender (F .work) x j i)
-        || (ltb i n && sends (F .plan) (F .links) (F .rules .n) (F .t) ends i (outs i .row) x j))
+        || (ltb i n && sends (F .plan) (F .links) (F .rules .n) (F .t) ends i (outs i .sent) x j))
 
   -- the first n servers and all readers have done the tick
   pub record Ticked (c r : Cluster) (work : List ℕ) (n : ℕ) : Type 0 where
@@ -128,7 +128,7 @@ module _ (F : Fed) where
     pub heard : Hearing (F .work) (F .t) (c .readers) (r .readers) mostReaders
     -- what arrived is taken, and what each server sent is under way
     pub cells : (x j i : ℕ) → x < rows → j < places
-        → sender work x j i ≡ ((not (present n x) && sender (F .work) x j i) || (ltb i n && sends (F .plan) (F .links) (F .rules .n) (F .t) (endsOf (c .readers)) i (outs i .row) x j))
+        → sender work x j i ≡ ((not (present n x) && sender (F .work) x j i) || (ltb i n && sends (F .plan) (F .links) (F .rules .n) (F .t) (endsOf (c .readers)) i (outs i .sent) x j))
 
 -- ---- the start
 

@@ -184,7 +184,7 @@ pub fn turn(
     // 1. Deliveries.
     let mut x = s.vote(work, at);
     let status = x.status;
-    let mut row = stages::quiet();
+    let mut sent = stages::quiet();
     if !servers::is_faulty(status) {
         let requests = arrivals.requests;
         let wrote = wrote_at(requests, arrivals.number, b);
@@ -192,24 +192,24 @@ pub fn turn(
         let live = arrivals.live;
         let m = feed.known.m;
         let delivery = stages::deliver(x, wrote, asks, live, low, high, m, rules);
-        row = delivery.row;
-        let kept = row.kept;
+        sent = delivery.sent;
+        let kept = sent.kept;
         x.kept = kept;
         x.pending = delivery.pending;
     }
     // 2. Cures end.
     if servers::is_cured_at(status, t, rules.delta) {
         x = x.cure_end(t, rules.delta);
-        row.readers = x.pending;
+        sent.readers = x.pending;
     }
     // 3. Movement. 4. Echo.
     if movement.moving {
         x = x.moved(rules.two, has(movement.faulty, SERVERS - 1 - b), t);
         let now = x.status;
-        row.echoed = servers::is_correct(now);
+        sent.echoed = servers::is_correct(now);
     }
     calendar::clear(work, at);
-    sending::send(work, plan, feed.links, rules.n, t as usize, b, row, ends);
+    sending::send(work, plan, feed.links, rules.n, t as usize, b, sent, ends);
     x
 }
 

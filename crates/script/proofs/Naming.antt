@@ -1,9 +1,9 @@
 -- The forged entries name what the plan's forged messages name.
 -- It stands on the laws of claims, and on what an entry says.
 use mathlib.Core.Path.{_≡_, refl, _∙_}
-use mathlib.Core.Bool.{Bool, true, false, _&&_, cond}
+use mathlib.Core.Bool.{Bool, _&&_}
 use mathlib.Core.List.{List}
-use Prim.Native.Nat.{ℕ, _+_, _≤_, _<_}
+use Prim.Native.Nat.{ℕ, _≤_, _<_}
 use native.Mathlib.Omega.{arith}
 use lib.Dec.{T, eqb, ltb, eqb→eq, eqb-refl}
 use lib.ListN.{getD}
@@ -19,60 +19,38 @@ use Rattle.cluster.specs as cluster-specs
 use Rattle.states.specs.Way.{forgedAs}
 use Rattle.script.specs.Forged.{entryAt, numberIn, Entry}
 use Rattle.script.specs.Script.{messageOf, messageDelay, messageNumber}
-use Rattle.script.proofs.Messages.{tabFrom-in}
+use Rattle.script.proofs.Tables.{tab-in, taken}
 
 -- one of the messages of a table passes a test
 any-tab : (n : ℕ) (G : ℕ → Forgery) (F : Forgery → Bool) → any F (tab n G) ≡ anyUpTo n (λ e. F (G e))
-any-tab n G F = T-iff _ _ to from
-  where
-    to : T (any F (tab n G)) → T (anyUpTo n (λ e. F (G e)))
-    to y =
-        let (g, ig, fg) = register-laws.Lists.any-in F (tab n G) y in
-        let (e, le, ee) = register-laws.Lists.in-tabFrom g 0 n G ig in
-        register-laws.Counting.anyUpTo-i n (λ e. F (G e)) e (omega arith) (rw ee at fg)
-
-    from : T (anyUpTo n (λ e. F (G e))) → T (any F (tab n G))
-    from y =
-        let (e, l, t) = register-laws.Counting.anyUpTo-e n (λ e. F (G e)) y in
-        let z : 0 + e ≡ e = omega arith in
-        register-laws.Lists.in-any F (G e) (tab n G) (rw z at (tabFrom-in 0 n G e l)) t
+any-tab n G F = T-iff _ _
+    (λ y.
+    let (g, ig, fg) = register-laws.Lists.any-in F (tab n G) y in
+    let (e, le, ee) = register-laws.Lists.in-tabFrom g 0 n G ig in
+    register-laws.Counting.anyUpTo-i n (λ e. F (G e)) e (omega arith) (rw ee at fg))
+    (λ y.
+    let (e, l, t) = register-laws.Counting.anyUpTo-e n (λ e. F (G e)) y in
+    register-laws.Lists.in-any F (G e) (tab n G) (tab-in n G e l) t)
 
 -- a pair is known by its number
 module _ (values : List ℕ) (m : ℕ) (few : m ≤ 65) (small : (j : ℕ) → getD values j 0 < 65536) where
-  numbered : (j n : ℕ) (c : Bool) → j < 65 → T (eqb j (cond c n 255)) → (j ≡ n) × T c
-  numbered j n true h t = (eqb→eq j n t, tt)
-  numbered j n false h t = absurd (omega (arith, eqb→eq j 255 t))
-
-  pub known-number : (p j : ℕ) → j < m → eqb p (stamped 16 (getD values j 0) j) ≡ eqb j (numberIn values m (valueOf 16 p) (numberOf 16 p))
+  known-number : (p j : ℕ) → j < m → eqb p (stamped 16 (getD values j 0) j) ≡ eqb j (numberIn values m (valueOf 16 p) (numberOf 16 p))
   unfolding numberIn
-  known-number p j l = T-iff _ _ to from
-    where
-      to : T (eqb p (stamped 16 (getD values j 0) j)) → T (eqb j (numberIn values m (valueOf 16 p) (numberOf 16 p)))
-      to y =
-          let e : p ≡ stamped 16 (getD values j 0) j = eqb→eq p (stamped 16 (getD values j 0) j) y in
-          let v : valueOf 16 p ≡ getD values j 0 = rw e (value-stamped 16 (getD values j 0) j (small j)) in
-          let n : numberOf 16 p ≡ j = rw e (number-stamped 16 (getD values j 0) j (small j)) in
-          rw (v, n, lt-ltb j m l, eq-eqb (getD values j 0) (getD values j 0) refl) (eqb-refl j)
-
-      from : T (eqb j (numberIn values m (valueOf 16 p) (numberOf 16 p))) → T (eqb p (stamped 16 (getD values j 0) j))
-      from y =
-          let test : Bool = ltb (numberOf 16 p) m && eqb (getD values (numberOf 16 p) 0) (valueOf 16 p) in
-          let (e, c) = numbered j (numberOf 16 p) test (omega arith) y in
-          let v : getD values (numberOf 16 p) 0 ≡ valueOf 16 p = eqb→eq (getD values (numberOf 16 p) 0) (valueOf 16 p) (and-r (ltb (numberOf 16 p) m) _ c) in
-          rw (e, v, stamped-back 16 p) (eqb-refl p)
+  known-number p j l = T-iff _ _
+      (λ y.
+      let e : p ≡ stamped 16 (getD values j 0) j = eqb→eq p (stamped 16 (getD values j 0) j) y in
+      let v : valueOf 16 p ≡ getD values j 0 = rw e (value-stamped 16 (getD values j 0) j (small j)) in
+      let n : numberOf 16 p ≡ j = rw e (number-stamped 16 (getD values j 0) j (small j)) in
+      rw (v, n, lt-ltb j m l, eq-eqb (getD values j 0) (getD values j 0) refl) (eqb-refl j))
+      (λ y.
+      let test : Bool = ltb (numberOf 16 p) m && eqb (getD values (numberOf 16 p) 0) (valueOf 16 p) in
+      let (e, c) = taken j (numberOf 16 p) test (omega arith) y in
+      let v : getD values (numberOf 16 p) 0 ≡ valueOf 16 p = eqb→eq (getD values (numberOf 16 p) 0) (valueOf 16 p) (and-r (ltb (numberOf 16 p) m) _ c) in
+      rw (e, v, stamped-back 16 p) (eqb-refl p))
 
 -- the entries of a plan's forged messages
 module _ (s : List ℕ) (known : cluster-specs.declared.Known.Known) (few : known .m ≤ 65) (small : (j : ℕ) → getD (known .values) j 0 < 65536) (work : List ℕ)
     (E : (e : ℕ) → e < headerOf 16 s .forgeries → Entry work e (messageOf s e) (messageDelay s e) (messageNumber s (known .values) (known .m) e)) where
-  number-turned : (e j : ℕ) → e < headerOf 16 s .forgeries → j < known .m → eqb (messageOf s e .pair) (cluster-specs.Inputs.pairAt known j) ≡ eqb j (entryAt work e 4)
-  number-turned e j l h = rw (E e l .known) (known-number (known .values) (known .m) few small (messageOf s e .pair) j h)
-
-  sender-turned : (e i : ℕ) → e < headerOf 16 s .forgeries → eqb (messageOf s e .from) i ≡ eqb i (entryAt work e 3)
-  sender-turned e i l = rw (E e l .sender) (eqb-comm (messageOf s e .from) i)
-
-  abbrev nf : ℕ
-  nf = headerOf 16 s .forgeries
-
   -- entry e was sent in tick t, goes to party q, arrives in tick u, names pair j and comes from server i
   abbrev pub entryAs : ℕ → ℕ → ℕ → ℕ → ℕ → ℕ → Bool
   entryAs t u q j i e =
@@ -83,8 +61,17 @@ module _ (s : List ℕ) (known : cluster-specs.declared.Known.Known) (few : know
     says x = eqb (x .at) t && forgedAs (planOf 16 s) u q (cluster-specs.Inputs.pairAt known j) i x
 
     says-entry : (e : ℕ) → e < headerOf 16 s .forgeries → says (messageOf s e) ≡ entryAs t u q j i e
-    says-entry e l = rw (E e l .sent, E e l .arrival, E e l .receiver, ← sender-turned e i l, ← number-turned e j l known-pair)
+    says-entry e l =
+        rw (
+          E e l .sent,
+          E e l .arrival,
+          E e l .receiver,
+          E e l .sender,
+          E e l .known,
+          eqb-comm (messageOf s e .from) i,
+          known-number (known .values) (known .m) few small (messageOf s e .pair) j known-pair,
+        )
 
     pub messages-named : any says (planOf 16 s .forged) ≡ anyUpTo (headerOf 16 s .forgeries) (entryAs t u q j i)
     unfolding planOf
-    messages-named = any-tab nf (messageOf s) says ∙ register-laws.Counting.any-cong nf _ (entryAs t u q j i) says-entry
+    messages-named = any-tab _ (messageOf s) says ∙ register-laws.Counting.any-cong _ _ (entryAs t u q j i) says-entry

@@ -36,11 +36,10 @@ module _ (s : List ℕ) (A : Playable 16 s) (work values : List ℕ) (m : ℕ)
         omega (arith, S .each u below .next lf, E first lf .sent, E e h .sent, messages-rise s A first e l h)
 
   pub starts-rise : (u v : ℕ) → u ≤ v → v < 129 → getD starts u 0 ≤ getD starts v 0
-  starts-rise u v h l = go (decLe (getD starts u 0) (getD starts v 0))
-    where
-      go : Dec (getD starts u 0 ≤ getD starts v 0) → getD starts u 0 ≤ getD starts v 0
-      go (yes d) = d
-      go (no d) =
-          let first = getD starts v 0 in
-          let lf : first < headerOf 16 s .forgeries = omega (arith, start-few u (omega arith)) in
-          absurd (omega (arith, sent-later v l first (omega arith) lf, sent-earlier u (omega arith) first (omega arith)))
+  starts-rise u v h l = elim (decLe (getD starts u 0) (getD starts v 0)) [
+    | yes d ↦ d
+    | no d ↦
+        let first = getD starts v 0 in
+        let lf : first < headerOf 16 s .forgeries = omega (arith, start-few u (omega arith)) in
+        absurd (omega (arith, sent-later v l first (omega arith) lf, sent-earlier u (omega arith) first (omega arith)))
+  ]

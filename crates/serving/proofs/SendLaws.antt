@@ -48,13 +48,13 @@ module _ (plan : List ℕ) (links : serving-specs.declared.Links.Links) (n u : �
       let m : (u * p + (i + 1)) * p ≤ (u * p + p) * p = mul-le-mul {n₂ = u * p + p} {m₂ = p} (omega arith) (omega arith) in
       omega (arith, m, L .inside)
 
-module _ (plan : List ℕ) (links : serving-specs.declared.Links.Links) (n t : ℕ) (ends : List ℕ) (i : ℕ) (row : serving-specs.declared.Outgoing.Outgoing) where
+module _ (plan : List ℕ) (links : serving-specs.declared.Links.Links) (n t : ℕ) (ends : List ℕ) (i : ℕ) (sent : serving-specs.declared.Outgoing.Outgoing) where
   -- ---- its votes
 
   -- the messages with the pairs of P to the servers but itself
   to-servers : (ℕ → Bool) → Messages
   to-servers P x j k =
-      eqb k i && (ltb (x % receivers) n && (not (eqb (x % receivers) i) && (eqb (reaches plan links n t ends i row (x % receivers) % 16) (x / receivers) && P j)))
+      eqb k i && (ltb (x % receivers) n && (not (eqb (x % receivers) i) && (eqb (reaches plan links n t ends i sent (x % receivers) % 16) (x / receivers) && P j)))
 
   others-sent : (s : calendar-specs.declared.Sending.Sending) (P : ℕ → Bool) → Sent plan (linkBit links t i 0) n t i s → (x j k : ℕ) → toOthers s P x j k ≡ to-servers P x j k
   unfolding dueIn to-servers
@@ -69,7 +69,7 @@ module _ (plan : List ℕ) (links : serving-specs.declared.Links.Links) (n t : �
 
       go : (c : Bool) → ltb (x % receivers) n ≡ c
           → c && ((not (eqb (x % receivers) i) && eqb (arrivalOf s (x % receivers) % 16) (x / receivers)) && (eqb k i && P j))
-          ≡ eqb k i && (c && (not (eqb (x % receivers) i) && (eqb (reaches plan links n t ends i row (x % receivers) % 16) (x / receivers) && P j)))
+          ≡ eqb k i && (c && (not (eqb (x % receivers) i) && (eqb (reaches plan links n t ends i sent (x % receivers) % 16) (x / receivers) && P j)))
       go false e = sym (and-false (eqb k i))
       go true e =
           let l = ltb-true (x % receivers) n e in
@@ -77,23 +77,23 @@ module _ (plan : List ℕ) (links : serving-specs.declared.Links.Links) (n t : �
 
       named : (m f : ℕ) → m ≡ n → f ≡ i
           → ltb (x % receivers) m && ((not (eqb (x % receivers) f) && eqb (arrivalOf s (x % receivers) % 16) (x / receivers)) && (eqb k f && P j))
-          ≡ eqb k i && (ltb (x % receivers) n && (not (eqb (x % receivers) i) && (eqb (reaches plan links n t ends i row (x % receivers) % 16) (x / receivers) && P j)))
+          ≡ eqb k i && (ltb (x % receivers) n && (not (eqb (x % receivers) i) && (eqb (reaches plan links n t ends i sent (x % receivers) % 16) (x / receivers) && P j)))
       named m f p q = rw (p, q) (go (ltb (x % receivers) n) refl)
 
-  module _ (s : calendar-specs.declared.Sending.Sending) (S : Sent plan (linkBit links t i 0) n t i s) (a b : List ℕ) (A : Posted a b (toOthers s (λ y. eqb y (row .wrote)))) where
-    pub votes-plain : row .echoed ≡ false → Posted a b (λ x j k. eqb k i && sendsVote plan links n t ends i row x j)
+  module _ (s : calendar-specs.declared.Sending.Sending) (S : Sent plan (linkBit links t i 0) n t i s) (a b : List ℕ) (A : Posted a b (toOthers s (λ y. eqb y (sent .wrote)))) where
+    pub votes-plain : sent .echoed ≡ false → Posted a b (λ x j k. eqb k i && sendsVote plan links n t ends i sent x j)
     unfolding sendsVote to-servers
     votes-plain e =
         posted-eq a b _ _ A
-        (λ x j k l m. others-sent s (λ y. eqb y (row .wrote)) S x j k ∙ rw (e, or-false (eqb j (row .wrote))))
+        (λ x j k l m. others-sent s (λ y. eqb y (sent .wrote)) S x j k ∙ rw (e, or-false (eqb j (sent .wrote))))
 
-    pub votes-echo : (c : List ℕ) → row .echoed ≡ true → Posted b c (toOthers s (among (row .kept)))
-        → Posted a c (λ x j k. eqb k i && sendsVote plan links n t ends i row x j)
+    pub votes-echo : (c : List ℕ) → sent .echoed ≡ true → Posted b c (toOthers s (among (sent .kept)))
+        → Posted a c (λ x j k. eqb k i && sendsVote plan links n t ends i sent x j)
     unfolding sendsVote to-servers
     votes-echo c e K =
         posted-eq a c _ _ (posted-trans a b c _ _ A K)
-        (λ x j k l m. rw (others-sent s (λ y. eqb y (row .wrote)) S x j k, others-sent s (among (row .kept)) S x j k, e)
-        (join (eqb k i) (ltb (x % receivers) n) (not (eqb (x % receivers) i)) (eqb (reaches plan links n t ends i row (x % receivers) % 16) (x / receivers)) (eqb j (row .wrote)) (among (row .kept) j)))
+        (λ x j k l m. rw (others-sent s (λ y. eqb y (sent .wrote)) S x j k, others-sent s (among (sent .kept)) S x j k, e)
+        (join (eqb k i) (ltb (x % receivers) n) (not (eqb (x % receivers) i)) (eqb (reaches plan links n t ends i sent (x % receivers) % 16) (x / receivers)) (eqb j (sent .wrote)) (among (sent .kept) j)))
       where
         join : (a b c d e f : Bool) → (a && (b && (c && (d && e)))) || (a && (b && (c && (d && f)))) ≡ a && (b && (c && (d && (e || f))))
         join a b c d e f = simp and-or-distrib-left
@@ -102,19 +102,19 @@ module _ (plan : List ℕ) (links : serving-specs.declared.Links.Links) (n t : �
 
   -- those to the readers below y
   abbrev pub repliesBelow : ℕ → Messages
-  repliesBelow y x j k = ltb (x % receivers) (15 + y) && (eqb k i && sendsReply plan links n t ends i row x j)
+  repliesBelow y x j k = ltb (x % receivers) (15 + y) && (eqb k i && sendsReply plan links n t ends i sent x j)
 
   -- a reply is for a reader
-  no-reply : (x j : ℕ) → x % receivers < 16 → sendsReply plan links n t ends i row x j ≡ false
+  no-reply : (x j : ℕ) → x % receivers < 16 → sendsReply plan links n t ends i sent x j ≡ false
   unfolding sendsReply
   no-reply x j h = rw (lt-leb 16 (x % receivers) h)
 
   reply-at : (x j y : ℕ) → x % receivers ≡ 15 + y → 1 ≤ y
-      → sendsReply plan links n t ends i row x j
-      ≡ bit y (row .readers)
+      → sendsReply plan links n t ends i sent x j
+      ≡ bit y (sent .readers)
       && (ltb (n + y) (links .parties)
-      && (leb (reaches plan links n t ends i row (n + y)) (getD ends (y - 1) 0)
-      && (eqb (reaches plan links n t ends i row (n + y) % 16) (x / receivers) && among (row .kept) j)))
+      && (leb (reaches plan links n t ends i sent (n + y)) (getD ends (y - 1) 0)
+      && (eqb (reaches plan links n t ends i sent (n + y) % 16) (x / receivers) && among (sent .kept) j)))
   unfolding sendsReply
   reply-at x j y e h =
       let p : 15 + y - 15 ≡ y = omega arith in
@@ -124,53 +124,53 @@ module _ (plan : List ℕ) (links : serving-specs.declared.Links.Links) (n t : �
   pub replies-first : (a : List ℕ) → Posted a a (repliesBelow 1)
   replies-first a = posted-none a _ (λ x j k l m. go x j (eqb k i) (ltb (x % receivers) 16) refl)
     where
-      go : (x j : ℕ) (d c : Bool) → ltb (x % receivers) 16 ≡ c → c && (d && sendsReply plan links n t ends i row x j) ≡ false
+      go : (x j : ℕ) (d c : Bool) → ltb (x % receivers) 16 ≡ c → c && (d && sendsReply plan links n t ends i sent x j) ≡ false
       go x j d false e = refl
       go x j d true e = rw (no-reply x j (ltb-true (x % receivers) 16 e)) (and-false d)
 
   replies-more : (a r w : List ℕ) (y : ℕ) (f : Messages) → Posted a r (repliesBelow y) → Posted r w f
-      → ((x j k : ℕ) → x < rows → f x j k ≡ eqb (x % receivers) (15 + y) && (eqb k i && sendsReply plan links n t ends i row x j))
+      → ((x j k : ℕ) → x < rows → f x j k ≡ eqb (x % receivers) (15 + y) && (eqb k i && sendsReply plan links n t ends i sent x j))
       → Posted a w (repliesBelow (y + 1))
   replies-more a r w y f A B e =
       posted-eq a w _ _ (posted-trans a r w _ _ A B)
       (λ x j k l m.
       let p : 15 + (y + 1) ≡ 15 + y + 1 = omega arith in
-      rw (e x j k l, p) (calendar-laws.Laws.ltb-more (x % receivers) (15 + y) (eqb k i && sendsReply plan links n t ends i row x j)))
+      rw (e x j k l, p) (calendar-laws.Laws.ltb-more (x % receivers) (15 + y) (eqb k i && sendsReply plan links n t ends i sent x j)))
 
   -- one more reader, who gets nothing
   pub replies-none : (a r : List ℕ) (y : ℕ) → Posted a r (repliesBelow y)
-      → ((x j : ℕ) → x % receivers ≡ 15 + y → sendsReply plan links n t ends i row x j ≡ false) → Posted a r (repliesBelow (y + 1))
+      → ((x j : ℕ) → x % receivers ≡ 15 + y → sendsReply plan links n t ends i sent x j ≡ false) → Posted a r (repliesBelow (y + 1))
   replies-none a r y A e =
       replies-more a r r y (λ x j k. false) A (posted-none r _ (λ x j k l m. refl)) (λ x j k l. go x j (eqb k i) (eqb (x % receivers) (15 + y)) refl)
     where
-      go : (x j : ℕ) (d c : Bool) → eqb (x % receivers) (15 + y) ≡ c → false ≡ c && (d && sendsReply plan links n t ends i row x j)
+      go : (x j : ℕ) (d c : Bool) → eqb (x % receivers) (15 + y) ≡ c → false ≡ c && (d && sendsReply plan links n t ends i sent x j)
       go x j d false q = refl
       go x j d true q = rw (e x j (eqb-true (x % receivers) (15 + y) q)) (sym (and-false d))
 
   module _ (a r : List ℕ) (y : ℕ) (h : 1 ≤ y) (A : Posted a r (repliesBelow y)) where
-    pub replies-unasked : (row .readers / 2 ^ y % 2 ≡ 1 → ⊥) → Posted a r (repliesBelow (y + 1))
+    pub replies-unasked : (sent .readers / 2 ^ y % 2 ≡ 1 → ⊥) → Posted a r (repliesBelow (y + 1))
     replies-unasked d =
-        let e : bit y (row .readers) ≡ false = sym (bit-test y (row .readers)) ∙ ne-eqb (row .readers / 2 ^ y % 2) 1 d in
+        let e : bit y (sent .readers) ≡ false = sym (bit-test y (sent .readers)) ∙ ne-eqb (sent .readers / 2 ^ y % 2) 1 d in
         replies-none a r y A (λ x j p. reply-at x j y p h ∙ rw e)
 
     pub replies-absent : links .parties ≤ n + y → Posted a r (repliesBelow (y + 1))
-    replies-absent e = replies-none a r y A (λ x j p. reply-at x j y p h ∙ rw (le-ltb (n + y) (links .parties) e) (and-false (bit y (row .readers))))
+    replies-absent e = replies-none a r y A (λ x j p. reply-at x j y p h ∙ rw (le-ltb (n + y) (links .parties) e) (and-false (bit y (sent .readers))))
 
-    pub replies-late : getD ends (y - 1) 0 < reaches plan links n t ends i row (n + y) → Posted a r (repliesBelow (y + 1))
+    pub replies-late : getD ends (y - 1) 0 < reaches plan links n t ends i sent (n + y) → Posted a r (repliesBelow (y + 1))
     replies-late e =
         replies-none a r y A
-        (λ x j p. reply-at x j y p h ∙ rw (lt-leb (reaches plan links n t ends i row (n + y)) (getD ends (y - 1) 0) e, and-false (ltb (n + y) (links .parties))) (and-false (bit y (row .readers))))
+        (λ x j p. reply-at x j y p h ∙ rw (lt-leb (reaches plan links n t ends i sent (n + y)) (getD ends (y - 1) 0) e, and-false (ltb (n + y) (links .parties))) (and-false (bit y (sent .readers))))
 
-    pub replies-sent : (w : List ℕ) → y < 5 → row .readers / 2 ^ y % 2 ≡ 1 → n + y < links .parties
-        → reaches plan links n t ends i row (n + y) ≤ getD ends (y - 1) 0
-        → Posted r w (inRow (rowOf (reaches plan links n t ends i row (n + y)) (15 + y)) i (among (row .kept))) → Posted a w (repliesBelow (y + 1))
+    pub replies-sent : (w : List ℕ) → y < 5 → sent .readers / 2 ^ y % 2 ≡ 1 → n + y < links .parties
+        → reaches plan links n t ends i sent (n + y) ≤ getD ends (y - 1) 0
+        → Posted r w (inRow (rowOf (reaches plan links n t ends i sent (n + y)) (15 + y)) i (among (sent .kept))) → Posted a w (repliesBelow (y + 1))
     replies-sent w g u p l B = replies-more a r w y _ A B (λ x j k m. rw (calendar-laws.Stores.same-row x at (15 + y) m (omega arith)) (go x j (eqb k i) (eqb (x % receivers) (15 + y)) refl))
       where
-        e : bit y (row .readers) ≡ true
-        e = sym (bit-test y (row .readers)) ∙ eq-eqb (row .readers / 2 ^ y % 2) 1 u
+        e : bit y (sent .readers) ≡ true
+        e = sym (bit-test y (sent .readers)) ∙ eq-eqb (sent .readers / 2 ^ y % 2) 1 u
 
         at : ℕ
-        at = reaches plan links n t ends i row (n + y)
+        at = reaches plan links n t ends i sent (n + y)
 
         turn : (d q f : Bool) → q && (d && f) ≡ d && (true && (true && (true && (q && f))))
         turn true true f = refl
@@ -179,47 +179,47 @@ module _ (plan : List ℕ) (links : serving-specs.declared.Links.Links) (n t : �
         turn false false f = refl
 
         go : (x j : ℕ) (d c : Bool) → eqb (x % receivers) (15 + y) ≡ c
-            → (c && eqb (at % 16) (x / receivers)) && (d && among (row .kept) j) ≡ c && (d && sendsReply plan links n t ends i row x j)
+            → (c && eqb (at % 16) (x / receivers)) && (d && among (sent .kept) j) ≡ c && (d && sendsReply plan links n t ends i sent x j)
         go x j d false q = refl
         go x j d true q = rw (reply-at x j y (eqb-true (x % receivers) (15 + y) q) h, e, lt-ltb (n + y) (links .parties) p, le-leb at (getD ends (y - 1) 0) l)
-            (turn d (eqb (at % 16) (x / receivers)) (among (row .kept) j))
+            (turn d (eqb (at % 16) (x / receivers)) (among (sent .kept) j))
 
   -- ---- both
 
-  pub sent-both : (a b c : List ℕ) → Posted a b (λ x j k. eqb k i && sendsVote plan links n t ends i row x j)
-      → Posted b c (λ x j k. eqb k i && sendsReply plan links n t ends i row x j) → Posted a c (λ x j k. eqb k i && sends plan links n t ends i row x j)
+  pub sent-both : (a b c : List ℕ) → Posted a b (λ x j k. eqb k i && sendsVote plan links n t ends i sent x j)
+      → Posted b c (λ x j k. eqb k i && sendsReply plan links n t ends i sent x j) → Posted a c (λ x j k. eqb k i && sends plan links n t ends i sent x j)
   sent-both a b c A B =
-      posted-eq a c _ _ (posted-trans a b c _ _ A B) (λ x j k l m. sym (and-or-distrib-left (eqb k i) (sendsVote plan links n t ends i row x j) (sendsReply plan links n t ends i row x j)))
+      posted-eq a c _ _ (posted-trans a b c _ _ A B) (λ x j k l m. sym (and-or-distrib-left (eqb k i) (sendsVote plan links n t ends i sent x j) (sendsReply plan links n t ends i sent x j)))
 
   -- no vote for a known pair
-  pub votes-nobody : (a : List ℕ) → false ≡ row .echoed || ltb (row .wrote) places → Posted a a (λ x j k. eqb k i && sendsVote plan links n t ends i row x j)
+  pub votes-nobody : (a : List ℕ) → false ≡ sent .echoed || ltb (sent .wrote) places → Posted a a (λ x j k. eqb k i && sendsVote plan links n t ends i sent x j)
   unfolding sendsVote
-  votes-nobody a e = go (row .echoed) refl e
+  votes-nobody a e = go (sent .echoed) refl e
     where
-      go : (b : Bool) → row .echoed ≡ b → false ≡ b || ltb (row .wrote) places → Posted a a (λ x j k. eqb k i && sendsVote plan links n t ends i row x j)
+      go : (b : Bool) → sent .echoed ≡ b → false ≡ b || ltb (sent .wrote) places → Posted a a (λ x j k. eqb k i && sendsVote plan links n t ends i sent x j)
       go true d q = absurd (let z : _≡_ {A = ℕ} 0 1 = cc in omega arith)
       go false d q =
           posted-none a _ (λ x j k l m.
           rw (
             d,
-            ne-eqb j (row .wrote) (λ h. omega (arith, ltb-false (row .wrote) places (sym q))),
-            and-false (eqb (reaches plan links n t ends i row (x % receivers) % 16) (x / receivers)),
+            ne-eqb j (sent .wrote) (λ h. omega (arith, ltb-false (sent .wrote) places (sym q))),
+            and-false (eqb (reaches plan links n t ends i sent (x % receivers) % 16) (x / receivers)),
             and-false (not (eqb (x % receivers) i)),
             and-false (ltb (x % receivers) n),
           )
           (and-false (eqb k i)))
 
-  pub replies-nobody : (a : List ℕ) → row .readers ≡ 0 → Posted a a (λ x j k. eqb k i && sendsReply plan links n t ends i row x j)
+  pub replies-nobody : (a : List ℕ) → sent .readers ≡ 0 → Posted a a (λ x j k. eqb k i && sendsReply plan links n t ends i sent x j)
   unfolding sendsReply
   replies-nobody a e =
       posted-none a _ (λ x j k l m. rw (e, calendar-laws.Laws.bit-zero (x % receivers - 15), and-false (leb 16 (x % receivers))) (and-false (eqb k i)))
 
--- a row of which only the replies matter
+-- what a server sends of which only the replies matter
 abbrev pub replying : ℕ → List calendar-specs.declared.Stamped.Stamped → serving-specs.declared.Outgoing.Outgoing
 replying readers kept = record { wrote = 0; echoed = false; readers = readers; kept = kept }
 
-module _ (plan : List ℕ) (links : serving-specs.declared.Links.Links) (n t : ℕ) (ends : List ℕ) (i : ℕ) (row : serving-specs.declared.Outgoing.Outgoing) where
-  pub replies-last : (a r : List ℕ) → Posted a r (repliesBelow plan links n t ends i (replying (row .readers) (row .kept)) 5)
-      → Posted a r (λ x j k. eqb k i && sendsReply plan links n t ends i row x j)
+module _ (plan : List ℕ) (links : serving-specs.declared.Links.Links) (n t : ℕ) (ends : List ℕ) (i : ℕ) (sent : serving-specs.declared.Outgoing.Outgoing) where
+  pub replies-last : (a r : List ℕ) → Posted a r (repliesBelow plan links n t ends i (replying (sent .readers) (sent .kept)) 5)
+      → Posted a r (λ x j k. eqb k i && sendsReply plan links n t ends i sent x j)
   unfolding sendsReply
   replies-last a r A = posted-eq a r _ _ A (λ x j k l m. rw (lt-ltb (x % receivers) 20 (omega arith)))

@@ -13,10 +13,10 @@ use Rattle.serving.specs.Links.{delayAt}
 
 -- its votes: for the pair of a WRITE, and at an echo for the pairs that it keeps
 abbrev pub votesFor : Outgoing → ℕ → Bool
-votesFor row j = eqb j (row .wrote) || (row .echoed && among (row .kept) j)
+votesFor sent j = eqb j (sent .wrote) || (sent .echoed && among (sent .kept) j)
 
 -- server i in tick t, among n servers; `ends` has the tick in which each reader's last read ends
-module _ (plan : List ℕ) (links : Links) (n t : ℕ) (ends : List ℕ) (i : ℕ) (row : Outgoing) where
+module _ (plan : List ℕ) (links : Links) (n t : ℕ) (ends : List ℕ) (i : ℕ) (sent : Outgoing) where
   -- the tick in which what it sends reaches party q
   abbrev pub reaches : ℕ → ℕ
   reaches q = t + delayAt plan links t i q
@@ -27,17 +27,17 @@ module _ (plan : List ℕ) (links : Links) (n t : ℕ) (ends : List ℕ) (i : �
       ltb (x % receivers) n
       && (not (eqb (x % receivers) i)
       && (eqb (reaches (x % receivers) % slots) (x / receivers)
-      && votesFor row j))
+      && votesFor sent j))
 
   -- a reply that names pair j to reader x % receivers - 15, if there is such a reader and it arrives by the end of its read
   unfoldable pub sendsReply : ℕ → ℕ → Bool
   sendsReply x j =
       leb mostServers (x % receivers)
-      && (bit (x % receivers - readersAt) (row .readers)
+      && (bit (x % receivers - readersAt) (sent .readers)
       && (ltb (n + (x % receivers - readersAt)) (links .parties)
       && (leb (reaches (n + (x % receivers - readersAt))) (getD ends (x % receivers - mostServers) 0)
       && (eqb (reaches (n + (x % receivers - readersAt)) % slots) (x / receivers)
-      && among (row .kept) j))))
+      && among (sent .kept) j))))
 
   abbrev pub sends : ℕ → ℕ → Bool
   sends x j = sendsVote x j || sendsReply x j

@@ -1,4 +1,4 @@
--- A server and its row apart from how they are stored: sets as functions, a store as the list of its pairs.
+-- A server and what it sends apart from how they are stored: sets as functions, a store as the list of its pairs.
 use mathlib.Core.Bool.{Bool, cond}
 use mathlib.Core.List.{List, [], _∷_, _++_}
 use Prim.Native.Nat.{ℕ, suc}
@@ -60,16 +60,16 @@ saidBy r = record { wrote = r .wrote; echoed = r .echoed; readers = λ x. bit x 
 -- a server, and what it sends
 pub record Step : Type 0 where
   pub server : Server
-  pub row : Outgoing
+  pub sent : Outgoing
 
 abbrev pub both : Step → Both
-both s = record { server = server (s .server); said = saidBy (s .row) }
+both s = record { server = server (s .server); said = saidBy (s .sent) }
 
 -- a server and what it makes of what arrives
 abbrev pub deliveredTo : Server → Delivery → Both
 deliveredTo s d = record {
-  server = record { status = statusOf (s .status); kept = keys (d .row .kept); pending = λ x. bit x (d .pending); fresh = sets (s .fresh); old = sets (s .old) };
-  said = saidBy (d .row);
+  server = record { status = statusOf (s .status); kept = keys (d .sent .kept); pending = λ x. bit x (d .pending); fresh = sets (s .fresh); old = sets (s .old) };
+  said = saidBy (d .sent);
 }
 
 -- what is read past the end of an array of servers

@@ -64,5 +64,5 @@ pub struct Outgoing {
 // What a server makes of what arrives: the readers on its list, and what it sends.
 pub struct Delivery {
     pub pending: u8,
-    pub row: Outgoing,
+    pub sent: Outgoing,
 }

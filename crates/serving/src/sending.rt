@@ -17,7 +17,7 @@ use calendar::READERS;
 use calendar::READERS_AT;
 use calendar::Sending;
 
-// Is there a vote in the row at all.
+// Is there a vote at all.
 fn is_voting(wrote: u8, echoed: bool) -> bool
     ensures { λ r. ⌜ r ≡ (echoed || ltb wrote places) ⌝ }
 {
@@ -35,19 +35,19 @@ fn send_votes(
     n: usize,
     t: usize,
     i: usize,
-    row: Outgoing,
+    sent: Outgoing,
     ends: [u8; READERS],
 )
     requires { ⌜ (calendarSize ≤ length (now work)) × Linked (now plan) links n (t + 1) × (t < 128) × (i < n) ⌝ }
-    ensures { λ _. ⌜ Posted (now (work .entry)) (now (work .exit)) (λ x j k. eqb k i && sendsVote (now (plan .entry)) links n t ends i row x j) ⌝ }
+    ensures { λ _. ⌜ Posted (now (work .entry)) (now (work .exit)) (λ x j k. eqb k i && sendsVote (now (plan .entry)) links n t ends i sent x j) ⌝ }
 {
-    if !is_voting(row.wrote, row.echoed) {
+    if !is_voting(sent.wrote, sent.echoed) {
         return;
     }
     let sending = Sending::of(plan, delays::row_bit(links, t, i), n, t, i);
-    calendar::post_vote(work, sending, row.wrote);
-    if row.echoed {
-        let kept = row.kept;
+    calendar::post_vote(work, sending, sent.wrote);
+    if sent.echoed {
+        let kept = sent.kept;
         calendar::post_votes(work, sending, kept);
     }
 }
@@ -60,14 +60,14 @@ fn send_replies(
     n: usize,
     t: usize,
     i: usize,
-    row: Outgoing,
+    sent: Outgoing,
     ends: [u8; READERS],
 )
     requires { ⌜ (calendarSize ≤ length (now work)) × Linked (now plan) links n (t + 1) × (t < 128) × (i < n) ⌝ }
-    ensures { λ _. ⌜ Posted (now (work .entry)) (now (work .exit)) (λ x j k. eqb k i && sendsReply (now (plan .entry)) links n t ends i row x j) ⌝ }
+    ensures { λ _. ⌜ Posted (now (work .entry)) (now (work .exit)) (λ x j k. eqb k i && sendsReply (now (plan .entry)) links n t ends i sent x j) ⌝ }
 {
-    let readers = row.readers;
-    let kept = row.kept;
+    let readers = sent.readers;
+    let kept = sent.kept;
     let mut y: usize = 1;
     while y < PAST_READERS {
         if (readers >> y) % 2 == 1 {
@@ -90,14 +90,14 @@ pub fn send(
     n: usize,
     t: usize,
     i: usize,
-    row: Outgoing,
+    sent: Outgoing,
     ends: [u8; READERS],
 )
     requires { ⌜ (calendarSize ≤ length (now work)) × Linked (now plan) links n (t + 1) × (t < 128) × (i < n) ⌝ }
-    ensures { λ _. ⌜ Posted (now (work .entry)) (now (work .exit)) (λ x j k. eqb k i && sends (now (plan .entry)) links n t ends i row x j) ⌝ }
+    ensures { λ _. ⌜ Posted (now (work .entry)) (now (work .exit)) (λ x j k. eqb k i && sends (now (plan .entry)) links n t ends i sent x j) ⌝ }
 {
-    send_votes(work, plan, links, n, t, i, row, ends);
-    if row.readers != 0 {
-        send_replies(work, plan, links, n, t, i, row, ends);
+    send_votes(work, plan, links, n, t, i, sent, ends);
+    if sent.readers != 0 {
+        send_replies(work, plan, links, n, t, i, sent, ends);
     }
 }

@@ -91,7 +91,7 @@ fn replied(correct: bool, same: bool, asks: u8, pending: u8) -> u8
     0
 }
 
-// The row of a server that sends nothing.
+// What a server sends that sends nothing.
 pub fn quiet() -> Outgoing
     ensures { λ r. ⌜ saidBy r ≡ silent ⌝ }
 {
@@ -135,13 +135,13 @@ pub fn deliver(
         asks,
         pending,
     );
-    let row = Outgoing {
+    let sent = Outgoing {
         wrote,
         echoed: false,
         readers,
         kept,
     };
-    Delivery { pending, row }
+    Delivery { pending, sent }
 }
 
 impl Server {

@@ -2,18 +2,19 @@
 -- It stands on register's laws of stores.
 use mathlib.Core.Path.{_≡_, refl, sym, ap, _∙_}
 use mathlib.Core.Bool.{Bool, true, false, _||_, cond}
-use mathlib.Core.Logic.{_⊎_, inl, inr}
+use mathlib.Core.Logic.{inl, inr}
 use mathlib.Core.List.{List, [], _∷_, _++_, map}
 use Prim.Native.Nat.{ℕ, zero, suc, _≤_, _<_}
 use native.Mathlib.Omega.{arith}
-use native.Mathlib.Decide.{ℕ-discrete}
-use lib.Dec.{T, ltb, eqb, eqb→eq, eqb-refl, ltb→lt, lt→ltb}
+use native.Mathlib.Decide.{decLe}
+use lib.Dec.{T, ltb, eqb, eqb→eq, eqb-refl}
 use lib.ListN.{length, take, length-take, length-map}
 use lib.Seq.{take-take, take-all}
-use Rattle.register.specs.Lists.{In}
+use borrow.Author.Tests.{lt-ltb, le-ltb}
+use Rattle.register.specs.Lists.{In, flat}
 use Rattle.register.specs.Server.{insert, insertAll, takeIn}
-use Rattle.register.proofs.Logic.{or-e, or-l, or-r}
-use Rattle.register.proofs.Lists.{in-append, in-left, in-right}
+use Rattle.register.proofs.Logic.{or-e, or-l, or-r, T-eq}
+use Rattle.register.proofs.Lists.{in-flat, flat-in}
 use Rattle.register.proofs.Rising.{take-map, insert-map, same-map}
 use Rattle.register.proofs.Stores.{Falling, in-insertAll, falling-insertAll, insertAll-in}
 use Rattle.calendar.specs.Layout.{depth}
@@ -25,21 +26,13 @@ falling-ext [] [] d e f g = refl
 falling-ext [] (y ∷ m) d e f g = absurd (g y (inl refl))
 falling-ext (x ∷ l) [] d e f g = absurd (f x (inl refl))
 falling-ext (x ∷ l) (y ∷ m) d e f g =
-    let h : x ≡ y = head (f x (inl refl)) (g y (inl refl)) in
-    rw h (ap (λ (k : List ℕ). y ∷ k) (falling-ext l m (d .1) (e .1) (λ q i. right q h i (f q (inr i))) (λ q i. left q h i (g q (inr i)))))
-  where
-    head : In x (y ∷ m) → In y (x ∷ l) → x ≡ y
-    head (inl a) b = a
-    head (inr a) (inl b) = sym b
-    head (inr a) (inr b) = absurd (omega (arith, e .0 x a, d .0 y b))
-
-    right : (q : ℕ) → x ≡ y → In q l → In q (y ∷ m) → In q m
-    right q h i (inl a) = absurd (omega (arith, d .0 q i))
-    right q h i (inr a) = a
-
-    left : (q : ℕ) → x ≡ y → In q m → In q (x ∷ l) → In q l
-    left q h i (inl a) = absurd (omega (arith, e .0 q i))
-    left q h i (inr a) = a
+    let h : x ≡ y = elim (f x (inl refl)) [
+      | inl a ↦ a
+      | inr a ↦ elim (g y (inl refl)) [ inl b ↦ sym b | inr b ↦ absurd (omega (arith, e .0 x a, d .0 y b)) ]
+    ] in
+    rw h (ap (λ (k : List ℕ). y ∷ k) (falling-ext l m (d .1) (e .1)
+    (λ q i. elim (f q (inr i)) [ inl a ↦ absurd (omega (arith, d .0 q i)) | inr a ↦ a ])
+    (λ q i. elim (g q (inr i)) [ inl a ↦ absurd (omega (arith, e .0 q i)) | inr a ↦ a ])))
 
 -- what is cut off does not matter for what is put in later
 take-insert : (k p : ℕ) (l : List ℕ) → take k (insert p (take k l)) ≡ take k (insert p l)
@@ -48,13 +41,9 @@ take-insert zero p l = refl
 take-insert (suc k) p [] = refl
 take-insert (suc k) p (x ∷ l) = go (ltb x p) (eqb x p) (take-insert k p l)
   where
-    more : (k : ℕ) → take k (x ∷ take k l) ≡ take k (x ∷ l)
-    more zero = refl
-    more (suc k) = ap (λ (m : List ℕ). x ∷ m) (take-take k (suc k) l (omega arith))
-
     go : (a b : Bool) → take k (insert p (take k l)) ≡ take k (insert p l)
         → take (suc k) (cond a (p ∷ x ∷ take k l) (cond b (x ∷ take k l) (x ∷ insert p (take k l)))) ≡ take (suc k) (cond a (p ∷ x ∷ l) (cond b (x ∷ l) (x ∷ insert p l)))
-    go true b ih = ap (λ (m : List ℕ). p ∷ m) (more k)
+    go true b ih = ap (λ (m : List ℕ). p ∷ m) (take-take k (suc k) (x ∷ l) (omega arith))
     go false true ih = ap (λ (m : List ℕ). x ∷ m) (take-take k k l (omega arith))
     go false false ih = ap (λ (m : List ℕ). x ∷ m) ih
 
@@ -75,9 +64,8 @@ take-in-set k ps qs l d f g =
 -- ---- by number
 
 -- the pairs 0 .. m - 1 that pass
-unfoldable picked : (ℕ → Bool) → (ℕ → ℕ) → ℕ → List ℕ
-picked c g zero = []
-picked c g (suc j) = picked c g j ++ cond (c j) (g j ∷ []) []
+abbrev picked : (ℕ → Bool) → (ℕ → ℕ) → ℕ → List ℕ
+picked c g m = flat m (λ j. cond (c j) (g j ∷ []) [])
 
 all-append : (a b l : List ℕ) → insertAll (a ++ b) l ≡ insertAll b (insertAll a l)
 unfolding insertAll
@@ -85,34 +73,15 @@ all-append [] b l = refl
 all-append (x ∷ a) b l = all-append a b (insert x l)
 
 picked-in : (c : ℕ → Bool) (g : ℕ → ℕ) (m j : ℕ) → j < m → T (c j) → In (g j) (picked c g m)
-unfolding picked
-picked-in c g zero j h t = absurd (omega arith)
-picked-in c g (suc m) j h t = go (ℕ-discrete j m) (λ l. picked-in c g m j l t)
-  where
-    one : (b : Bool) → T b → In (g m) (cond b (g m ∷ []) [])
-    one true t = inl refl
-    one false t = absurd t
-
-    go : Dec (j ≡ m) → (j < m → In (g j) (picked c g m)) → In (g j) (picked c g m ++ cond (c m) (g m ∷ []) [])
-    go (yes e) ih = rw e (in-right (g m) (picked c g m) _ (one (c m) (rw e at t)))
-    go (no d) ih = in-left (g j) (picked c g m) _ (ih (omega arith))
+picked-in c g m j h t = flat-in (g j) m (λ j. cond (c j) (g j ∷ []) []) j h (rw (T-eq (c j) t) (inl refl))
 
 in-picked : (c : ℕ → Bool) (g : ℕ → ℕ) (m q : ℕ) → In q (picked c g m) → (j : ℕ) × (j < m) × T (c j) × (q ≡ g j)
-unfolding picked
-in-picked c g zero q i = absurd i
-in-picked c g (suc m) q i = go (in-append q (picked c g m) _ i) (in-picked c g m q)
+in-picked c g m q i = let (j, h, k) = in-flat q m (λ j. cond (c j) (g j ∷ []) []) i in let (t, e) = one j (c j) k in (j, h, t, e)
   where
-    Res : ℕ → Type 0
-    Res k = (j : ℕ) × (j < k) × T (c j) × (q ≡ g j)
-
-    one : (b : Bool) → c m ≡ b → In q (cond b (g m ∷ []) []) → Res (suc m)
-    one true e (inl h) = (m, omega arith, rw e tt, h)
-    one true e (inr h) = absurd h
-    one false e h = absurd h
-
-    go : In q (picked c g m) ⊎ In q (cond (c m) (g m ∷ []) []) → (In q (picked c g m) → Res m) → Res (suc m)
-    go (inl h) ih = let r = ih h in (r .0, omega arith, r .2, r .3)
-    go (inr h) ih = one (c m) refl h
+    one : (j : ℕ) (b : Bool) → In q (cond b (g j ∷ []) []) → T b × (q ≡ g j)
+    one j true (inl h) = (tt, h)
+    one j true (inr h) = absurd h
+    one j false h = absurd h
 
 -- ---- the engine's stores have the numbers of known pairs, pair j is g j
 
@@ -125,7 +94,7 @@ module _ (g : ℕ → ℕ) (rising : (i j : ℕ) → i < j → g i < g j) where
   put-number j l = rw (insert-map g rising j l, take-map g depth (insert j l))
 
   taken-picked : (c : ℕ → Bool) (m : ℕ) (l : List ℕ) → length l ≤ depth → map g (taken c m l) ≡ takeIn depth (picked c g m) (map g l)
-  unfolding taken picked takeIn insertAll
+  unfolding taken flat takeIn insertAll
   taken-picked c zero l h = sym (take-all depth (map g l) (rw (length-map l g) h))
   taken-picked c (suc j) l h = rw (all-append (picked c g j) (cond (c j) (g j ∷ []) []) (map g l)) (go (c j) (taken-picked c j l h))
     where
@@ -139,33 +108,19 @@ module _ (g : ℕ → ℕ) (rising : (i j : ℕ) → i < j → g i < g j) where
       → ((q : ℕ) → In q ps → (j : ℕ) × (j < m) × T (eqb j w || c j) × (q ≡ g j)) → ((j : ℕ) → j < m → T (eqb j w || c j) → In (g j) ps)
       → takeIn depth ps (map g l) ≡ map g (taken c m (cond (ltb w m) (take depth (insert w l)) l))
   unfolding takeIn insertAll
-  by-number c m w ps l d h f k = go (ltb w m) refl
+  by-number c m w ps l d h f k = elim (decLe m w) [
+    | yes e ↦ rw (le-ltb w m e)
+        (take-in-set depth ps (picked c g m) (map g l) d
+        (λ q i. let (j, a, y, z) = f q i in elim (or-e (eqb j w) (c j) y) [ inl x ↦ absurd (omega (arith, eqb→eq j w x)) | inr x ↦ rw z (picked-in c g m j a x) ])
+        others
+        ∙ sym (taken-picked c m l h))
+    | no e ↦ rw (lt-ltb w m (omega arith))
+        (take-in-set depth ps (g w ∷ picked c g m) (map g l) d
+        (λ q i. let (j, a, y, z) = f q i in elim (or-e (eqb j w) (c j) y) [ inl x ↦ inl (z ∙ ap g (eqb→eq j w x)) | inr x ↦ inr (rw z (picked-in c g m j a x)) ])
+        (λ q i. elim i [ inl x ↦ rw x (k w (omega arith) (or-l (eqb w w) (c w) (eqb-refl w))) | inr x ↦ others q x ])
+        ∙ sym (taken-picked c m (take depth (insert w l)) (omega (arith, length-take depth (insert w l)))
+        ∙ ap (takeIn depth (picked c g m)) (put-number w l) ∙ take-insertAll depth (picked c g m) (insert (g w) (map g l))))
+  ]
     where
       others : (q : ℕ) → In q (picked c g m) → In q ps
-      others q i = let r = in-picked c g m q i in rw (r .3) (k (r .0) (r .1) (or-r (eqb (r .0) w) (c (r .0)) (r .2)))
-
-      go : (b : Bool) → ltb w m ≡ b → takeIn depth ps (map g l) ≡ map g (taken c m (cond b (take depth (insert w l)) l))
-      go false e = take-in-set depth ps (picked c g m) (map g l) d to others ∙ sym (taken-picked c m l h)
-        where
-          to : (q : ℕ) → In q ps → In q (picked c g m)
-          to q i =
-              let r = f q i in
-              elim (or-e (eqb (r .0) w) (c (r .0)) (r .2)) [
-                | inl x ↦ absurd (rw e at (lt→ltb w m (omega (arith, r .1, eqb→eq (r .0) w x))))
-                | inr y ↦ rw (r .3) (picked-in c g m (r .0) (r .1) y)
-              ]
-      go true e =
-          take-in-set depth ps (g w ∷ picked c g m) (map g l) d to from
-          ∙ sym (taken-picked c m (take depth (insert w l)) (omega (arith, length-take depth (insert w l))) ∙ ap (takeIn depth (picked c g m)) (put-number w l) ∙ take-insertAll depth (picked c g m) (insert (g w) (map g l)))
-        where
-          to : (q : ℕ) → In q ps → In q (g w ∷ picked c g m)
-          to q i =
-              let r = f q i in
-              elim (or-e (eqb (r .0) w) (c (r .0)) (r .2)) [
-                | inl x ↦ inl (r .3 ∙ ap g (eqb→eq (r .0) w x))
-                | inr y ↦ inr (rw (r .3) (picked-in c g m (r .0) (r .1) y))
-              ]
-
-          from : (q : ℕ) → In q (g w ∷ picked c g m) → In q ps
-          from q (inl x) = rw x (k w (ltb→lt w m (rw e tt)) (or-l (eqb w w) (c w) (eqb-refl w)))
-          from q (inr y) = others q y
+      others q i = let (j, a, y, z) = in-picked c g m q i in rw z (k j a (or-r (eqb j w) (c j) y))

@@ -1,12 +1,12 @@
 -- Replies under way by the step rules: none before the read's begin, and a tick adds what is sent in it. It stands on WayLaws' general laws and on
 -- register's laws of the log.
-use mathlib.Core.Path.{_≡_, refl}
-use mathlib.Core.Bool.{Bool, true, false, _&&_, _||_, cond, and-false, or-comm, false≢true, or-false}
+use mathlib.Core.Path.{_≡_}
+use mathlib.Core.Bool.{Bool, true, false, _&&_, _||_, and-false, or-comm, or-false, and-or-distrib-left}
 use mathlib.Core.Logic.{inl, inr}
 use mathlib.Core.List.{List, [], _++_}
 use Prim.Native.Nat.{ℕ, zero, suc, _+_, _/_, _≤_, _<_}
 use native.Mathlib.Omega.{arith}
-use native.Mathlib.Decide.{decLe}
+use native.Mathlib.Decide.{decLe, ℕ-discrete}
 use lib.Dec.{T, eqb, leb, ltb, eqb→eq, ltb→lt}
 use borrow.Author.Tests.{le-leb, le-ltb, lt-leb, ne-eqb}
 use Rattle.register.specs.Lists.{any, anyUpTo, In, member, sameList}
@@ -19,11 +19,7 @@ use Rattle.register.proofs as register-laws
 use Rattle.register.proofs.Trace.{before, delivered, mid, end, before-zero, before-suc, sent-row, row-kept}
 use Rattle.register.proofs.Counting.{any-cong, none-up}
 use Rattle.states.specs.Way.{forgedAs, replyFrom, replyWay, heardWay}
-use Rattle.states.proofs.WayLaws.{none-any, any-or, before-next}
-
-never : (b : Bool) → (T b → ⊥) → b ≡ false
-never true f = absurd (f tt)
-never false f = refl
+use Rattle.states.proofs.WayLaws.{never, none-any, any-or, or-turn, before-next}
 
 -- ---- what is sent in a tick
 
@@ -45,33 +41,40 @@ module _ (P : Plan) where
 -- ---- no reply by the read's begin
 
 module _ (P : Plan) (G : register-laws.Good.Good P) where
-  -- a READ arrives after its begin
-  asked-later : (t b : ℕ) (q : Read) → In q (readsIn P t b) → q .begun < t
-  unfolding readsIn
-  asked-later t b q i =
-      let f = register-laws.Lists.in-filter (λ (q : Read). eqb (q .begun + P .delay (q .begun) (P .n + q .reader) b) t) q (P .reads) i in
-      let e = eqb→eq (q .begun + P .delay (q .begun) (P .n + q .reader) b) t (f .1) in
-      omega (arith, G .delay-lo (q .begun) (P .n + q .reader) b)
-
   -- reads begun before tick t
   abbrev Past : ℕ → List Read → Type 0
   Past t l = (q : Read) → In q l → q .begun < t
 
+  past-none : (t : ℕ) (r : Read) (l : List Read) → Past t l → t ≤ r .begun → any (sameRead r) l ≡ false
+  unfolding sameRead
+  past-none t r l p h = never (any (sameRead r) l) (λ y.
+      let (q, i, e) = register-laws.Lists.any-in (sameRead r) l y in
+      omega (arith, p q i, eqb→eq (r .begun) (q .begun) (and-l (eqb (r .begun) (q .begun)) _ e)))
+
+  -- a READ arrives after its begin
+  asked-later : (t b : ℕ) → Past t (readsIn P t b)
+  unfolding readsIn
+  asked-later t b q i =
+      let f = register-laws.Lists.in-filter (λ (q : Read). eqb (q .begun + P .delay (q .begun) (P .n + q .reader) b) t) q (P .reads) i in
+      omega (arith, eqb→eq (q .begun + P .delay (q .begun) (P .n + q .reader) b) t (f .1), G .delay-lo (q .begun) (P .n + q .reader) b)
+
+  pub reads-later : (t b : ℕ) (r : Read) → t ≤ r .begun → any (sameRead r) (readsIn P t b) ≡ false
+  reads-later t b r h = past-none t r (readsIn P t b) (asked-later t b) h
+
   module _ (t b : ℕ) (h : Past t (before P t b .pending)) where
     both-past : Past t (before P t b .pending ++ readsIn P t b)
     both-past q i = elim (register-laws.Lists.in-append q (before P t b .pending) (readsIn P t b) i) [ inl a ↦ h q a | inr a ↦ asked-later t b q a ]
-
-    replied-past : (a c : Bool) → Past t (cond a (cond c (readsIn P t b) (before P t b .pending ++ readsIn P t b)) [])
-    replied-past true true q i = asked-later t b q i
-    replied-past true false q i = both-past q i
-    replied-past false c q i = absurd i
 
     delivered-past : Past t (delivered P t b .server .pending) × Past t (delivered P t b .sent .replyTo)
     unfolding delivered stage1 deliver
     delivered-past =
         cond-e (λ (o : Out). Past t (o .server .pending) × Past t (o .sent .replyTo)) (isFaulty (before P t b .status)) _ _
         (λ f. (h, λ q i. absurd i))
-        (λ f. (both-past, replied-past (isCorrect (before P t b .status)) (sameList (before P t b .kept) _)))
+        (λ f. (
+          both-past,
+          cond-e (Past t) (isCorrect (before P t b .status)) _ []
+              (λ g. cond-e (Past t) (sameList (before P t b .kept) _) (readsIn P t b) _ (λ y. asked-later t b) (λ y. both-past)) (λ g q i. absurd i),
+        ))
 
     mid-past : Past t (mid P t b .server .pending) × Past t (mid P t b .sent .replyTo)
     unfolding mid stage2
@@ -85,25 +88,19 @@ module _ (P : Plan) (G : register-laws.Good.Good P) where
   moved-past t true x h = λ q i. absurd i
   moved-past t false x h = cond-e (λ (y : Server). Past t (y .pending)) (isFaulty (x .status)) _ _ (λ f q i. absurd i) (λ f. h)
 
-  end-past : (t b : ℕ) → Past t (mid P t b .server .pending) → Past t (end P t b .server .pending)
-  end-past t b h =
-      rw (register-laws.Stages.end-server P t b)
-      (cond-e (λ (y : Server). Past t (y .pending)) (isMove P t) _ _ (λ f. moved-past t (P .placed (t / P .period) b) (mid P t b .server) h) (λ f. h))
-
   pending-past : (t b : ℕ) → b < P .n → Past t (before P t b .pending)
   pending-past zero b l = rw (before-zero P b l) (λ q i. absurd i)
-  pending-past (suc t) b l = rw (before-suc P t b l) (λ q i. omega (arith, end-past t b (mid-past t b (pending-past t b l) .0) q i))
+  pending-past (suc t) b l =
+      let h = mid-past t b (pending-past t b l) .0 in
+      rw (before-suc P t b l, register-laws.Stages.end-server P t b) (λ q i. omega (
+        arith,
+        cond-e (λ (y : Server). Past t (y .pending)) (isMove P t) _ _
+            (λ f. moved-past t (P .placed (t / P .period) b) (mid P t b .server) h) (λ f. h) q i,
+      ))
 
   -- no reply to a read that begins now or later
   pub not-replied : (t b : ℕ) (r : Read) → b < P .n → t ≤ r .begun → any (sameRead r) (end P t b .sent .replyTo) ≡ false
-  unfolding sameRead
-  not-replied t b r l h = rw (register-laws.Stages.end-replies P t b .0) (never (any (sameRead r) (mid P t b .sent .replyTo)) (λ y.
-      let m = register-laws.Lists.any-in (sameRead r) (mid P t b .sent .replyTo) y in
-      let e = eqb→eq (r .begun) (m .0 .begun) (and-l (eqb (r .begun) (m .0 .begun)) (eqb (r .reader) (m .0 .reader)) (m .2)) in
-      omega (arith, mid-past t b (pending-past t b l) .1 (m .0) (m .1))))
-
-  pub early : (t u i : ℕ) (r : Read) → i < P .n → u < t → u ≤ r .begun → any (sameRead r) (sentIn (cluster P t .log) u i .replyTo) ≡ false
-  early t u i r l a h = rw (sent-row P t u i l a) (not-replied u i r l h)
+  not-replied t b r l h = rw (register-laws.Stages.end-replies P t b .0) (past-none t r (mid P t b .sent .replyTo) (mid-past t b (pending-past t b l) .1) h)
 
   -- ---- one tick
 
@@ -119,28 +116,14 @@ module _ (P : Plan) (G : register-laws.Good.Good P) where
         any-cong t (λ u. replyFrom P (cluster P (suc t) .log) (suc t) r u s p i) (λ u. replyFrom P (cluster P t .log) t r u s p i) (λ u a. rw (row-kept P t u i a)),
         sent-row P (suc t) t i l (omega arith),
       )
-      (turn (leb s (readEnd P r)) _ (anyUpTo t (λ u. replyFrom P (cluster P t .log) t r u s p i)) _ _)
+      (rw or-turn (simp and-or-distrib-left))
     where
-      both : (a b c d : Bool) → (T c → a ≡ true) → a && (b || c && d) ≡ (a && b) || (c && d)
-      both true b c d e = refl
-      both false b true d e = absurd (false≢true (e tt))
-      both false b false d e = refl
-
       forged : (x : Forgery) → leb (r .begun) (x .at) && (ltb (x .at) (suc t) && forgedAs P s (P .n + r .reader) p i x)
           ≡ (leb (r .begun) (x .at) && (ltb (x .at) t && forgedAs P s (P .n + r .reader) p i x)) || (eqb (x .at) t && forgedAs P s (P .n + r .reader) p i x)
-      forged x =
-          rw (before-next (x .at) t (forgedAs P s (P .n + r .reader) p i x))
-          (both (leb (r .begun) (x .at)) (ltb (x .at) t && forgedAs P s (P .n + r .reader) p i x) (eqb (x .at) t) (forgedAs P s (P .n + r .reader) p i x)
-          (λ e. let q = eqb→eq (x .at) t e in le-leb (r .begun) (x .at) (omega arith)))
-
-      turn : (e f a c d : Bool) → e && ((f || a) || (c || d)) ≡ ((e && (a || c)) || (e && f)) || (e && d)
-      turn false f a c d = refl
-      turn true true true c d = refl
-      turn true true false true d = refl
-      turn true true false false d = refl
-      turn true false true c d = refl
-      turn true false false true d = refl
-      turn true false false false d = refl
+      forged x = rw (before-next (x .at) t (forgedAs P s (P .n + r .reader) p i x)) (elim (ℕ-discrete (x .at) t) [
+        | yes e ↦ rw (le-leb (r .begun) (x .at) (omega arith))
+        | no d ↦ rw (ne-eqb (x .at) t d) (simp or-false)
+      ])
 
   pub arrives : (s q p i : ℕ) (x : Forgery) → T (forgedAs P s q p i x) → x .at + P .delay (x .at) (x .from) (x .to) ≡ s
   arrives s q p i x h =
@@ -163,10 +146,7 @@ module _ (P : Plan) (G : register-laws.Good.Good P) where
   past-same : (t : ℕ) (r : Read) (s p i : ℕ) → i < P .n → r .begun ≤ t → s ≤ t
       → replyWay P (cluster P (suc t) .log) (suc t) r s p i ≡ replyWay P (cluster P t .log) t r s p i
   past-same t r s p i l h a =
-      rw (replies-next t r s p i l h, replies-later t r s p i a, forged-later t r s p i a) (drop (replyWay P (cluster P t .log) t r s p i) (leb s (readEnd P r)))
-    where
-      drop : (a e : Bool) → (a || (e && false)) || (e && false) ≡ a
-      drop a e = simp (and-false, or-false)
+      rw (replies-next t r s p i l h, replies-later t r s p i a, forged-later t r s p i a) (simp (and-false, or-false))
 
   -- what arrives is noted
   pub heard-next : (t : ℕ) (r : Read) (p i : ℕ) → i < P .n → r .begun ≤ t
@@ -186,7 +166,7 @@ module _ (P : Plan) (G : register-laws.Good.Good P) where
   unfolding replyWay
   replies-none t r s p i l h =
       rw (
-        none-up t (λ u. replyFrom P (cluster P t .log) t r u s p i) (λ u a. rw (early t u i r l a (omega arith))),
+        none-up t (λ u. replyFrom P (cluster P t .log) t r u s p i) (λ u a. rw (sent-row P t u i l a, not-replied u i r l (omega arith))),
         none-any (λ x. leb (r .begun) (x .at) && (ltb (x .at) t && forgedAs P s (P .n + r .reader) p i x)) (P .forged) forged,
       )
       (and-false (leb s (readEnd P r)))

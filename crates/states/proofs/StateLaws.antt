@@ -5,14 +5,12 @@ use mathlib.Core.Bool.{Bool, false, _&&_, _||_, and-false}
 use mathlib.Core.List.{List, [], _∷_}
 use Prim.Native.Nat.{ℕ, suc, _+_, _-_, _≤_, _<_}
 use native.Mathlib.Omega.{arith}
-use lib.Dec.{ltb}
-use lib.ListN.{getD}
+use lib.{Dec.ltb, ListN.getD}
 use borrow.Author.Tests.{le-ltb}
 use Rattle.register.specs as register-specs
 use Rattle.register.specs.Plan.{Plan, Read, readEnd, echoQuorum, replyQuorum}
 use Rattle.register.proofs as register-laws
-use Rattle.calendar.specs.Layout.{rows, places, rowOf, sender}
-use Rattle.calendar.specs.View.{Spanned, Empty}
+use Rattle.calendar.specs.{Layout.rows, Layout.places, Layout.rowOf, Layout.sender, View.Spanned, View.Empty}
 use Rattle.calendar.proofs.Spans.{empty-spanned}
 use Rattle.cluster.specs as cluster-specs
 use Rattle.serving.specs as serving-specs
@@ -20,8 +18,7 @@ use Rattle.cluster.specs.Inputs.{pairAt, Knows, Fits}
 use Rattle.cluster.specs.Tick.{Fed, Ticked, Started, noReader}
 use Rattle.states.specs as states-specs
 use Rattle.cluster.proofs.Settled.{first-settled, settled-next}
-use Rattle.states.proofs.WayLaws.{none-any}
-use Rattle.states.proofs.VoteLaws.{ended, among-is, new-server, new-votes}
+use Rattle.states.proofs.{WayLaws.none-any, VoteLaws.new-server, VoteLaws.new-votes}
 use Rattle.states.proofs.ReaderLaws.{Begins, Forges, noted-end as reader-noted, hears-next, idle-now, way-next, none-next}
 
 -- the servers are settled, so that a tick may leave alone those that nothing reaches
@@ -32,34 +29,21 @@ calm P F fit c S b l = rw (fit .echo, fit .reply) (S .settled b (omega (arith, f
 module _ (P : Plan) (G : register-laws.Good.Good P) (F : Fed) (fit : Fits P (F .t) (F .plan) (F .rules) (F .known) (F .links) (F .arrivals) (F .movement))
     (K : Knows P (pairAt (F .known)) (F .known .m)) (c r : cluster-specs.declared.Cluster.Cluster) (work : List ℕ) (fed : Ticked F c r work (F .rules .n))
     (S : states-specs.State.State P (pairAt (F .known)) (F .known .m) (F .t) c (F .work)) where
-  abbrev t : ℕ
-  t = F .t
-
-  abbrev g : ℕ → ℕ
-  g = pairAt (F .known)
-
-  abbrev m : ℕ
-  m = F .known .m
-
   D : Ticked F c r work (P .n)
   D = subst (λ (n : ℕ). Ticked F c r work n) (fit .n) fed
 
   -- a read that ends in this tick: its reader has noted what the definitions say
   pub noted-end : (q : Read) → register-specs.Lists.In q (P .reads) → F .t ≡ readEnd P q → (j i : ℕ) → j < F .known .m
       → serving-specs.Bits.sets (getD (r .readers) (q .reader - 1) noReader .named) j i ≡ (ltb i (P .n) && register-specs.Server.has (register-specs.Reading.notedBy P q) (pairAt (F .known) j) i)
-  noted-end = reader-noted P G F fit K c r work D S (ended P G F fit K c r work D S) (among-is P G F fit K c r work D S)
+  noted-end = reader-noted P G F fit K c r work D S
 
   module _ (after : List cluster-specs.declared.Reader.Reader) (B : Begins P (F .known .m) (F .t) (r .readers) after) where
     -- once the reads of this tick have begun: the ends of the readers
     pub end-open : (q : Read) → states-specs.State.Open P (suc (F .t)) q → getD after (q .reader - 1) noReader .end ≡ readEnd P q
-    end-open = hears-next P G F fit K c r work D S (ended P G F fit K c r work D S) (among-is P G F fit K c r work D S) after B .end
+    end-open = hears-next P G F fit K c r work D S after B .end
 
     pub end-idle : (q : Read) → register-specs.Lists.In q (P .reads) → states-specs.State.Idle P (suc (F .t)) (q .reader) → getD after (q .reader - 1) noReader .end ≤ F .t
-    end-idle = idle-now P G F fit K c r work D S (ended P G F fit K c r work D S) (among-is P G F fit K c r work D S) after B
-
-  -- after stages 1 to 4 each server stands for its server
-  pub next-server : (b : ℕ) → b < P .n → states-specs.State.Rep P (pairAt (F .known)) (F .known .m) (suc (F .t)) (register-specs.Cluster.serverOf (register-specs.Cluster.cluster P (suc (F .t))) b) (serving-specs.Stored.server (getD (r .servers) b serving-specs.Stored.absent))
-  next-server b lb = new-server P G F fit K c r work D S b lb
+    end-idle = idle-now P G F fit K c r work D S after B
 
   -- a tick of the engine is a tick of the cluster
   pub next-state : (n : cluster-specs.declared.Cluster.Cluster) (then : List ℕ) (f : ℕ → ℕ → ℕ → Bool) → n .servers ≡ r .servers → Begins P (F .known .m) (F .t) (r .readers) (n .readers)
@@ -67,18 +51,18 @@ module _ (P : Plan) (G : register-laws.Good.Good P) (F : Fed) (fit : Fits P (F .
       → Forges P (F .known .m) (F .t) (pairAt (F .known)) f
       → states-specs.State.State P (pairAt (F .known)) (F .known .m) (suc (F .t)) n then
   next-state n then f same B cells spans Y = record {
-    servers = λ b lb. rw same (next-server b lb);
+    servers = λ b lb. rw same (new-server P G F fit K c r work D S b lb);
     settled = λ b lb. rw (same, ← fit .echo, ← fit .reply)
         (settled-next F c r work (P .n) b (omega (arith, fit .echo)) (omega (arith, fit .reply)) D lb (rw (fit .echo, fit .reply) (S .settled b lb)));
     calendar = record {
       votes = λ s b j i a z lb h.
           new-votes P G F fit K c r work D S s b (omega arith) (omega arith) lb j h i (sender then (rowOf s b) j i)
           (cells (rowOf s b) j i (omega (arith, K .servers)) (omega (arith, K .few)) ∙ rw (Y .votes s b j i (omega arith) (omega arith) lb h));
-      replies = way-next P G F fit K c r work D S (ended P G F fit K c r work D S) (among-is P G F fit K c r work D S) then f cells Y;
-      none = none-next P G F fit K c r work D S (ended P G F fit K c r work D S) (among-is P G F fit K c r work D S) then f cells Y;
+      replies = way-next P G F fit K c r work D S then f cells Y;
+      none = none-next P G F fit K c r work D S then f cells Y;
       spans = spans;
     };
-    readers = hears-next P G F fit K c r work D S (ended P G F fit K c r work D S) (among-is P G F fit K c r work D S) (n .readers) B;
+    readers = hears-next P G F fit K c r work D S (n .readers) B;
   }
 
 -- ---- the start

@@ -1,7 +1,7 @@
--- What the relation with the step rules says in the course of a tick: of what a server sent and its row, of a server in the middle and at the
+-- What the relation with the step rules says in the course of a tick: of what a server sent by the rules and by the engine, of a server in the middle and at the
 -- end of the tick, and of what arrives at it.
-use mathlib.Core.Path.{_≡_}
-use mathlib.Core.Bool.{Bool, true, false, not, _&&_, _||_}
+use mathlib.Core.Path.{_≡_, refl}
+use mathlib.Core.Bool.{Bool, true, false, not, _&&_, _||_, cond}
 use mathlib.Core.List.{List, _++_, map}
 use Prim.Native.Nat.{ℕ, suc, _≤_, _<_}
 use lib.Dec.{T, eqb}
@@ -11,6 +11,11 @@ use Rattle.register.specs.Server.{isFaulty, Claim, Server, Sent, Out}
 use Rattle.register.specs.Reading.{sameRead}
 use Rattle.serving.specs.Stored.{Said, Both}
 use Rattle.states.specs.State.{Votes, Rep}
+
+-- what holds of both first branches and of both second ones holds of those that one test takes
+pub both-cond : {A B : Type 0} (Q : A → B → Type 0) (b : Bool) (x y : A) (u v : B) → (b ≡ true → Q x u) → (b ≡ false → Q y v) → Q (cond b x y) (cond b u v)
+both-cond Q true x y u v f h = f refl
+both-cond Q false x y u v f h = h refl
 
 module _ (P : Plan) (g : ℕ → ℕ) (m : ℕ) where
   pub record Told (t : ℕ) (o : Sent) (q : Said) : Type 0 where

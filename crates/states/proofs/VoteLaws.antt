@@ -1,50 +1,26 @@
 -- Stages 1 to 4 of the engine are those of the step rules: each server stands for its server afterwards, what it sent stands for what was sent,
--- and with the forged votes of the tick the calendar has the votes under way. It stands on RepLaws, MoveLaws, WayLaws and register's safety; the
+-- and with the forged votes of the tick the calendar has the votes under way. It stands on RepLaws, MoveLaws, WayLaws, ReplyLaws and register's safety; the
 -- bound on n is not used.
 use mathlib.Core.Path.{_≡_, refl, sym, ap, _∙_}
-use mathlib.Core.Bool.{Bool, true, false, not, _&&_, _||_, cond, or-false, and-or-distrib-left}
-use mathlib.Core.Logic.{inl, inr}
-use mathlib.Core.List.{List, _++_}
+use mathlib.Core.Bool.{Bool, true, false, not, _&&_, _||_, cond, and-false, or-false, and-or-distrib-left}
+use mathlib.Core.{Logic.inl, Logic.inr, List.List, List._++_}
 use Prim.Native.Nat.{ℕ, suc, _+_, _-_, _/_, _%_, _≤_, _<_}
-use native.Mathlib.Omega.{arith}
-use native.Mathlib.Decide.{decLe, ℕ-discrete}
-use lib.Dec.{eqb, ltb, eqb→eq}
-use lib.ListN.{getD}
-use borrow.Author.Tests.{lt-ltb, le-ltb, lt-leb, eq-eqb, ne-eqb}
-use Rattle.register.specs.Lists.{any, In, member}
-use Rattle.register.specs.Plan.{Plan, Read, Forgery, kk, echoQuorum, replyQuorum, isMove}
-use Rattle.register.specs.Server.{isFaulty, Claim, has, Server, stage3, stage4}
-use Rattle.register.specs.Cluster.{sentIn, writesIn, readsIn, votesIn, serverOf, cluster}
-use Rattle.register.specs.Reading.{sameRead}
+use native.Mathlib.{Omega.arith, Decide.ℕ-discrete}
+use lib.{Dec.eqb, Dec.leb, Dec.ltb, ListN.getD}
+use borrow.Author.Tests.{lt-ltb, lt-leb, eq-eqb, ne-eqb}
+use Rattle.register.specs.{Lists.any, Lists.In, Lists.member, Server.isFaulty, Server.Claim, Server.has, Server.Server}
+use Rattle.register.specs.Plan.{Plan, Forgery, echoQuorum, replyQuorum, isMove}
+use Rattle.register.specs.Cluster.{writesIn, readsIn, votesIn, serverOf, cluster}
 use Rattle.register.proofs as register-laws
-use Rattle.register.proofs.Trace.{before, delivered, mid, end, before-suc, sent-row}
-use Rattle.calendar.specs as calendar-specs
-use Rattle.calendar.specs.Layout.{receivers, rows, rowOf, sender}
+use Rattle.register.proofs.Trace.{before, delivered, mid, end, before-suc}
+use Rattle.calendar.specs.{Layout.receivers, Layout.rowOf, Layout.sender, Bits.bit, Posts.among}
 use Rattle.calendar.proofs.Spans.{row-receiver, row-slot}
-use Rattle.cluster.specs as cluster-specs
 use Rattle.serving.specs as serving-specs
-use Rattle.serving.specs.Stored.{Plain, Both, keys, server, both, absent}
+use Rattle.serving.specs.{Stored.Plain, Stored.Both, Stored.keys, Stored.server, Stored.both, Stored.absent, Stages.stageOne, Stages.stageTwo, Stages.stageFour, Stages.stagesOf}
 use Rattle.serving.proofs.StoreLaws.{among-keys}
+use Rattle.cluster.specs as cluster-specs
+use Rattle.states.specs.{Way.forgedAs, Way.voteWay, State.Votes, State.Rep, State.State}
 use Rattle.states.proofs as states-laws
-use Rattle.serving.specs.Stages.{stageOne, stageTwo, stageFour, stagesOf}
-use Rattle.states.specs.Way.{forgedAs, voteWay}
-use Rattle.states.specs.State.{Votes, Rep, State}
-
--- ---- what arrives
-
--- a READ arrives after its begin
-reads-later : (P : Plan) → register-laws.Good.Good P → (t b : ℕ) (r : Read) → t ≤ r .begun → any (sameRead r) (readsIn P t b) ≡ false
-unfolding readsIn sameRead
-reads-later P G t b r h = go (any (sameRead r) (readsIn P t b)) refl
-  where
-    go : (c : Bool) → any (sameRead r) (readsIn P t b) ≡ c → c ≡ false
-    go false e = refl
-    go true e =
-        let m = register-laws.Lists.any-in (sameRead r) (readsIn P t b) (rw e tt) in
-        let f = register-laws.Lists.in-filter (λ (q : Read). eqb (q .begun + P .delay (q .begun) (P .n + q .reader) b) t) (m .0) (P .reads) (m .1) in
-        let x = eqb→eq (m .0 .begun + P .delay (m .0 .begun) (P .n + m .0 .reader) b) t (f .1) in
-        let y = eqb→eq (r .begun) (m .0 .begun) (register-laws.Logic.and-l (eqb (r .begun) (m .0 .begun)) _ (m .2)) in
-        absurd (omega (arith, G .delay-lo (m .0 .begun) (P .n + m .0 .reader) b))
 
 -- the stages, with the plan's numbers for those that are fed
 stages-law : (m : ℕ) (rules : serving-specs.declared.Rules.Rules) (w : ℕ) (votes : ℕ → ℕ → Bool) (asks live : ℕ → Bool) (mv mv' h h' : Bool) (t : ℕ) (s : Plain) (o : Both) (k2 : Bool) (delta e r : ℕ)
@@ -96,15 +72,11 @@ module _ (P : Plan) (G : register-laws.Good.Good P) (F : cluster-specs.Tick.Fed)
     asks y = cluster-specs.Inputs.asksAt (F .arrivals .requests) b y
 
     abbrev live : ℕ → Bool
-    live y = calendar-specs.Bits.bit y (F .arrivals .live)
+    live y = bit y (F .arrivals .live)
 
     -- the votes that the row has are those that arrive
     arrived : (j i : ℕ) → j < m → sender (F .work) (rowOf t b) j i ≡ ltb i (P .n) && has vs (g j) i
-    arrived j i h = S .calendar .votes t b j i (omega arith) (omega arith) lb h ∙ go (decLe (P .n) i)
-      where
-        go : Dec (P .n ≤ i) → ltb i (P .n) && voteWay P (cluster P t .log) t t b (g j) i ≡ ltb i (P .n) && has vs (g j) i
-        go (yes l) = rw (le-ltb i (P .n) l)
-        go (no l) = rw (states-laws.WayLaws.votes-arrive P G t b (g j) i (omega arith))
+    arrived j i h = S .calendar .votes t b j i (omega arith) (omega arith) lb h ∙ states-laws.WayLaws.below i (P .n) _ _ (λ l. states-laws.WayLaws.votes-arrive P G t b (g j) i l)
 
     tally : isFaulty (x .status) ≡ false → Votes P g m (x .kept) (x .fresh ++ vs) (step .votes)
     tally y j i h n =
@@ -116,7 +88,7 @@ module _ (P : Plan) (G : register-laws.Good.Good P) (F : cluster-specs.Tick.Fed)
       wrote = λ j h. fit .wrote b j lb h;
       tally = tally;
       asking = λ r i a q. fit .asks b r lb i a q;
-      later = λ r i a. reads-later P G t b r a;
+      later = λ r i a. states-laws.ReplyLaws.reads-later P G t b r a;
       lasting = fit .lasting;
       began = fit .began;
     }
@@ -135,91 +107,69 @@ module _ (P : Plan) (G : register-laws.Good.Good P) (F : cluster-specs.Tick.Fed)
     pub ended : states-laws.Told.End P g m t (end P t b) (both (D .outs b))
     unfolding end
     ended =
-        rw (stages-law m (F .rules) wrote (step .votes) asks live (F .movement .moving) (isMove P t) (calendar-specs.Bits.bit (15 - b) (F .movement .faulty)) (P .placed (t / P .period) b) t s (both (D .outs b)) _ _ _ _
-        (fit .two) (fit .delta) (fit .echo) (fit .reply) (fit .moving) (λ y. fit .faulty y b lb) (step .stages)) (go (isMove P t) refl)
-      where
-        go : (c : Bool) → isMove P t ≡ c → states-laws.Told.End P g m t (stage4 P t (stage3 P t b (mid P t b))) (cond c (stageFour (eqb (kk P) 2) (P .placed (t / P .period) b) t second) second)
-        go true e = states-laws.MoveLaws.four-rep P g (K .rising) m t b (mid P t b) second (rw e tt) middle
-        go false e = states-laws.MoveLaws.still-rep P g (K .rising) m t b (mid P t b) second (rw e tt) middle
-
-    now-row : sentIn (cluster P (suc t) .log) t b ≡ end P t b .sent
-    now-row = sent-row P (suc t) t b lb (omega arith)
+        rw (stages-law m (F .rules) wrote (step .votes) asks live (F .movement .moving) (isMove P t) (bit (15 - b) (F .movement .faulty)) (P .placed (t / P .period) b) t s (both (D .outs b)) _ _ _ _
+        (fit .two) (fit .delta) (fit .echo) (fit .reply) (fit .moving) (λ y. fit .faulty y b lb) (step .stages))
+        (register-laws.Logic.cond-e (states-laws.Told.End P g m t (end P t b)) (isMove P t) _ second
+        (λ y. states-laws.MoveLaws.four-rep P g (K .rising) m t b (mid P t b) second y middle) (λ y. states-laws.MoveLaws.still-rep P g (K .rising) m t b (mid P t b) second y middle))
 
     -- the pairs of its store
-    pub among-is : (j : ℕ) → j < m → calendar-specs.Posts.among (D .outs b .row .kept) j ≡ member (g j) (end P t b .sent .replyWith)
-    among-is j h = among-keys (D .outs b .row .kept) j ∙ rw (ended .sent .pairs) (sym (register-laws.Rising.member-map g (K .rising) j (keys (D .outs b .row .kept))))
+    pub among-is : (j : ℕ) → j < m → among (D .outs b .sent .kept) j ≡ member (g j) (end P t b .sent .replyWith)
+    among-is j h = among-keys (D .outs b .sent .kept) j ∙ rw (ended .sent .pairs) (sym (register-laws.Rising.member-map g (K .rising) j (keys (D .outs b .sent .kept))))
 
-    voted-is : (j : ℕ) → j < m → serving-specs.Sends.votesFor (D .outs b .row) j ≡ member (g j) (end P t b .sent .votes)
-    voted-is j h = rw (among-keys (D .outs b .row .kept) j) (sym (ended .sent .votes j h))
+    voted-is : (j : ℕ) → j < m → serving-specs.Sends.votesFor (D .outs b .sent) j ≡ member (g j) (end P t b .sent .votes)
+    voted-is j h = rw (among-keys (D .outs b .sent .kept) j) (sym (ended .sent .votes j h))
 
     pub new-server : Rep P g m (suc t) (serverOf (cluster P (suc t)) b) (server (getD (r .servers) b absent))
     unfolding before
     new-server = rw (before-suc P t b lb, D .next b lb) (ended .server)
 
+  -- ---- what is under way
+
+  -- a row after stages 1 to 4: what was under way and is not taken, and what is sent now
+  pub row-now : (s y j i : ℕ) → t < s → s ≤ t + 16 → y < receivers → (ltb y (P .n) || leb 16 y) ≡ true → j < m → (v w : Bool)
+      → (s < t + 16 → sender (F .work) (rowOf s y) j i ≡ ltb i (P .n) && v) → (s ≡ t + 16 → v ≡ false)
+      → (i < P .n → serving-specs.Sends.sends (F .plan) (F .links) (F .rules .n) t (cluster-specs.Tick.endsOf (c .readers)) i (D .outs i .sent) (rowOf s y) j ≡ w)
+      → sender work (rowOf s y) j i ≡ ltb i (P .n) && (v || w)
+  unfolding cluster-specs.Tick.present
+  row-now s y j i after within few own h v w old far now =
+      D .cells (rowOf s y) j i (omega arith) (omega (arith, K .few))
+      ∙ rw (row-receiver s y few, row-slot s y few, own, kept (ℕ-discrete s (t + 16)))
+      (ap (λ (u : Bool). (ltb i (P .n) && v) || u) (states-laws.WayLaws.below i (P .n) _ w now) ∙ sym (and-or-distrib-left (ltb i (P .n)) v w))
+    where
+      kept : Dec (s ≡ t + 16) → not (eqb (s % 16) (t % 16) && true) && sender (F .work) (rowOf s y) j i ≡ ltb i (P .n) && v
+      kept (yes e) = rw (eq-eqb (s % 16) (t % 16) (omega arith), far e) (sym (and-false (ltb i (P .n))))
+      kept (no d) = rw (states-laws.WayLaws.slot-past t s after (omega arith)) (old (omega arith))
+
   -- ---- the votes under way
 
   module _ (s b : ℕ) (after : t < s) (within : s ≤ t + 16) (lb : b < P .n) (j : ℕ) (h : j < m) where
-    abbrev row : ℕ
-    row = rowOf s b
-
     few : b < receivers
     few = omega (arith, K .servers)
 
-    in-rows : row < rows
-    in-rows = omega (arith, K .servers)
-
     -- what server i sent in this tick
-    sent-is : (i : ℕ) → i < P .n → serving-specs.Sends.sends (F .plan) (F .links) (F .rules .n) t (cluster-specs.Tick.endsOf (c .readers)) i (D .outs i .row) row j
+    sent-is : (i : ℕ) → i < P .n → serving-specs.Sends.sends (F .plan) (F .links) (F .rules .n) t (cluster-specs.Tick.endsOf (c .readers)) i (D .outs i .sent) (rowOf s b) j
         ≡ (not (eqb i b) && eqb (t + P .delay t i b) s) && member (g j) (end P t i .sent .votes)
     unfolding serving-specs.Sends.sendsVote serving-specs.Sends.sendsReply
     sent-is i li =
-        rw (row-receiver s b few, row-slot s b few, fit .n, lt-ltb b (P .n) lb, lt-leb 16 b (omega (arith, K .servers)), voted-is i li j h)
-        (or-false _ ∙ go (ℕ-discrete i b))
-      where
-        go : Dec (i ≡ b) → not (eqb b i) && (eqb ((t + serving-specs.Links.delayAt (F .plan) (F .links) t i b) % 16) (s % 16) && member (g j) (end P t i .sent .votes))
-            ≡ (not (eqb i b) && eqb (t + P .delay t i b) s) && member (g j) (end P t i .sent .votes)
-        go (yes e) = rw (eq-eqb i b e, eq-eqb b i (sym e))
-        go (no d) =
-            rw (
-              ne-eqb i b d,
-              ne-eqb b i (λ e. d (sym e)),
-              fit .delays i b li lb d,
-              states-laws.WayLaws.slot-is t (P .delay t i b) s (G .delay-lo t i b) (omega (arith, G .delay-hi t i b, K .slow)) after within,
-            )
+        rw (row-receiver s b few, row-slot s b few, fit .n, lt-ltb b (P .n) lb, lt-leb 16 b (omega (arith, K .servers)), voted-is i li j h, or-false) (elim (ℕ-discrete i b) [
+          | yes e ↦ rw (eq-eqb i b e, eq-eqb b i (sym e))
+          | no d ↦ rw (
+            ne-eqb i b d,
+            ne-eqb b i (λ e. d (sym e)),
+            fit .delays i b li lb d,
+            states-laws.WayLaws.slot-is t (P .delay t i b) s (G .delay-lo t i b) (omega (arith, G .delay-hi t i b, K .slow)) after within,
+          )
+        ])
 
     -- after stages 1 to 4
-    pub votes-after : (i : ℕ) → sender work row j i
+    votes-after : (i : ℕ) → sender work (rowOf s b) j i
         ≡ ltb i (P .n) && (voteWay P (cluster P t .log) t s b (g j) i || ((not (eqb i b) && eqb (t + P .delay t i b) s) && member (g j) (end P t i .sent .votes)))
-    unfolding cluster-specs.Tick.present
     votes-after i =
-        D .cells row j i in-rows (omega (arith, K .few))
-        ∙ rw (row-receiver s b few, row-slot s b few, lt-ltb b (P .n) lb) (go (decLe (P .n) i) (ℕ-discrete s (t + 16)))
-      where
-        old : s < t + 16 → sender (F .work) row j i ≡ ltb i (P .n) && voteWay P (cluster P t .log) t s b (g j) i
-        old q = S .calendar .votes s b j i (omega arith) q lb h
-
-        go : Dec (P .n ≤ i) → Dec (s ≡ t + 16)
-            → (not (eqb (s % 16) (t % 16) && true) && sender (F .work) row j i) || (ltb i (P .n) && serving-specs.Sends.sends (F .plan) (F .links) (F .rules .n) t (cluster-specs.Tick.endsOf (c .readers)) i (D .outs i .row) row j)
-            ≡ ltb i (P .n) && (voteWay P (cluster P t .log) t s b (g j) i || ((not (eqb i b) && eqb (t + P .delay t i b) s) && member (g j) (end P t i .sent .votes)))
-        go (yes l) (yes e) = rw (le-ltb i (P .n) l, eq-eqb (s % 16) (t % 16) (omega arith))
-        go (yes l) (no d) = rw (states-laws.WayLaws.slot-past t s after (omega arith), old (omega arith), le-ltb i (P .n) l)
-        go (no l) (yes e) =
-            rw (
-              eq-eqb (s % 16) (t % 16) (omega arith),
-              lt-ltb i (P .n) (omega arith),
-              sent-is i (omega arith),
-              states-laws.WayLaws.votes-far P G t s b (g j) i (cluster P t .log) (omega (arith, K .slow)),
-            )
-        go (no l) (no d) = rw (states-laws.WayLaws.slot-past t s after (omega arith), old (omega arith), lt-ltb i (P .n) (omega arith), sent-is i (omega arith))
+        row-now s b j i after within few (rw (lt-ltb b (P .n) lb)) h (voteWay P (cluster P t .log) t s b (g j) i) _ (λ q. S .calendar .votes s b j i (omega arith) q lb h)
+        (λ e. states-laws.WayLaws.votes-far P G t s b (g j) i (cluster P t .log) (omega (arith, K .slow))) (λ l. sent-is i l)
 
     -- and after the forged votes of the tick
-    pub new-votes : (i : ℕ) (v : Bool) → v ≡ sender work row j i || (ltb i (P .n) && any (λ (x : Forgery). eqb (x .at) t && forgedAs P s b (g j) i x) (P .forged))
+    pub new-votes : (i : ℕ) (v : Bool) → v ≡ sender work (rowOf s b) j i || (ltb i (P .n) && any (λ (x : Forgery). eqb (x .at) t && forgedAs P s b (g j) i x) (P .forged))
         → v ≡ ltb i (P .n) && voteWay P (cluster P (suc t) .log) (suc t) s b (g j) i
-    new-votes i v e = e ∙ rw (votes-after i) (go (decLe (P .n) i))
-      where
-        go : Dec (P .n ≤ i)
-            → (ltb i (P .n) && (voteWay P (cluster P t .log) t s b (g j) i || ((not (eqb i b) && eqb (t + P .delay t i b) s) && member (g j) (end P t i .sent .votes))))
-            || (ltb i (P .n) && any (λ (x : Forgery). eqb (x .at) t && forgedAs P s b (g j) i x) (P .forged))
-            ≡ ltb i (P .n) && voteWay P (cluster P (suc t) .log) (suc t) s b (g j) i
-        go (yes l) = rw (le-ltb i (P .n) l)
-        go (no l) = rw (lt-ltb i (P .n) (omega arith)) (sym (states-laws.WayLaws.votes-next P G t s b (g j) i (omega arith)))
+    new-votes i v e =
+        e ∙ rw (votes-after i, ← and-or-distrib-left) (states-laws.WayLaws.below i (P .n) _ _ (λ l. sym (states-laws.WayLaws.votes-next P G t s b (g j) i l)))

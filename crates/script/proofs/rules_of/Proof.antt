@@ -4,8 +4,8 @@ use borrow.Author.Needs.{needs}
 use Rattle.script.proofs.rules_of.Statement.{statement}
 use Rattle.script.proofs.rules_of.Tie as tie
 
-returns : tie.Need-returns
-returns c = record { n = refl; delta = refl; two = rw (c .before .before .k .ensures .0); echo = c .before .echo-quorum .ensures; reply = c .reply-quorum .ensures }
-
 pub rules-of-spec : {M : Type 1} → statement M
-rules-of-spec = tie.close (tie.spec (search needs) (search needs) (search needs) (search needs) returns)
+rules-of-spec =
+    tie.close
+    (tie.spec (search needs) (search needs) (search needs) (search needs)
+    (λ c. record { n = refl; delta = refl; two = rw (c .before .before .k .ensures .0); echo = c .before .echo-quorum .ensures; reply = c .reply-quorum .ensures }))

@@ -71,9 +71,9 @@ returns c =
     let asks : ℕ → Bool = asksAt (F .arrivals .requests) (s .args .b) in
     let live : ℕ → Bool = λ x. bit x (F .arrivals .live) in
     let votes = sets (v .result .fresh) in
-    let o₁ : Step = record { server = first .if1 .x; row = first .if1 .row } in
-    let o₂ : Step = record { server = second .if2 .x; row = second .if2 .row } in
-    let o₃ : Step = record { server = third .if3 .x; row = third .if3 .row } in
+    let o₁ : Step = record { server = first .if1 .x; sent = first .if1 .sent } in
+    let o₂ : Step = record { server = second .if2 .x; sent = second .if2 .sent } in
+    let o₃ : Step = record { server = third .if3 .x; sent = third .if3 .sent } in
     let calm : Type 0 = cluster-specs.Settled.Settled (F .known .m) (F .rules .echo) (F .rules .reply) (server (s .args .s)) in
     let one : calm → both o₁ ≡ stageOne (F .known .m) (F .rules .echo) (F .rules .reply) w votes asks live (server (v .result)) = λ K. elim (first .if1 .came) [
       | inl y ↦ let alive : isFaulty (statusOf (v .result .status)) ≡ false = sym (faulty .ensures) ∙ not-true _ (y .0 .taken) in

@@ -1,9 +1,10 @@
 -- `script::forged::next_start` meets its contract. The loop's invariant: the entries passed were sent before the tick.
 use Prim.Native.Nat.{ℕ, _-_, _≤_, _<_}
+use native.Mathlib.Nat.{add-zero}
 use native.Mathlib.Omega.{arith}
+use native.Mathlib.Decide.{ℕ-discrete}
 use borrow.Author.Needs.{needs}
 use Rattle.script.specs.Forged.{entryAt}
-use Rattle.script.proofs.Entries.{start-found, start-passed, start-last}
 use Rattle.script.proofs.forged.next_start.Statement.{statement}
 use Rattle.script.proofs.forged.next_start.Tie as tie
 
@@ -13,26 +14,15 @@ Inv-loop work e count u i₀ i = (e ≤ i) × (i ≤ count) × ((k : ℕ) → e 
 abbrev μ-loop : tie.MeasureT-loop
 μ-loop work e count u i₀ i = count - i
 
-loop-holds : tie.Need-loop-holds Inv-loop μ-loop
-loop-holds c = (search needs, search needs, λ k a b. absurd (omega arith))
-
-returns : tie.Need-returns Inv-loop μ-loop
-returns c =
-    let h = c .before .before .before .loop in
-    let a = c .before .before .before .before .args in
-    (h .inv .0, start-found (a .work .now) (a .e) (a .count) (a .u) (h .i) (h .inv .0) (h .inv .2) (c .before .before .loop-test .taken) (c .if1 .taken))
-
 loop-again : tie.Need-loop-again Inv-loop μ-loop
 loop-again c =
     let h = c .before .before .before .loop in
-    let a = c .before .before .before .before .args in
-    (omega arith, omega arith, start-passed (a .work .now) (a .e) (a .count) (a .u) (h .i) (h .inv .0) (h .inv .2) (c .if1 .left))
-
-returns-2 : tie.Need-returns-2 Inv-loop μ-loop
-returns-2 c =
-    let h = c .before .loop in
-    let a = c .before .before .args in
-    (omega arith, start-last (a .work .now) (a .e) (a .count) (a .u) (h .i) (h .inv .0) (h .inv .2) (c .loop-test .left) (h .inv .1))
+    (omega arith, omega arith, λ k a b. elim (ℕ-discrete k (h .i)) [ yes y ↦ rw (y, add-zero) (c .if1 .left) | no d ↦ h .inv .2 k a (omega arith) ])
 
 pub next-start-spec : {M : Type 1} → statement M
-next-start-spec = tie.close (tie.spec Inv-loop μ-loop loop-holds (search needs) (search needs) (search needs) returns (search needs) (search needs) loop-again returns-2)
+next-start-spec =
+    tie.close
+    (tie.spec Inv-loop μ-loop (λ c. (search needs, search needs, λ k a b. absurd (omega arith))) (search needs) (search needs) (search needs)
+    (λ c. let h = c .before .before .before .loop in (h .inv .0, record { few = omega arith; below = h .inv .2; next = λ m. rw add-zero (c .if1 .taken) }))
+    (search needs) (search needs) loop-again
+    (λ c. (omega arith, record { few = omega arith; below = λ k a b. c .before .loop .inv .2 k a (omega arith); next = λ m. absurd (omega arith) })))

@@ -21,9 +21,6 @@ Inv-loop t delta ends fresh r₀ x₀ r x = (1 ≤ x) × (x ≤ requesters) × (
 abbrev μ-loop : tie.MeasureT-loop
 μ-loop t delta ends fresh r₀ x₀ r x = requesters - x
 
-loop-holds : tie.Need-loop-holds Inv-loop μ-loop
-loop-holds c = (search needs, search needs, set-none _)
-
 loop-again : tie.Need-loop-again Inv-loop μ-loop
 loop-again c =
     let h = c .before .before .before .loop in
@@ -34,12 +31,10 @@ loop-again c =
       | inr w ↦ (omega arith, omega arith, rw (w .1) (set-same g (h .r) (h .x) (h .inv .2) (rw (lt-ltb 0 (h .x) (h .inv .0), ← c .before .size-of .ensures .0, eq-eqb _ _ (w .0 .left)))))
     ]
 
-returns : tie.Need-returns Inv-loop μ-loop
-unfolding liveAt
-returns c = let e : c .before .loop .x ≡ requesters = omega (arith, c .loop-test .left, c .before .loop .inv .1) in fun-ext (rw e at (c .before .loop .inv .2))
-
 pub live-spec : {M : Type 1} → statement M
+unfolding liveAt
 live-spec =
     tie.close
-    (tie.spec Inv-loop μ-loop (search needs) (search needs) loop-holds (search needs) (search needs) (search needs) (search needs) (search needs) (search needs)
-    (search needs) (search needs) loop-again returns)
+    (tie.spec Inv-loop μ-loop (search needs) (search needs) (λ c. (search needs, search needs, set-none _)) (search needs) (search needs) (search needs) (search needs)
+    (search needs) (search needs) (search needs) (search needs) loop-again
+    (λ c. let e : c .before .loop .x ≡ requesters = omega (arith, c .loop-test .left, c .before .loop .inv .1) in fun-ext (rw e at (c .before .loop .inv .2))))

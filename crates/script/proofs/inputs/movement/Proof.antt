@@ -8,20 +8,12 @@ use borrow.Author.Needs.{needs}
 use Rattle.script.proofs.inputs.movement.Statement.{statement}
 use Rattle.script.proofs.inputs.movement.Tie as tie
 
-returns : tie.Need-returns
-returns c = record { moving = sym (ne-eqb _ _ (c .if1 .taken)); faulty = λ e. let z : _≡_ {A = ℕ} 0 1 = cc in absurd (omega arith) }
-
-mul-field : tie.Need-mul-field
-mul-field c = omega (arith, div-le-self (c .before .before .args .t) (c .before .before .args .period))
-
-add-field : tie.Need-add-field
-add-field c = omega (arith, div-le-self (c .before .before .args .t) (c .before .before .args .period))
-
-field-requires : tie.Need-field-requires
-field-requires c κs = (omega arith, c .before .before .pre .1, omega (arith, div-le-self (c .before .before .args .t) (c .before .before .args .period)))
-
-returns-2 : tie.Need-returns-2
-returns-2 c = record { moving = sym (eq-eqb _ _ (c .before .if1 .left)); faulty = λ e. c .field .ensures .0 }
-
 pub movement-spec : {M : Type 1} → statement M
-movement-spec = tie.close (tie.spec (search needs) returns (search needs) (search needs) mul-field add-field field-requires (search needs) returns-2)
+movement-spec =
+    tie.close
+    (tie.spec (search needs)
+    (λ c. record { moving = sym (ne-eqb _ _ (c .if1 .taken)); faulty = λ e. let z : _≡_ {A = ℕ} 0 1 = cc in absurd (omega arith) })
+    (search needs) (search needs) (λ c. omega (arith, div-le-self (c .before .before .args .t) (c .before .before .args .period)))
+    (λ c. omega (arith, div-le-self (c .before .before .args .t) (c .before .before .args .period)))
+    (λ c κs. (omega arith, c .before .before .pre .1, omega (arith, div-le-self (c .before .before .args .t) (c .before .before .args .period))))
+    (search needs) (λ c. record { moving = sym (eq-eqb _ _ (c .before .if1 .left)); faulty = λ e. c .field .ensures .0 }))

@@ -16,16 +16,14 @@ Inv-loop work t r₀ p₀ r p = (p ≤ requesters) × (length r ≡ requesters) 
 abbrev μ-loop : tie.MeasureT-loop
 μ-loop work t r₀ p₀ r p = requesters - p
 
-loop-holds : tie.Need-loop-holds Inv-loop μ-loop
-loop-holds c = (search needs, search needs, λ k l. absurd (omega arith))
-
 loop-again : tie.Need-loop-again Inv-loop μ-loop
 loop-again c =
     let h = c .before .before .loop in
-    (omega arith, search needs, each-more (λ k v. v ≡ reachedOf (c .before .before .before .before .args .work .now) (c .before .before .before .before .args .t) k) (h .r) (h .p) _ (omega arith) (c .reached .ensures) (h .inv .2))
-
-returns : tie.Need-returns Inv-loop μ-loop
-returns c = record { each = λ p l. c .before .loop .inv .2 p (omega (arith, c .loop-test .left)) }
+    let a = c .before .before .before .before .args in
+    (omega arith, search needs, each-more (λ k v. v ≡ reachedOf (a .work .now) (a .t) k) (h .r) (h .p) _ (omega arith) (c .reached .ensures) (h .inv .2))
 
 pub reached-spec : {M : Type 1} → statement M
-reached-spec = tie.close (tie.spec Inv-loop μ-loop loop-holds (search needs) (search needs) (search needs) (search needs) (search needs) loop-again returns)
+reached-spec =
+    tie.close
+    (tie.spec Inv-loop μ-loop (λ c. (search needs, search needs, λ k l. absurd (omega arith))) (search needs) (search needs) (search needs) (search needs) (search needs)
+    loop-again (λ c. record { each = λ p l. c .before .loop .inv .2 p (omega (arith, c .loop-test .left)) }))

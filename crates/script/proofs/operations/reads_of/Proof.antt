@@ -1,9 +1,9 @@
 -- `script::operations::reads_of` meets its contract. The loop's invariant: the tables have the reads among the operations passed.
 use mathlib.Core.Logic.{inl, inr}
-use mathlib.Core.Path.{_≡_, sym, _∙_}
+use mathlib.Core.Path.{_≡_}
 use Prim.Native.Nat.{_-_, _≤_}
 use native.Mathlib.Omega.{arith}
-use lib.ListN.{length, replicate}
+use lib.ListN.{length, length-set}
 use borrow.Author.Tests.{ne-eqb}
 use borrow.Author.Needs.{needs}
 use Rattle.register.specs.Lists.{tab}
@@ -19,31 +19,26 @@ Inv-loop plan at count begun₀ reader₀ m₀ i₀ begun reader m i = (i ≤ co
 abbrev μ-loop : tie.MeasureT-loop
 μ-loop plan at count begun₀ reader₀ m₀ i₀ begun reader m i = count - i
 
-loop-holds : tie.Need-loop-holds Inv-loop μ-loop
-loop-holds c =
-    (search needs, search needs, search needs, search needs, read-in-none (opAt (c .before .args .plan .now) (c .before .args .at)) (replicate 255 0) (replicate 255 0))
-
 loop-again : tie.Need-loop-again Inv-loop μ-loop
 loop-again c =
     let h = c .before .before .before .before .loop in
-    let s = c .before .before .before .before .before .before .args .plan .now in
-    let at = c .before .before .before .before .before .before .args .at in
-    let R = c .before .before .before .before .before .before .pre in
+    let s = c .before .before .before .before .before .before in
     let E = c .before .before .read .ensures in
+    let op = opAt (s .args .plan .now) (s .args .at) in
     elim (c .if1 .came) [
-      | inl w ↦ read-stored s at _ R (h .i) (c .before .before .before .loop-test .taken) (h .begun) (h .reader) (h .m) (h .inv .4) _ _ _ _ _ (h .inv .1) (h .inv .2) (h .inv .3)
-          (rw (← E .party) (ne-eqb _ 0 (w .0 .taken))) (E .tick) (E .party) (w .1) (w .2) (w .3)
-      | inr w ↦ read-left s at _ R (h .i) (c .before .before .before .loop-test .taken) (h .begun) (h .reader) (h .m) (h .inv .4) _ _ _ (h .inv .1) (h .inv .2) (h .inv .3)
-          (sym (E .party) ∙ w .0 .left) (w .1) (w .2) (w .3)
+      | inl w ↦ rw (w .1, w .2, w .3, length-set, length-set, E .tick, E .party) (
+        omega arith,
+        h .inv .1,
+        h .inv .2,
+        omega arith,
+        read-stored op (h .i) (h .begun) (h .reader) (h .m) (h .inv .4) (rw (← E .party) (ne-eqb _ 0 (w .0 .taken))) (h .inv .1) (h .inv .2) (omega (arith, s .pre .few)),
+      )
+      | inr w ↦ rw (w .1, w .2, w .3) (omega arith, h .inv .1, h .inv .2, omega arith, read-left op (h .i) (h .begun) (h .reader) (h .m) (h .inv .4) (rw (E .party) at (w .0 .left)))
     ]
-
-returns : tie.Need-returns Inv-loop μ-loop
-returns c =
-    let e : c .before .loop .i ≡ c .before .before .before .args .count = omega arith in
-    rw e at (c .before .loop .inv .4)
 
 pub reads-of-spec : {M : Type 1} → statement M
 reads-of-spec =
     tie.close
-    (tie.spec Inv-loop μ-loop loop-holds (search needs) (search needs) (search needs) (search needs) (search needs) (search needs) (search needs) (search needs)
-    loop-again returns)
+    (tie.spec Inv-loop μ-loop (λ c. (search needs, search needs, search needs, search needs, read-in-none _ _ _)) (search needs) (search needs) (search needs)
+    (search needs) (search needs) (search needs) (search needs) (search needs) loop-again
+    (λ c. let e : c .before .loop .i ≡ c .before .before .before .args .count = omega arith in rw e at (c .before .loop .inv .4)))

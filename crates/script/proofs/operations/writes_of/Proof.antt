@@ -1,9 +1,9 @@
 -- `script::operations::writes_of` meets its contract. The loop's invariant: the tables have the writes among the operations passed. A write more finds a number left.
-use mathlib.Core.Path.{_≡_, refl, sym, _∙_}
+use mathlib.Core.Path.{_≡_, refl}
 use mathlib.Core.Logic.{inl, inr}
-use Prim.Native.Nat.{ℕ, _+_, _*_, _-_, _≤_}
+use Prim.Native.Nat.{ℕ, _+_, _*_, _-_, _≤_, _<_}
 use native.Mathlib.Omega.{arith}
-use lib.ListN.{set, replicate, length}
+use lib.ListN.{length, getD, replicate, length-set}
 use borrow.Author.Tests.{ne-eqb}
 use borrow.Author.Needs.{needs}
 use Rattle.bits.proofs.Laws.{field-lt}
@@ -11,7 +11,7 @@ use Rattle.register.specs.Lists.{tab}
 use Rattle.register.proofs.Lists.{getD-replicate-same}
 use Rattle.plan.specs.Parts.{writesFrom}
 use Rattle.script.specs.Operations.{opAt, Written}
-use Rattle.script.proofs.Tables.{set-below}
+use Rattle.script.proofs.Tables.{each-stored}
 use Rattle.script.proofs.Storing.{number-left, write-stored, write-left, written-none}
 use Rattle.script.proofs.operations.writes_of.Statement.{statement}
 use Rattle.script.proofs.operations.writes_of.Tie as tie
@@ -25,45 +25,40 @@ abbrev μ-loop : tie.MeasureT-loop
 left : (c : tie.Then1 Inv-loop μ-loop) → c .before .before .before .before .loop .m ≤ 64
 left c =
     let h = c .before .before .before .before .loop in
-    number-left (c .before .before .before .before .before .before .args .plan .now) (c .before .before .before .before .before .before .args .at) _
-    (c .before .before .before .before .before .before .pre .0) (h .i) (c .before .before .before .loop-test .taken) _ (h .values) (h .begun) (h .m) (h .inv .3) (sym (c .before .before .read .ensures .party) ∙ c .if1 .taken)
+    let s = c .before .before .before .before .before .before in
+    number-left (opAt (s .args .plan .now) (s .args .at)) (h .i) _ (h .values) (h .begun) (h .m) (h .inv .3) _ (c .before .before .before .loop-test .taken) (s .pre .0 .writes)
+    (rw (c .before .before .read .ensures .party) at (c .if1 .taken))
 
 loop-holds : tie.Need-loop-holds Inv-loop μ-loop
-loop-holds c = (
-  search needs,
-  search needs,
-  search needs,
-  written-none (opAt (c .before .args .plan .now) (c .before .args .at)) _ (set (replicate 65 0) 0 (c .before .args .initial)) (replicate 65 0) refl
-      (set-below (replicate 65 0) 0 (c .before .args .initial) 65536 (c .before .pre .1) (λ j. rw (getD-replicate-same {A = ℕ} 65 j 0) (omega arith))),
-)
-
-array-write-values-2 : tie.Need-array-write-values-2 Inv-loop μ-loop
-array-write-values-2 c = let h : c .before .before .before .before .loop .m ≤ 64 = left c in search needs
-
-array-write-begun : tie.Need-array-write-begun Inv-loop μ-loop
-array-write-begun c = let h : c .before .before .before .before .loop .m ≤ 64 = left c in search needs
+loop-holds c =
+    let a = c .before .args in
+    let zeros : (j : ℕ) → getD (replicate 65 0) j 0 < 65536 = λ j. rw (getD-replicate-same {A = ℕ} 65 j 0) (omega arith) in (
+      search needs,
+      search needs,
+      search needs,
+      written-none (opAt (a .plan .now) (a .at)) _ _ _ refl (each-stored (λ j y. y < 65536) (replicate 65 0) 0 (a .initial) (search needs) (c .before .pre .1) (λ j d. zeros j)),
+    )
 
 loop-again : tie.Need-loop-again Inv-loop μ-loop
 loop-again c =
     let h = c .before .before .before .before .loop in
-    let s = c .before .before .before .before .before .before .args .plan .now in
-    let at = c .before .before .before .before .before .before .args .at in
-    let R = c .before .before .before .before .before .before .pre .0 in
+    let s = c .before .before .before .before .before .before in
     let E = c .before .before .read .ensures in
+    let op = opAt (s .args .plan .now) (s .args .at) in
     elim (c .if1 .came) [
-      | inl w ↦ write-stored s at _ R (h .i) (c .before .before .before .loop-test .taken) _ (h .values) (h .begun) (h .m) (h .inv .3) _ _ _ _ _ (h .inv .1) (h .inv .2)
-          (sym (E .party) ∙ w .0 .taken) (E .value) (rw (E .value) (field-lt s (at + 26 * h .i + 10) 16)) (E .tick) (w .1) (w .2) (w .3)
-      | inr w ↦ write-left s at _ R (h .i) (c .before .before .before .loop-test .taken) _ (h .values) (h .begun) (h .m) (h .inv .3) _ _ _ (h .inv .1) (h .inv .2)
-          (rw (← E .party) (ne-eqb _ 0 (w .0 .left))) (w .1) (w .2) (w .3)
+      | inl w ↦ rw (w .1, w .2, w .3, length-set, length-set, E .value, E .tick) (
+        omega arith,
+        h .inv .1,
+        h .inv .2,
+        write-stored op (h .i) _ (h .values) (h .begun) (h .m) (h .inv .3) _ (c .before .before .before .loop-test .taken) (s .pre .0 .writes) (rw (E .party) at (w .0 .taken))
+            (field-lt (s .args .plan .now) (s .args .at + 26 * h .i + 10) 16) (h .inv .1) (h .inv .2),
+      )
+      | inr w ↦ rw (w .1, w .2, w .3) (omega arith, h .inv .1, h .inv .2, write-left op (h .i) _ (h .values) (h .begun) (h .m) (h .inv .3) (rw (← E .party) (ne-eqb _ 0 (w .0 .left))))
     ]
-
-returns : tie.Need-returns Inv-loop μ-loop
-returns c =
-    let e : c .before .loop .i ≡ c .before .before .before .args .count = omega arith in
-    rw e at (c .before .loop .inv .3)
 
 pub writes-of-spec : {M : Type 1} → statement M
 writes-of-spec =
     tie.close
-    (tie.spec Inv-loop μ-loop (search needs) loop-holds (search needs) (search needs) (search needs) (search needs) array-write-values-2 array-write-begun
-    (search needs) (search needs) (search needs) loop-again returns)
+    (tie.spec Inv-loop μ-loop (search needs) loop-holds (search needs) (search needs) (search needs) (search needs) (λ c. let h = left c in search needs)
+    (λ c. let h = left c in search needs) (search needs) (search needs) (search needs) loop-again
+    (λ c. let e : c .before .loop .i ≡ c .before .before .before .args .count = omega arith in rw e at (c .before .loop .inv .3)))

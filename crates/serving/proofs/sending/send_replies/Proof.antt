@@ -68,7 +68,7 @@ same-length c = c .before .loop .inv .2 .rest .size
 returns : tie.Need-returns Inv-loop μ-loop
 returns c = let a = c .before .before .before .before .before .args in
     let e : c .before .loop .y ≡ 5 = omega (arith, c .before .loop .inv .1, c .loop-test .left) in
-    replies-last _ (a .links) (a .n) (a .t) (a .t8) (a .i) (a .row) _ _ (rw e at (c .before .loop .inv .2))
+    replies-last _ (a .links) (a .n) (a .t) (a .t8) (a .i) (a .sent) _ _ (rw e at (c .before .loop .inv .2))
 
 pub send-replies-spec : {M : Type 1} → statement M
 send-replies-spec =

@@ -9,7 +9,7 @@ use Rattle.serving.proofs.sending.send_votes.Statement.{statement}
 use Rattle.serving.proofs.sending.send_votes.Tie as tie
 
 returns : tie.Need-returns
-returns c = let a = c .before .before .before .before .args in votes-nobody _ (a .links) (a .n) (a .t) (a .ends) (a .i) (a .row) _ (sym (not-true _ (c .if1 .taken)) ∙ c .before .is-voting .ensures)
+returns c = let a = c .before .before .before .before .args in votes-nobody _ (a .links) (a .n) (a .t) (a .ends) (a .i) (a .sent) _ (sym (not-true _ (c .if1 .taken)) ∙ c .before .is-voting .ensures)
 
 row-bit-requires : tie.Need-row-bit-requires
 row-bit-requires c κs = let s = c .before .before .before .before in
@@ -42,7 +42,7 @@ returns-2 c = let s = c .before .before .before .before .before .before .before 
     let a = s .args in
     let S = c .before .before .before .before .before .before .before .before .before .before .of .ensures in
     let e = c .before .before .before .before .before .before .before .before .before .before .before .row-bit .ensures in
-    votes-echo _ (a .links) (a .n) (a .t) (a .ends) (a .i) (a .row) _ (rw e at S) _ _ (c .before .before .before .before .before .before .before .before .post-vote .ensures) _
+    votes-echo _ (a .links) (a .n) (a .t) (a .ends) (a .i) (a .sent) _ (rw e at S) _ _ (c .before .before .before .before .before .before .before .before .post-vote .ensures) _
     (c .before .before .before .before .before .if2 .taken) (c .before .before .post-votes .ensures)
 
 returns-3 : tie.Need-returns-3
@@ -50,7 +50,7 @@ returns-3 c = let s = c .before .before .before .before .before .before .before 
     let a = s .args in
     let S = c .before .before .before .before .before .of .ensures in
     let e = c .before .before .before .before .before .before .row-bit .ensures in
-    votes-plain _ (a .links) (a .n) (a .t) (a .ends) (a .i) (a .row) _ (rw e at S) _ _ (c .before .before .before .post-vote .ensures) (c .if2 .left)
+    votes-plain _ (a .links) (a .n) (a .t) (a .ends) (a .i) (a .sent) _ (rw e at S) _ _ (c .before .before .before .post-vote .ensures) (c .if2 .left)
 
 pub send-votes-spec : {M : Type 1} → statement M
 send-votes-spec =
