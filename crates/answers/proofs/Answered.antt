@@ -9,8 +9,8 @@ use native.Mathlib.Omega.{arith}
 use native.Mathlib.Decide.{decLe, ℕ-discrete}
 use lib.Dec.{T, ltb, leb, leb→le}
 use borrow.Author.Tests.{le-leb, lt-leb}
-use Rattle.register.specs.Lists.{count, filter, In}
-use Rattle.register.specs.Plan.{Plan, Write, Read, replyQuorum, readEnd}
+use Rattle.register.specs.Lists.{count, filter}
+use Rattle.register.specs.Plan.{Plan, Read, replyQuorum, readEnd}
 use Rattle.register.specs.Server.{Claim, has, pairsOf}
 use Rattle.register.specs.Reading.{Answer, notedBy, countIn, countOf, best, answerFrom, answerOf}
 use Rattle.register.proofs as register-laws
@@ -42,26 +42,17 @@ module _ (named : ℕ → ℕ → Bool) (reply : ℕ) where
 
   choice-more : (m : ℕ) → Cases m (highestOf named reply m) → Cases (suc m) (highestOf named reply (suc m))
   unfolding highestOf votes
-  choice-more m ih = go (decLe reply (votes named m)) ih
-    where
-      inner : (reply ≤ votes named m → ⊥) → (k : ℕ) → k < suc m → reply ≤ votes named k → k < m
-      inner h k l q = elim (ℕ-discrete k m) [ yes e ↦ absurd (h (rw e at q)) | no d ↦ omega arith ]
-
-      go : Dec (reply ≤ votes named m) → Cases m (highestOf named reply m) → Cases (suc m) (highestOf named reply (suc m))
-      go (yes h) ih = inl (m, record { below = omega arith; is = rw (le-leb reply (votes named m) h); enough = h; top = λ k l q. omega arith })
-      go (no h) (inl (j, F)) = inl (
-        j,
-        record {
-          below = omega (arith, F .below);
-          is = rw (lt-leb reply (votes named m) (omega arith)) (F .is);
-          enough = F .enough;
-          top = λ k l q. F .top k (inner h k l q) q;
-        },
-      )
-      go (no h) (inr N) = inr (record {
-        is = rw (lt-leb reply (votes named m) (omega arith)) (N .is);
-        none = λ k l q. N .none k (inner h k l q) q;
-      })
+  choice-more m ih = elim (decLe reply (votes named m)) [
+    | yes h ↦ inl (m, record { below = omega arith; is = rw (le-leb reply (votes named m) h); enough = h; top = λ k l q. omega arith })
+    | no h ↦ (
+        let still = lt-leb reply (votes named m) (omega arith) in
+        let inner : (k : ℕ) → k < suc m → reply ≤ votes named k → k < m = λ k l q. elim (ℕ-discrete k m) [ yes e ↦ absurd (h (rw e at q)) | no d ↦ omega arith ] in
+        elim ih [
+          | inl (j, F) ↦ inl (j, record { below = omega (arith, F .below); is = rw still (F .is); enough = F .enough; top = λ k l q. F .top k (inner k l q) q })
+          | inr N ↦ inr (record { is = rw still (N .is); none = λ k l q. N .none k (inner k l q) q })
+        ]
+        )
+  ]
 
   choice-cases : (m : ℕ) → Cases m (highestOf named reply m)
   unfolding highestOf
@@ -84,11 +75,10 @@ both-parts a p c e d = rw (← e, ← d)
 module _ (P : Plan) (g : ℕ → ℕ) (m : ℕ) (G : Good P) (K : Knows P g m) (r : Read) where
   -- a pair with a quorum is a known one
   quorum-known : (p : ℕ) → replyQuorum P ≤ countOf P r p → (j : ℕ) × (j < m) × (p ≡ g j)
-  quorum-known p h = go (register-laws.Genuine.genuine-cases P (readEnd P r) p (quorum-genuine P G r p h))
-    where
-      go : (p ≡ P .initial) ⊎ ((w : Write) × In w (P .writes) × (w .pair ≡ p) × (w .begun < readEnd P r)) → (j : ℕ) × (j < m) × (p ≡ g j)
-      go (inl e) = (0, K .first .0, e ∙ K .first .1)
-      go (inr (w, i, e, l)) = let k = K .write w i in (k .0, k .1, sym e ∙ k .2)
+  quorum-known p h = elim (register-laws.Genuine.genuine-cases P (readEnd P r) p (quorum-genuine P G r p h)) [
+    | inl e ↦ (0, K .first .0, e ∙ K .first .1)
+    | inr (w, i, e, l) ↦ (let k = K .write w i in (k .0, k .1, sym e ∙ k .2))
+  ]
 
   -- the answer, where the sets of servers are the claims noted
   module _ (named : ℕ → ℕ → Bool) (same : (j : ℕ) → j < m → votes named j ≡ countOf P r (g j)) where
@@ -105,11 +95,10 @@ module _ (P : Plan) (g : ℕ → ℕ) (m : ℕ) (G : Good P) (K : Knows P g m) (
 
     answer-chosen : answerOf P r ≡ answerBy g (highestOf named (replyQuorum P) m)
     unfolding answerBy
-    answer-chosen = go (choice-cases named (replyQuorum P) m)
-      where
-        go : Cases named (replyQuorum P) m (highestOf named (replyQuorum P) m) → answerOf P r ≡ answerBy g (highestOf named (replyQuorum P) m)
-        go (inl (j, F)) = rw (F .is) (found-answer j F)
-        go (inr N) = rw (N .is) (no-answer P (notedBy P r) (λ p h. let k = quorum-known p h in N .none (k .0) (k .1) (rw (same (k .0) (k .1), ← k .2) h)))
+    answer-chosen = elim (choice-cases named (replyQuorum P) m) [
+      | inl (j, F) ↦ rw (F .is) (found-answer j F)
+      | inr N ↦ rw (N .is) (no-answer P (notedBy P r) (λ p h. let k = quorum-known p h in N .none (k .0) (k .1) (rw (same (k .0) (k .1), ← k .2) h)))
+    ]
 
 -- the law of the code's answer: by known pair, the servers whose claim of it the read has noted
 module _ (P : Plan) (g : ℕ → ℕ) (m : ℕ) (G : Good P) (K : Knows P g m) (r : Read) (named : ℕ → ℕ → Bool)

@@ -1,16 +1,15 @@
 -- A request sent is the plan's, and those of several reads come one by one. It stands on the laws of requests.
 use mathlib.Core.Path.{_≡_, ap, _∙_}
-use mathlib.Core.Bool.{false, _&&_, cond, or-comm}
+use mathlib.Core.Bool.{_&&_, cond, or-comm}
 use mathlib.Core.List.{List}
 use Prim.Native.Nat.{ℕ, suc, _+_, _%_, _≤_}
 use native.Mathlib.Numerals.{add-one}
-use native.Mathlib.Omega.{arith}
-use native.Mathlib.Decide.{decLe}
-use lib.Dec.{eqb, leb, ltb, leb→le}
+use lib.Dec.{eqb, leb, ltb}
 use lib.ListN.{getD}
-use borrow.Author.Tests.{le-ltb, le-leb}
+use borrow.Author.Tests.{le-leb, lt-leb, ltb-true}
 use Rattle.register.specs.Lists.{anyUpTo}
 use Rattle.register.proofs as register-laws
+use Rattle.calendar.proofs.Laws.{under}
 use Rattle.calendar.specs as calendar-specs
 use Rattle.serving.specs as serving-specs
 use Rattle.serving.proofs.SendLaws.{link-at}
@@ -21,18 +20,14 @@ use Rattle.asking.specs.Asking.{askedBy, askedBetween, begins, WroteOn}
 module _ (plan : List ℕ) (links : serving-specs.declared.Links.Links) (n t : ℕ) where
   pub asked-sent : (p : ℕ) (s : calendar-specs.declared.Sending.Sending) → calendar-specs.Posts.Sent plan (serving-specs.Links.linkBit links t (n + p) 0) n t p s → (a r : List ℕ) → Asked a r (askedFirst s p (s .n)) → Asked a r (askedBy plan links n t p)
   unfolding askedBy
-  asked-sent p s S a r A = asked-eq a r _ (askedBy plan links n t p) A (λ u q b l. ap (λ (m : ℕ). ltb b m && (eqb q p && eqb (calendar-specs.Posts.arrivalOf s b % 16) (u % 16))) (S .servers) ∙ go u q b (decLe n b))
-    where
-      go : (u q b : ℕ) → Dec (n ≤ b) → ltb b n && (eqb q p && eqb (calendar-specs.Posts.arrivalOf s b % 16) (u % 16)) ≡ ltb b n && (eqb q p && eqb ((t + serving-specs.Links.delayAt plan links t (n + p) b) % 16) (u % 16))
-      go u q b (yes h) = rw (le-ltb b n h)
-      go u q b (no h) = rw (S .arrives b (omega arith), link-at links t (n + p) b)
+  asked-sent p s S a r A = asked-eq a r _ (askedBy plan links n t p) A (λ u q b l.
+      ap (λ (m : ℕ). ltb b m && (eqb q p && eqb (calendar-specs.Posts.arrivalOf s b % 16) (u % 16))) (S .servers)
+      ∙ under (ltb b n) _ _ (λ e. rw (S .arrives b (ltb-true b n e), link-at links t (n + p) b)))
 
   module _ (by : List ℕ) (from : ℕ) where
     pub between-none : (a : List ℕ) → Asked a a (askedBetween plan links n t by from from)
     unfolding askedBetween
-    between-none a = asked-none a _ (λ s q b. register-laws.Logic.T-iff _ false (λ y.
-        let (i, l, z) = register-laws.Counting.anyUpTo-e from (λ i. leb from i && askedBy plan links n t (getD by i 0) s q b) y in
-        absurd (let h = leb→le from i (register-laws.Logic.and-l (leb from i) _ z) in omega arith)) (λ y. absurd y))
+    between-none a = asked-none a _ (λ s q b. register-laws.Counting.none-up from _ (λ i l. rw (lt-leb from i l)))
 
     pub between-more : (a b c : List ℕ) (i : ℕ) → from ≤ i → Asked a b (askedBetween plan links n t by from i) → Asked b c (askedBy plan links n t (getD by i 0))
         → Asked a c (askedBetween plan links n t by from (i + 1))

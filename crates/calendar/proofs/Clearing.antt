@@ -7,12 +7,12 @@ use native.Mathlib.Omega.{arith}
 use native.Mathlib.Decide.{ℕ-discrete, decLe}
 use lib.Dec.{eqb, ltb, leb}
 use lib.ListN.{length, getD}
-use borrow.Author.Tests.{lt-ltb, le-ltb, le-leb, leb-true, ltb-true, ltb-false, eq-eqb, ne-eqb}
+use borrow.Author.Tests.{lt-ltb, le-ltb, le-leb, leb-true, eq-eqb, ne-eqb}
 use Rattle.register.proofs.Logic.{eqb-comm}
 use Rattle.calendar.specs.Bits.{putWord}
 use Rattle.calendar.specs.Layout.{calendarSize, cellsAt, places, rows, cellWord, lowOf, highOf, sender, receivers, rowOf}
 use Rattle.calendar.specs.View.{SamePast, Cleared, Empty, Zeroed}
-use Rattle.calendar.proofs.Laws.{bit-zero, put-length, put-byte, put-other, put-none, put-low, put-high, zeroed-word}
+use Rattle.calendar.proofs.Laws.{under, never, bit-zero, put-length, put-byte, put-other, put-none, put-low, put-high, zeroed-word}
 use Rattle.calendar.proofs.Posting.{same-cell}
 use Rattle.calendar.proofs.Stores.{same-row}
 
@@ -24,11 +24,7 @@ pub record EmptiedTo (a r : List ℕ) (row from to : ℕ) : Type 0 where
 
 -- no number is from b on and below b
 pub no-number : (b y : ℕ) → leb b y && ltb y b ≡ false
-no-number b y = go (leb b y) refl
-  where
-    go : (c : Bool) → leb b y ≡ c → c && ltb y b ≡ false
-    go true e = le-ltb y b (leb-true b y e)
-    go false e = refl
+no-number b y = never (leb b y) _ (λ e. le-ltb y b (leb-true b y e))
 
 pub emptied-none : (a : List ℕ) (row from : ℕ) → EmptiedTo a a row from from
 emptied-none a row from = record {
@@ -41,14 +37,13 @@ emptied-none a row from = record {
 out-more : (p : Bool) (from at y : ℕ) (s : Bool) → from ≤ at
     → not (p && eqb y at) && (not (p && (leb from y && ltb y at)) && s) ≡ not (p && (leb from y && ltb y (at + 1))) && s
 out-more false from at y s h = refl
-out-more true from at y s h = go (ℕ-discrete y at)
-  where
-    go : Dec (y ≡ at) → not (eqb y at) && (not (leb from y && ltb y at) && s) ≡ not (leb from y && ltb y (at + 1)) && s
-    go (yes e) = rw (eq-eqb y at e, le-leb from y (omega arith), lt-ltb y (at + 1) (omega arith))
-    go (no d) = rw (ne-eqb y at d) (elim (decLe y at) [
-      | yes l ↦ rw (lt-ltb y at (omega arith), lt-ltb y (at + 1) (omega arith))
-      | no l ↦ rw (le-ltb y at (omega arith), le-ltb y (at + 1) (omega arith))
-    ])
+out-more true from at y s h = elim (ℕ-discrete y at) [
+  | yes e ↦ rw (eq-eqb y at e, le-leb from y (omega arith), lt-ltb y (at + 1) (omega arith))
+  | no d ↦ rw (ne-eqb y at d) (elim (decLe y at) [
+    | yes l ↦ rw (lt-ltb y at (omega arith), lt-ltb y (at + 1) (omega arith))
+    | no l ↦ rw (le-ltb y at (omega arith), le-ltb y (at + 1) (omega arith))
+  ])
+]
 
 -- of the rows of a tick, that of one receiver more is out
 pub row-more : (t from b x : ℕ) (s : Bool) → x < rows → from ≤ b → b < receivers
@@ -72,15 +67,10 @@ emptied-more a r row from at hr ha hf size E = record {
 
 -- the pairs from `from` on below the later of two numbers
 later : (from to y : ℕ) → leb from y && ltb y (max from to) ≡ leb from y && ltb y to
-later from to y = go (leb from y) refl
-  where
-    same : from ≤ y → (b : Bool) → ltb y to ≡ b → ltb y (max from to) ≡ b
-    same h true e = lt-ltb y (max from to) (omega (arith, ltb-true y to e))
-    same h false e = le-ltb y (max from to) (omega (arith, ltb-false y to e))
-
-    go : (b : Bool) → leb from y ≡ b → b && ltb y (max from to) ≡ b && ltb y to
-    go true e = same (leb-true from y e) (ltb y to) refl
-    go false e = refl
+later from to y = under (leb from y) _ _ (λ e. let h = leb-true from y e in elim (decLe to y) [
+  | yes l ↦ rw (le-ltb y to l, le-ltb y (max from to) (omega arith))
+  | no l ↦ rw (lt-ltb y to (omega arith), lt-ltb y (max from to) (omega arith))
+])
 
 pub cleared : (a r : List ℕ) (row : ℕ) → row < rows → calendarSize ≤ length r → EmptiedTo a r row (lowOf a row) (max (lowOf a row) (highOf a row))
     → Cleared a (putWord r row 0) row

@@ -1,6 +1,6 @@
 -- General laws: tests, sets kept as the bits of a number, and words of two bytes after a store. They stand on the library's laws of binary digits.
 use mathlib.Core.Path.{_≡_, refl, sym, _∙_}
-use mathlib.Core.Bool.{Bool, true, false, not, _&&_, _||_, or-false}
+use mathlib.Core.Bool.{Bool, true, false, not, _&&_, _||_, and-false, or-false}
 use mathlib.Core.List.{List}
 use Prim.Native.Nat.{ℕ, zero, suc, _+_, _*_, _/_, _%_, _^_, _≤_, _<_}
 use native.Mathlib.Nat.{pow-suc}
@@ -9,7 +9,7 @@ use lib.Dec.{eqb, ltb, eqb·zero-suc, eqb·suc-zero, eqb·suc-suc}
 use lib.ListN.{length, getD, set, length-set}
 use lib.Seq.{getD-set-same, getD-set-other, lt-length-set}
 use lib.Bits.{bitOr, or-shr, or-mod}
-use borrow.Author.Tests.{lt-ltb, le-ltb, eqb-true, eqb-false, eq-eqb, ne-eqb}
+use borrow.Author.Tests.{lt-ltb, le-ltb, eq-eqb, ne-eqb}
 use Rattle.calendar.specs.Bits.{bit, wordOf, putWord}
 use Rattle.calendar.specs.View.{Zeroed}
 use native.Mathlib.Decide.{ℕ-discrete, decLe}
@@ -20,29 +20,46 @@ pub or-either : (C : Type 0) (a b : Bool) → a || b ≡ true → (a ≡ true �
 or-either C true b e f g = f refl
 or-either C false b e f g = g e
 
+-- two tests agree beside a third, if they do where that holds
+pub under : (c x y : Bool) → (c ≡ true → x ≡ y) → c && x ≡ c && y
+under true x y h = h refl
+under false x y h = refl
+
+pub never : (c x : Bool) → (c ≡ true → x ≡ false) → c && x ≡ false
+never c x h = under c x false h ∙ and-false c
+
+-- a pair of numbers as one number
+pub eqb-both : (x y p q r s : ℕ) → (x ≡ y → (p ≡ q) × (r ≡ s)) → (p ≡ q → r ≡ s → x ≡ y) → eqb x y ≡ eqb p q && eqb r s
+eqb-both x y p q r s f g = elim (ℕ-discrete p q) [
+  | no d ↦ rw (ne-eqb p q d, ne-eqb x y (λ e. d (f e .0)))
+  | yes e ↦ rw (eq-eqb p q e) (elim (ℕ-discrete r s) [ yes h ↦ rw (eq-eqb r s h, eq-eqb x y (g e h)) | no d ↦ rw (ne-eqb r s d, ne-eqb x y (λ k. d (f k .1))) ])
+]
+
 -- one number more
 pub ltb-more : (k i : ℕ) (h : Bool) → (ltb k i && h) || (eqb k i && h) ≡ ltb k (i + 1) && h
-ltb-more k i h = go (decLe k i) (ℕ-discrete k i)
-  where
-    go : Dec (k ≤ i) → Dec (k ≡ i) → (ltb k i && h) || (eqb k i && h) ≡ ltb k (i + 1) && h
-    go l (yes e) = rw (lt-ltb k (i + 1) (omega arith), le-ltb k i (omega arith), eq-eqb k i e)
-    go (yes l) (no d) = rw (lt-ltb k (i + 1) (omega arith), lt-ltb k i (omega arith), ne-eqb k i d) (or-false h)
-    go (no l) (no d) = rw (le-ltb k (i + 1) (omega arith), le-ltb k i (omega arith), ne-eqb k i d)
+ltb-more k i h = elim (ℕ-discrete k i) [
+  | yes e ↦ rw (lt-ltb k (i + 1) (omega arith), le-ltb k i (omega arith), eq-eqb k i e)
+  | no d ↦ rw (ne-eqb k i d, or-false (ltb k i && h)) (elim (decLe k i) [
+    | yes l ↦ rw (lt-ltb k (i + 1) (omega arith), lt-ltb k i (omega arith))
+    | no l ↦ rw (le-ltb k (i + 1) (omega arith), le-ltb k i (omega arith))
+  ])
+]
 
 -- ---- sets
 
-digit-or : (x y : ℕ) → x < 2 → y < 2 → eqb (bitOr x y) 1 ≡ eqb x 1 || eqb y 1
-digit-or zero zero h g = refl
-digit-or zero (suc zero) h g = refl
-digit-or (suc zero) zero h g = refl
-digit-or (suc zero) (suc zero) h g = refl
-digit-or zero (suc (suc y)) h g = absurd (omega arith)
-digit-or (suc zero) (suc (suc y)) h g = absurd (omega arith)
-digit-or (suc (suc x)) y h g = absurd (omega arith)
+-- what holds of all pairs of binary digits
+pub by-digits : (Q : ℕ → ℕ → Type 0) → Q 0 0 → Q 0 1 → Q 1 0 → Q 1 1 → (x y : ℕ) → x < 2 → y < 2 → Q x y
+by-digits Q a b c d zero zero h g = a
+by-digits Q a b c d zero (suc zero) h g = b
+by-digits Q a b c d (suc zero) zero h g = c
+by-digits Q a b c d (suc zero) (suc zero) h g = d
+by-digits Q a b c d zero (suc (suc y)) h g = absurd (omega arith)
+by-digits Q a b c d (suc zero) (suc (suc y)) h g = absurd (omega arith)
+by-digits Q a b c d (suc (suc x)) y h g = absurd (omega arith)
 
 pub bit-or : (k a b : ℕ) → bit k (bitOr a b) ≡ bit k a || bit k b
 unfolding bit
-bit-or zero a b = rw (or-mod a b 1) (digit-or (a % 2) (b % 2) (omega arith) (omega arith))
+bit-or zero a b = rw (or-mod a b 1) (by-digits (λ x y. eqb (bitOr x y) 1 ≡ eqb x 1 || eqb y 1) refl refl refl refl (a % 2) (b % 2) (omega arith) (omega arith))
 bit-or (suc k) a b = rw (or-shr a b 1) (bit-or k (a / 2) (b / 2))
 
 pub bit-zero : (k : ℕ) → bit k 0 ≡ false
@@ -61,9 +78,6 @@ bit-pow (suc k) (suc i) = let e : 2 ^ suc i / 2 ≡ 2 ^ i = omega (arith, pow-su
 -- ---- two bytes stored, one after the other
 
 module _ (s : List ℕ) (at x y : ℕ) where
-  pub two-length : length (set (set s at x) (at + 1) y) ≡ length s
-  two-length = simp length-set
-
   pub two-other : (k : ℕ) → (k ≡ at → ⊥) → (k ≡ at + 1 → ⊥) → getD (set (set s at x) (at + 1) y) k 0 ≡ getD s k 0
   two-other k h g = getD-set-other (set s at x) (at + 1) k y 0 g ∙ getD-set-other s at k x 0 h
 
@@ -81,14 +95,9 @@ pub word-same : (a r : List ℕ) (w : ℕ) → getD r (2 * w) 0 ≡ getD a (2 * 
 unfolding wordOf
 word-same a r w e d = rw (e, d)
 
--- a word whose bytes are 0
-pub word-none : (r : List ℕ) (w : ℕ) → getD r (2 * w) 0 ≡ 0 → getD r (2 * w + 1) 0 ≡ 0 → wordOf r w ≡ 0
-unfolding wordOf
-word-none r w e d = rw (e, d)
-
 pub put-length : (s : List ℕ) (w x : ℕ) → length (putWord s w x) ≡ length s
 unfolding putWord
-put-length s w x = two-length s (2 * w) (x % 256) (x / 256)
+put-length s w x = simp length-set
 
 -- a byte of another word
 pub put-byte : (s : List ℕ) (w x k : ℕ) → (k ≡ 2 * w → ⊥) → (k ≡ 2 * w + 1 → ⊥) → getD (putWord s w x) k 0 ≡ getD s k 0
@@ -116,19 +125,17 @@ put-other s w x v h =
 -- i is put into the set at word w
 pub put-member : (s : List ℕ) (w i v k : ℕ) → 2 * w + 1 < length s
     → bit k (wordOf (putWord s w (bitOr (wordOf s w) (2 ^ i))) v) ≡ bit k (wordOf s v) || (eqb v w && eqb k i)
-put-member s w i v k h = go (eqb v w) refl
-  where
-    go : (b : Bool) → eqb v w ≡ b → bit k (wordOf (putWord s w (bitOr (wordOf s w) (2 ^ i))) v) ≡ bit k (wordOf s v) || (b && eqb k i)
-    go true e = rw (eqb-true v w e, put-here s w (bitOr (wordOf s w) (2 ^ i)) h, bit-or k (wordOf s w) (2 ^ i), bit-pow k i)
-    go false e = rw (put-other s w (bitOr (wordOf s w) (2 ^ i)) v (eqb-false v w e)) (sym (or-false (bit k (wordOf s v))))
+put-member s w i v k h = elim (ℕ-discrete v w) [
+  | yes e ↦ rw (eq-eqb v w e, e, put-here s w (bitOr (wordOf s w) (2 ^ i)) h, bit-or k (wordOf s w) (2 ^ i), bit-pow k i)
+  | no d ↦ rw (ne-eqb v w d, put-other s w (bitOr (wordOf s w) (2 ^ i)) v d) (sym (or-false (bit k (wordOf s v))))
+]
 
 -- word w is emptied
 pub put-none : (s : List ℕ) (w v k : ℕ) → 2 * w + 1 < length s → bit k (wordOf (putWord s w 0) v) ≡ not (eqb v w) && bit k (wordOf s v)
-put-none s w v k h = go (eqb v w) refl
-  where
-    go : (b : Bool) → eqb v w ≡ b → bit k (wordOf (putWord s w 0) v) ≡ not b && bit k (wordOf s v)
-    go true e = rw (eqb-true v w e, put-here s w 0 h) (bit-zero k)
-    go false e = rw (put-other s w 0 v (eqb-false v w e))
+put-none s w v k h = elim (ℕ-discrete v w) [
+  | yes e ↦ rw (eq-eqb v w e, e, put-here s w 0 h) (bit-zero k)
+  | no d ↦ rw (ne-eqb v w d, put-other s w 0 v d)
+]
 
 -- ---- zeroed bytes
 
@@ -138,16 +145,12 @@ zeroed-none a from = record { size = refl; zero = λ k l m. absurd (omega arith)
 pub zeroed-more : (a r : List ℕ) (from at : ℕ) → from ≤ at → at < length r → Zeroed a r from at → Zeroed a (set r at 0) from (at + 1)
 zeroed-more a r from at h g Z = record {
   size = length-set r at 0 ∙ Z .size;
-  zero = λ k l m. here k l (ℕ-discrete k at) m;
+  zero = λ k l m. elim (ℕ-discrete k at) [ yes e ↦ rw e (getD-set-same r at 0 0 g) | no d ↦ getD-set-other r at k 0 0 d ∙ Z .zero k l (omega arith) ];
   below = λ k l. getD-set-other r at k 0 0 (λ e. omega arith) ∙ Z .below k l;
   above = λ k l. getD-set-other r at k 0 0 (λ e. omega arith) ∙ Z .above k (omega arith);
 }
-  where
-    here : (k : ℕ) → from ≤ k → Dec (k ≡ at) → k < at + 1 → getD (set r at 0) k 0 ≡ 0
-    here k l (yes e) m = rw e (getD-set-same r at 0 0 g)
-    here k l (no d) m = getD-set-other r at k 0 0 d ∙ Z .zero k l (omega arith)
 
-module _ (a r : List ℕ) (from to v : ℕ) where
-  -- a word that is zeroed
-  pub zeroed-word : from ≤ 2 * v → 2 * v + 1 < to → Zeroed a r from to → wordOf r v ≡ 0
-  zeroed-word h g Z = word-none r v (Z .zero (2 * v) h (omega arith)) (Z .zero (2 * v + 1) (omega arith) g)
+-- a word that is zeroed
+pub zeroed-word : (a r : List ℕ) (from to v : ℕ) → from ≤ 2 * v → 2 * v + 1 < to → Zeroed a r from to → wordOf r v ≡ 0
+unfolding wordOf
+zeroed-word a r from to v h g Z = rw (Z .zero (2 * v) h (omega arith), Z .zero (2 * v + 1) (omega arith) g)

@@ -1,21 +1,21 @@
 -- What posting one message adds: to its cell, and to the span of its row.
 use mathlib.Core.Path.{_≡_, refl, sym, ap, _∙_}
-use mathlib.Core.Bool.{Bool, true, false, _&&_, _||_, cond, and-false, or-assoc, or-false, or-true, true≢false, false≢true}
+use mathlib.Core.Bool.{Bool, true, false, _&&_, _||_, and-false, or-assoc, or-false, or-true, true≢false, false≢true}
 use mathlib.Core.List.{List}
-use Prim.Native.Nat.{ℕ, _+_, _*_, _^_, _≤_, _<_}
+use Prim.Native.Nat.{ℕ, _+_, _*_, _^_, _≤_, _<_, max}
 use native.Mathlib.Omega.{arith}
-use native.Mathlib.Decide.{ℕ-discrete}
-use lib.Dec.{eqb, ltb}
+use native.Mathlib.Decide.{ℕ-discrete, decLe}
+use lib.Dec.{eqb}
 use lib.ListN.{length, getD, set, length-set}
 use lib.Seq.{getD-set-other, set-getD}
 use lib.Bits.{bitOr}
-use borrow.Author.Tests.{lt-ltb, le-ltb, eq-eqb, ne-eqb, eqb-true, eqb-false, ltb-true, ltb-false}
+use borrow.Author.Tests.{lt-ltb, le-ltb, eq-eqb, ne-eqb, eqb-true}
 use Rattle.register.proofs.Logic.{and-both, neither}
 use Rattle.calendar.specs.Bits.{wordOf, putWord}
 use Rattle.calendar.specs.Layout.{calendarSize, cellsAt, places, rows, cellWord, lowOf, highOf, sendersOf, sender}
 use Rattle.calendar.specs.View.{Inside, Posted}
 use Rattle.calendar.specs.Posts.{Messages, inRow, lowWith, highWith, widened}
-use Rattle.calendar.proofs.Laws.{or-either, two-length, two-other, two-first, two-second, word-same, put-length, put-byte, put-member}
+use Rattle.calendar.proofs.Laws.{or-either, eqb-both, two-other, two-first, two-second, word-same, put-length, put-byte, put-member}
 
 -- ---- the relation
 
@@ -57,63 +57,23 @@ posted-none a f e = record {
 
 -- ---- the span with one pair more
 
-low-self : (low high j : ℕ) → lowWith low high j ≤ j
-low-self low high j = go (eqb high 0) (ltb j low) refl
-  where
-    go : (b c : Bool) → ltb j low ≡ c → cond b j (cond c j low) ≤ j
-    go true c e = omega arith
-    go false true e = omega arith
-    go false false e = omega (arith, ltb-false j low e)
+high-with : (high j : ℕ) → highWith high j ≡ max high (j + 1)
+high-with high j = elim (decLe high j) [ yes l ↦ rw (le-ltb j high l) (omega arith) | no l ↦ rw (lt-ltb j high (omega arith)) (omega arith) ]
 
-low-other : (low high j y : ℕ) → low ≤ y → y < high → lowWith low high j ≤ y
-low-other low high j y h g = go (eqb high 0) (ltb j low) refl refl
-  where
-    go : (b c : Bool) → eqb high 0 ≡ b → ltb j low ≡ c → cond b j (cond c j low) ≤ y
-    go true c e d = absurd (omega (arith, eqb-true high 0 e))
-    go false true e d = omega (arith, ltb-true j low d)
-    go false false e d = h
-
-high-self : (high j : ℕ) → j < highWith high j
-high-self high j = go (ltb j high) refl
-  where
-    go : (c : Bool) → ltb j high ≡ c → j < cond c high (j + 1)
-    go true e = ltb-true j high e
-    go false e = omega arith
-
-high-other : (high j : ℕ) → high ≤ highWith high j
-high-other high j = go (ltb j high) refl
-  where
-    go : (c : Bool) → ltb j high ≡ c → high ≤ cond c high (j + 1)
-    go true e = omega arith
-    go false e = omega (arith, ltb-false j high e)
-
-high-top : (high j m : ℕ) → high ≤ m → j < m → highWith high j ≤ m
-high-top high j m h g = go (ltb j high)
-  where
-    go : (c : Bool) → cond c high (j + 1) ≤ m
-    go true = h
-    go false = omega arith
-
-low-bottom : (low high j m : ℕ) → (0 < high → m ≤ low) → m ≤ j → m ≤ lowWith low high j
-low-bottom low high j m h g = go (eqb high 0) (ltb j low) refl
-  where
-    go : (b c : Bool) → eqb high 0 ≡ b → m ≤ cond b j (cond c j low)
-    go true c e = g
-    go false true e = g
-    go false false e = h (some (eqb-false high 0 e))
-      where
-        some : (high ≡ 0 → ⊥) → 0 < high
-        some d = omega arith
+low-with : (low high j : ℕ)
+    → (lowWith low high j ≤ j) × (0 < high → lowWith low high j ≤ low) × ((m : ℕ) → (0 < high → m ≤ low) → m ≤ j → m ≤ lowWith low high j)
+low-with low high j = elim (ℕ-discrete high 0) [
+  | yes e ↦ rw (eq-eqb high 0 e) (omega arith, λ h. absurd (omega arith), λ m f g. g)
+  | no d ↦ rw (ne-eqb high 0 d) (elim (decLe low j) [
+    | yes l ↦ rw (le-ltb j low l) (l, λ h. omega arith, λ m f g. f (omega arith))
+    | no l ↦ rw (lt-ltb j low (omega arith)) (omega arith, λ h. omega arith, λ m f g. g)
+  ])
+]
 
 -- ---- one message
 
 pub same-cell : (x row y j : ℕ) → y < places → j < places → eqb (cellWord x y) (cellWord row j) ≡ eqb x row && eqb y j
-same-cell x row y j hy hj = go (ℕ-discrete x row) (ℕ-discrete y j)
-  where
-    go : Dec (x ≡ row) → Dec (y ≡ j) → eqb (cellWord x y) (cellWord row j) ≡ eqb x row && eqb y j
-    go (yes p) (yes q) = rw (eq-eqb x row p, eq-eqb y j q, eq-eqb (cellWord x y) (cellWord row j) (omega arith))
-    go (yes p) (no q) = rw (eq-eqb x row p, ne-eqb y j q, ne-eqb (cellWord x y) (cellWord row j) (λ e. q (omega arith)))
-    go (no p) q = rw (ne-eqb x row p, ne-eqb (cellWord x y) (cellWord row j) (λ e. p (omega arith)))
+same-cell x row y j hy hj = eqb-both (cellWord x y) (cellWord row j) x row y j (λ e. (omega arith, omega arith)) (λ e d. omega arith)
 
 turn : (d a b c : Bool) → d || ((a && b) && c) ≡ d || (a && (c && b))
 turn d true true true = refl
@@ -124,19 +84,11 @@ turn d false b c = refl
 module _ (s : List ℕ) (row j : ℕ) where
   widened-length : length (widened s row j) ≡ length s
   unfolding widened
-  widened-length = two-length s (2 * row) _ _
+  widened-length = simp length-set
 
   widened-byte : (k : ℕ) → (k ≡ 2 * row → ⊥) → (k ≡ 2 * row + 1 → ⊥) → getD (widened s row j) k 0 ≡ getD s k 0
   unfolding widened
   widened-byte k = two-other s (2 * row) _ _ k
-
-  widened-low : 2 * row + 1 < length s → lowOf (widened s row j) row ≡ lowWith (lowOf s row) (highOf s row) j
-  unfolding widened
-  widened-low h = two-first s (2 * row) _ _ h
-
-  widened-high : 2 * row + 1 < length s → highOf (widened s row j) row ≡ highWith (highOf s row) j
-  unfolding widened
-  widened-high h = two-second s (2 * row) _ _ h
 
   widened-word : (v : ℕ) → (v ≡ row → ⊥) → wordOf (widened s row j) v ≡ wordOf s v
   widened-word v h =
@@ -189,26 +141,26 @@ module _ (a : List ℕ) (row j i : ℕ) (hr : row < rows) (hj : j < places) (siz
   unfolding added
   added-long = rw (put-length a (cellWord row j) (bitOr (sendersOf a row j) (2 ^ i))) (omega arith)
 
-  here-low : lowOf (widened (added a row j i) row j) row ≡ lowWith (lowOf a row) (highOf a row) j
-  here-low = widened-low (added a row j i) row j added-long ∙ rw (added-byte (2 * row) (omega arith), added-byte (2 * row + 1) (omega arith))
+  -- the bytes with the message
+  abbrev posted : List ℕ
+  posted = widened (added a row j i) row j
 
-  here-high : highOf (widened (added a row j i) row j) row ≡ highWith (highOf a row) j
-  here-high = widened-high (added a row j i) row j added-long ∙ rw (added-byte (2 * row + 1) (omega arith))
+  here-low : lowOf posted row ≡ lowWith (lowOf a row) (highOf a row) j
+  unfolding widened
+  here-low = two-first (added a row j i) (2 * row) _ _ added-long ∙ rw (added-byte (2 * row) (omega arith), added-byte (2 * row + 1) (omega arith))
 
-  there : (k : ℕ) → k < 2 * cellsAt → (k ≡ 2 * row → ⊥) → (k ≡ 2 * row + 1 → ⊥) → getD (widened (added a row j i) row j) k 0 ≡ getD a k 0
-  there k l h g = widened-byte (added a row j i) row j k h g ∙ added-byte k l
+  here-high : highOf posted row ≡ max (highOf a row) (j + 1)
+  unfolding widened
+  here-high = two-second (added a row j i) (2 * row) _ _ added-long ∙ rw (added-byte (2 * row + 1) (omega arith)) (high-with (highOf a row) j)
 
-  here-wider : (x y : ℕ) → x < rows → Inside a x y → Inside (widened (added a row j i) row j) x y
-  here-wider x y l n = go (ℕ-discrete x row)
-    where
-      go : Dec (x ≡ row) → Inside (widened (added a row j i) row j) x y
-      go (yes e) = rw (e, here-low, here-high) (
-        low-other (lowOf a row) (highOf a row) j y (rw e at (n .0)) (rw e at (n .1)),
-        omega (arith, high-other (highOf a row) j, (rw e at (n .1))),
-      )
-      go (no d) = rw (there (2 * x) (omega arith) (λ e. d (omega arith)) (λ e. omega arith), there (2 * x + 1) (omega arith) (λ e. omega arith) (λ e. d (omega arith))) n
+  -- the spans of the other rows stay
+  there : (x : ℕ) → x < rows → (x ≡ row → ⊥) → (lowOf posted x ≡ lowOf a x) × (highOf posted x ≡ highOf a x)
+  there x l d = (
+    widened-byte (added a row j i) row j (2 * x) (λ e. d (omega arith)) (λ e. omega arith) ∙ added-byte (2 * x) (omega arith),
+    widened-byte (added a row j i) row j (2 * x + 1) (λ e. omega arith) (λ e. d (omega arith)) ∙ added-byte (2 * x + 1) (omega arith),
+  )
 
-  pub posted-one : Posted a (widened (added a row j i) row j) (inRow row i (λ y. eqb y j))
+  pub posted-one : Posted a posted (inRow row i (λ y. eqb y j))
   unfolding added
   posted-one = record {
     rest = record {
@@ -218,44 +170,28 @@ module _ (a : List ℕ) (row j i : ℕ) (hr : row < rows) (hj : j < places) (siz
     };
     cells = λ x y k l m. rw (widened-word (added a row j i) row j (cellWord x y) (λ e. omega arith)) (put-member a (cellWord row j) i (cellWord x y) k (omega arith)
         ∙ rw (same-cell x row y j m hj) (turn (sender a x y k) (eqb x row) (eqb y j) (eqb k i)));
-    wider = here-wider;
+    wider = λ x y l n. elim (ℕ-discrete x row) [
+      | yes e ↦ let p = rw e at n in rw (e, here-low, here-high) (omega (arith, low .1 (omega (arith, p .1)), p .0), omega (arith, p .1))
+      | no d ↦ rw (there x l d .0, there x l d .1) n
+    ];
     grown = λ x y k l m q.
         let b = and-both (eqb x row) (eqb k i && eqb y j) q in
-        let e = eqb-true x row (b .0) in
-        let d = eqb-true y j (and-both (eqb k i) (eqb y j) (b .1) .1) in
-        rw (e, d, here-low, here-high) (low-self (lowOf a row) (highOf a row) j, high-self (highOf a row) j);
-    top = here-top;
-    bottom = here-bottom;
-    still = λ x l g. here-still x l (g j i hj);
+        let d = and-both (eqb k i) (eqb y j) (b .1) .1 in
+        rw (eqb-true x row (b .0), eqb-true y j d, here-low, here-high) (low .0, omega arith);
+    top = λ x m l u g. elim (ℕ-discrete x row) [
+      | yes e ↦ rw (e, here-high) (omega (arith, rw e at u, g j i hj (here x e)))
+      | no d ↦ rw (there x l d .1) u
+    ];
+    bottom = λ x m l u g h. elim (ℕ-discrete x row) [
+      | yes e ↦ rw (e, here-low) (low .2 m (rw e at u) (g j i hj (here x e)))
+      | no d ↦ rw (there x l d .0) (u (rw (there x l d .1) at h))
+    ];
+    still = λ x l g. there x l (λ e. true≢false (sym (here x e) ∙ g j i hj));
   }
     where
       here : (x : ℕ) → x ≡ row → inRow row i (λ z. eqb z j) x j i ≡ true
       here x e = rw (eq-eqb x row e, eq-eqb i i refl, eq-eqb j j refl)
 
-      here-bottom : (x m : ℕ) → x < rows → (0 < highOf a x → m ≤ lowOf a x)
-          → ((y k : ℕ) → y < places → inRow row i (λ z. eqb z j) x y k ≡ true → m ≤ y)
-          → 0 < highOf (widened (added a row j i) row j) x → m ≤ lowOf (widened (added a row j i) row j) x
-      here-bottom x m l u g h = go (ℕ-discrete x row)
-        where
-          go : Dec (x ≡ row) → m ≤ lowOf (widened (added a row j i) row j) x
-          go (yes e) = rw (e, here-low) (low-bottom (lowOf a row) (highOf a row) j m (rw e at u) (g j i hj (here x e)))
-          go (no d) = rw (there (2 * x) (omega arith) (λ e. d (omega arith)) (λ e. omega arith))
-              (u (rw (there (2 * x + 1) (omega arith) (λ e. omega arith) (λ e. d (omega arith))) at h))
-
-      here-still : (x : ℕ) → x < rows → inRow row i (λ z. eqb z j) x j i ≡ false
-          → (lowOf (widened (added a row j i) row j) x ≡ lowOf a x) × (highOf (widened (added a row j i) row j) x ≡ highOf a x)
-      here-still x l g = (
-        there (2 * x) (omega arith) (λ e. d (omega arith)) (λ e. omega arith),
-        there (2 * x + 1) (omega arith) (λ e. omega arith) (λ e. d (omega arith)),
-      )
-        where
-          d : x ≡ row → ⊥
-          d e = true≢false (sym (here x e) ∙ g)
-
-      here-top : (x m : ℕ) → x < rows → highOf a x ≤ m → ((y k : ℕ) → y < places → inRow row i (λ z. eqb z j) x y k ≡ true → y < m)
-          → highOf (widened (added a row j i) row j) x ≤ m
-      here-top x m l u g = go (ℕ-discrete x row)
-        where
-          go : Dec (x ≡ row) → highOf (widened (added a row j i) row j) x ≤ m
-          go (yes e) = rw (e, here-high) (high-top (highOf a row) j m (rw e at u) (g j i hj (here x e)))
-          go (no d) = rw (there (2 * x + 1) (omega arith) (λ e. omega arith) (λ e. d (omega arith))) u
+      low : (lowWith (lowOf a row) (highOf a row) j ≤ j) × (0 < highOf a row → lowWith (lowOf a row) (highOf a row) j ≤ lowOf a row)
+          × ((m : ℕ) → (0 < highOf a row → m ≤ lowOf a row) → m ≤ j → m ≤ lowWith (lowOf a row) (highOf a row) j)
+      low = low-with (lowOf a row) (highOf a row) j

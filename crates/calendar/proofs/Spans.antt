@@ -1,6 +1,6 @@
 -- For callers: every operation keeps what arrives inside the spans, and so clearing a span clears its row; the rows by tick and receiver.
-use mathlib.Core.Path.{_≡_, refl, sym, ap, _∙_}
-use mathlib.Core.Bool.{Bool, true, false, not, _&&_, and-false, false≢true}
+use mathlib.Core.Path.{_≡_, sym, ap, _∙_}
+use mathlib.Core.Bool.{not, _&&_, and-comm, false≢true}
 use mathlib.Core.List.{List}
 use Prim.Native.Nat.{ℕ, _+_, _/_, _%_, _≤_, _<_}
 use native.Mathlib.Omega.{arith}
@@ -11,7 +11,7 @@ use Rattle.register.proofs.Logic.{and-both}
 use Rattle.calendar.specs.Layout.{places, rows, receivers, rowOf, lowOf, highOf, sender}
 use Rattle.calendar.specs.View.{Inside, covers, Spanned, Posted, Cleared, Empty}
 use Rattle.calendar.specs.Posts.{Messages}
-use Rattle.calendar.proofs.Laws.{or-either}
+use Rattle.calendar.proofs.Laws.{or-either, never}
 
 -- ---- the spans
 
@@ -31,27 +31,22 @@ empty-spanned r E = record {
 module _ (a r : List ℕ) (row : ℕ) (C : Cleared a r row) (S : Spanned a) where
   -- nothing arrives in a row that is cleared, and the other rows stay
   pub cleared-cells : (x j k : ℕ) → x < rows → j < places → sender r x j k ≡ not (eqb x row) && sender a x j k
-  cleared-cells x j k l n = C .cells x j k l n ∙ go (ℕ-discrete x row)
-    where
-      go : Dec (x ≡ row) → not (eqb x row && covers a row j) && sender a x j k ≡ not (eqb x row) && sender a x j k
-      go (no d) = rw (ne-eqb x row d)
-      go (yes e) = rw (eq-eqb x row e) (or (sender a x j k) refl)
-        where
-          or : (b : Bool) → sender a x j k ≡ b → not (covers a row j) && b ≡ false
-          or true q = let i = rw e at (S .within x j k l n q) in rw (le-leb (lowOf a row) j (i .0), lt-ltb j (highOf a row) (i .1))
-          or false q = and-false (not (covers a row j))
+  cleared-cells x j k l n = C .cells x j k l n ∙ elim (ℕ-discrete x row) [
+    | no d ↦ rw (ne-eqb x row d)
+    | yes e ↦ rw (eq-eqb x row e, and-comm (not (covers a row j)) (sender a x j k))
+        (never (sender a x j k) _ (λ q. let i = rw e at (S .within x j k l n q) in rw (le-leb (lowOf a row) j (i .0), lt-ltb j (highOf a row) (i .1))))
+  ]
 
   pub cleared-spanned : Spanned r
-  cleared-spanned = record { top = λ x l. up x l (ℕ-discrete x row); within = λ x j k l n q. in-span x j k l n q (ℕ-discrete x row) }
-    where
-      up : (x : ℕ) → x < rows → Dec (x ≡ row) → highOf r x ≤ places
-      up x l (yes e) = rw (e, C .highHere) (omega arith)
-      up x l (no d) = rw (C .high x l d) (S .top x l)
-
-      in-span : (x j k : ℕ) → x < rows → j < places → sender r x j k ≡ true → Dec (x ≡ row) → Inside r x j
-      in-span x j k l n q (yes e) = absurd (false≢true (rw (eq-eqb x row e) at (sym (cleared-cells x j k l n) ∙ q)))
-      in-span x j k l n q (no d) = rw (C .low x l d, C .high x l d)
-          (S .within x j k l n (and-both (not (eqb x row)) (sender a x j k) (sym (cleared-cells x j k l n) ∙ q) .1))
+  cleared-spanned = record {
+    top = λ x l. elim (ℕ-discrete x row) [ yes e ↦ rw (e, C .highHere) (omega arith) | no d ↦ rw (C .high x l d) (S .top x l) ];
+    within = λ x j k l n q.
+        let b = and-both (not (eqb x row)) (sender a x j k) (sym (cleared-cells x j k l n) ∙ q) in
+        elim (ℕ-discrete x row) [
+          | yes e ↦ absurd (false≢true (rw (eq-eqb x row e) at (b .0)))
+          | no d ↦ rw (C .low x l d, C .high x l d) (S .within x j k l n (b .1))
+        ];
+  }
 
 -- ---- by tick and receiver
 
@@ -63,8 +58,7 @@ row-receiver t b h = omega arith
 
 -- of 16 ticks in a row each has its own rows
 pub own-rows : (t u v : ℕ) → t ≤ u → u < t + 16 → t ≤ v → v < t + 16 → eqb (u % 16) (v % 16) ≡ eqb u v
-own-rows t u v a b c d = go (ℕ-discrete u v)
-  where
-    go : Dec (u ≡ v) → eqb (u % 16) (v % 16) ≡ eqb u v
-    go (yes e) = rw (eq-eqb u v e, eq-eqb (u % 16) (v % 16) (ap (λ (x : ℕ). x % 16) e))
-    go (no e) = rw (ne-eqb u v e, ne-eqb (u % 16) (v % 16) (λ q. e (omega arith)))
+own-rows t u v a b c d = elim (ℕ-discrete u v) [
+  | yes e ↦ rw (eq-eqb u v e, eq-eqb (u % 16) (v % 16) (ap (λ (x : ℕ). x % 16) e))
+  | no e ↦ rw (ne-eqb u v e, ne-eqb (u % 16) (v % 16) (λ q. e (omega arith)))
+]

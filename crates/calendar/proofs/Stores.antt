@@ -1,6 +1,6 @@
 -- Posting the pairs of a store, place by place, and posting to all other servers, one by one. It stands on Posting.
 use mathlib.Core.Path.{_≡_, refl, sym, _∙_}
-use mathlib.Core.Bool.{Bool, true, false, not, _&&_, _||_, and-false, or-assoc, or-false, and-or-distrib-left}
+use mathlib.Core.Bool.{Bool, true, false, _&&_, _||_, and-false, and-assoc, or-assoc, or-false, and-or-distrib-left}
 use mathlib.Core.List.{List, [], _∷_}
 use Prim.Native.Nat.{ℕ, zero, suc, _+_, _/_, _%_, _≤_, _<_}
 use native.Mathlib.Omega.{arith}
@@ -14,7 +14,7 @@ use Rattle.calendar.specs.declared.Sending.{Sending}
 use Rattle.calendar.specs.Layout.{rows, receivers, rowOf}
 use Rattle.calendar.specs.View.{Posted}
 use Rattle.calendar.specs.Posts.{inRow, amongFirst, vacant, dueIn, toFirst, arrivalOf}
-use Rattle.calendar.proofs.Laws.{ltb-more}
+use Rattle.calendar.proofs.Laws.{eqb-both, under, never, ltb-more}
 use Rattle.calendar.proofs.Posting.{posted-eq, posted-trans, posted-none}
 
 -- ---- the pairs of a store
@@ -63,12 +63,7 @@ full-more q ps F e y h = elim (ℕ-discrete y q) [ yes d ↦ rw d e | no d ↦ F
 -- ---- to all other servers
 
 pub same-row : (x u b : ℕ) → x < rows → b < receivers → eqb x (rowOf u b) ≡ eqb (x % receivers) b && eqb (u % 16) (x / receivers)
-same-row x u b hx hb = go (ℕ-discrete (x % receivers) b) (ℕ-discrete (u % 16) (x / receivers))
-  where
-    go : Dec (x % receivers ≡ b) → Dec (u % 16 ≡ x / receivers) → eqb x (rowOf u b) ≡ eqb (x % receivers) b && eqb (u % 16) (x / receivers)
-    go (yes p) (yes q) = rw (eq-eqb (x % receivers) b p, eq-eqb (u % 16) (x / receivers) q, eq-eqb x (rowOf u b) (omega arith))
-    go (yes p) (no q) = rw (eq-eqb (x % receivers) b p, ne-eqb (u % 16) (x / receivers) q, ne-eqb x (rowOf u b) (λ e. q (omega arith)))
-    go (no p) q = rw (ne-eqb (x % receivers) b p, ne-eqb x (rowOf u b) (λ e. p (omega arith)))
+same-row x u b hx hb = eqb-both x (rowOf u b) (x % receivers) b (u % 16) (x / receivers) (λ e. (omega arith, omega arith)) (λ p q. omega arith)
 
 module _ (s : Sending) (P : ℕ → Bool) where
   -- the messages with pair j of sender k that reach the row
@@ -78,22 +73,13 @@ module _ (s : Sending) (P : ℕ → Bool) where
   to-one : (x j k b : ℕ) → x < rows → b < receivers → (b ≡ s .sender → ⊥)
       → inRow (rowOf (arrivalOf s b) b) (s .sender) P x j k ≡ eqb (x % receivers) b && sent x j k
   unfolding sent dueIn
-  to-one x j k b hx hb d = rw (same-row x (arrivalOf s b) b hx hb) (go (eqb (x % receivers) b) refl)
-    where
-      go : (c : Bool) → eqb (x % receivers) b ≡ c
-          → (c && eqb (arrivalOf s b % 16) (x / receivers)) && (eqb k (s .sender) && P j)
-          ≡ c && ((not (eqb (x % receivers) (s .sender)) && eqb (arrivalOf s (x % receivers) % 16) (x / receivers)) && (eqb k (s .sender) && P j))
-      go true e = rw (eqb-true (x % receivers) b e, ne-eqb b (s .sender) d)
-      go false e = refl
+  to-one x j k b hx hb d =
+      rw (same-row x (arrivalOf s b) b hx hb, and-assoc (eqb (x % receivers) b) _ (eqb k (s .sender) && P j))
+      (under (eqb (x % receivers) b) _ _ (λ e. rw (eqb-true (x % receivers) b e, ne-eqb b (s .sender) d)))
 
   to-self : (x j k b : ℕ) → b ≡ s .sender → eqb (x % receivers) b && sent x j k ≡ false
   unfolding sent dueIn
-  to-self x j k b d = go (eqb (x % receivers) b) refl
-    where
-      go : (c : Bool) → eqb (x % receivers) b ≡ c
-          → c && ((not (eqb (x % receivers) (s .sender)) && eqb (arrivalOf s (x % receivers) % 16) (x / receivers)) && (eqb k (s .sender) && P j)) ≡ false
-      go true e = rw (eq-eqb (x % receivers) (s .sender) (eqb-true (x % receivers) b e ∙ d))
-      go false e = refl
+  to-self x j k b d = never (eqb (x % receivers) b) _ (λ e. rw (eq-eqb (x % receivers) (s .sender) (eqb-true (x % receivers) b e ∙ d)))
 
   pub others-first : (a : List ℕ) → Posted a a (toFirst s 0 P)
   others-first a = posted-none a _ (λ x j k l m. rw (le-ltb (x % receivers) 0 (omega arith)))

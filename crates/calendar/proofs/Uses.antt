@@ -1,16 +1,15 @@
 -- That the contracts suffice: what is posted to an empty calendar arrives, and nothing else does; when it is taken, the calendar is empty again.
-use mathlib.Core.Path.{_≡_, refl, _∙_}
-use mathlib.Core.Bool.{Bool, true, false, not, _&&_}
+use mathlib.Core.Path.{_≡_, _∙_}
+use mathlib.Core.Bool.{Bool, not}
 use mathlib.Core.List.{List}
-use Prim.Native.Nat.{ℕ, _≤_, _<_}
-use native.Mathlib.Omega.{arith}
+use Prim.Native.Nat.{ℕ, _<_}
 use native.Mathlib.Decide.{ℕ-discrete}
 use lib.Dec.{eqb}
-use borrow.Author.Tests.{ne-eqb}
-use Rattle.register.proofs.Logic.{and-both}
-use Rattle.calendar.specs.Layout.{rows, places, lowOf, highOf, sender}
+use borrow.Author.Tests.{ne-eqb, not-true}
+use Rattle.calendar.specs.Layout.{rows, places, sender}
 use Rattle.calendar.specs.View.{Posted, Cleared, Empty, Spanned}
 use Rattle.calendar.specs.Posts.{inRow}
+use Rattle.calendar.proofs.Laws.{never}
 use Rattle.calendar.proofs.Spans.{posted-spanned, empty-spanned, cleared-cells}
 
 module _ (a b : List ℕ) (row i : ℕ) (P : ℕ → Bool) (E : Empty a) (A : Posted a b (inRow row i P)) where
@@ -22,22 +21,8 @@ module _ (a b : List ℕ) (row i : ℕ) (P : ℕ → Bool) (E : Empty a) (A : Po
 
   pub taken-empty : (c : List ℕ) → Cleared b c row → Empty c
   taken-empty c C = record {
-    low = λ x l. low x l (ℕ-discrete x row);
-    high = λ x l. high x l (ℕ-discrete x row);
-    cells = λ x j k l n. cleared-cells b c row C posted-inside x j k l n ∙ rw (posted-arrives x j k l n) (gone (eqb x row) (eqb k i && P j));
+    low = λ x l. elim (ℕ-discrete x row) [ yes e ↦ rw e (C .lowHere) | no d ↦ C .low x l d ∙ (A .still x l (λ j k n. rw (ne-eqb x row d)) .0 ∙ E .low x l) ];
+    high = λ x l. elim (ℕ-discrete x row) [ yes e ↦ rw e (C .highHere) | no d ↦ C .high x l d ∙ (A .still x l (λ j k n. rw (ne-eqb x row d)) .1 ∙ E .high x l) ];
+    cells = λ x j k l n. cleared-cells b c row C posted-inside x j k l n ∙ rw (posted-arrives x j k l n)
+        (never (not (eqb x row)) _ (λ e. rw (not-true (eqb x row) e)));
   }
-    where
-      gone : (p q : Bool) → not p && (p && q) ≡ false
-      gone true q = refl
-      gone false q = refl
-
-      other : (x : ℕ) → (x ≡ row → ⊥) → (j k : ℕ) → j < places → inRow row i P x j k ≡ false
-      other x d j k n = rw (ne-eqb x row d)
-
-      low : (x : ℕ) → x < rows → Dec (x ≡ row) → lowOf c x ≡ 0
-      low x l (yes e) = rw e (C .lowHere)
-      low x l (no d) = C .low x l d ∙ (A .still x l (other x d) .0 ∙ E .low x l)
-
-      high : (x : ℕ) → x < rows → Dec (x ≡ row) → highOf c x ≡ 0
-      high x l (yes e) = rw e (C .highHere)
-      high x l (no d) = C .high x l d ∙ (A .still x l (other x d) .1 ∙ E .high x l)

@@ -1,70 +1,49 @@
 -- The loop over the servers in a tick: its start, a turn, and what it has done at its end. Nothing that is sent in a tick arrives in it, so a
 -- later server finds its row as it was. It stands on the calendar's laws of posting and clearing.
-use mathlib.Core.Path.{_≡_, refl, sym, ap, subst, _∙_}
+use mathlib.Core.{Path._≡_, Path.refl, Path.sym, Path.subst, Path._∙_, List.List, List.[]}
 use mathlib.Core.Bool.{Bool, true, false, not, _&&_, _||_, cond, and-false, or-assoc, or-false}
-use mathlib.Core.List.{List, []}
 use Prim.Native.Nat.{ℕ, _+_, _-_, _/_, _%_, _≤_, _<_}
-use native.Mathlib.Omega.{arith}
-use native.Mathlib.Decide.{ℕ-discrete}
-use lib.Dec.{eqb, leb, ltb, leb·zero}
-use lib.ListN.{length, getD, set, length-set}
-use lib.Seq.{getD-set-same, getD-set-other, set-getD}
-use borrow.Author.Tests.{lt-ltb, le-ltb, lt-leb, eq-eqb, ne-eqb, eqb-true, eqb-false, ltb-true, leb-true}
+use native.Mathlib.{Omega.arith, Decide.decLe, Decide.ℕ-discrete}
+use lib.Dec.{T, eqb, leb, ltb, eqb→eq, eqb-refl, leb→le, ltb→lt, leb·zero, T-not, not-T}
+use lib.{ListN.length, ListN.getD, ListN.set, ListN.length-set, Seq.getD-set-same, Seq.getD-set-other, Seq.set-getD}
+use borrow.Author.Tests.{lt-ltb, le-ltb, lt-leb, eq-eqb, ne-eqb}
 use Rattle.bits.proofs.Laws.{field-lt}
-use Rattle.calendar.specs as calendar-specs
+use Rattle.register.proofs.Logic.{and-l, and-r, F-eq}
+use Rattle.calendar.specs.{Bits.bit, View.SamePast, View.Spanned, View.Posted, View.Cleared}
 use Rattle.calendar.specs.Layout.{receivers, rows, places, rowOf, sender}
-use Rattle.calendar.specs.View.{SamePast, Spanned, Posted, Cleared}
 use Rattle.calendar.proofs as calendar-laws
-use Rattle.serving.specs.declared.Server.{Server}
-use Rattle.cluster.specs as cluster-specs
 use Rattle.serving.specs as serving-specs
-use Rattle.serving.specs.Sends.{votesFor, reaches, sendsVote, sendsReply, sends}
+use Rattle.serving.specs.declared.Server.{Server}
+use Rattle.serving.specs.Sends.{reaches, sendsVote, sendsReply, sends}
 use Rattle.serving.specs.Stored.{Step, server, both, statusOf, keys, absent}
+use Rattle.cluster.specs as cluster-specs
 use Rattle.cluster.specs.Settled.{Settled, Calm, called, reached, CalmlyTurned, CalmlyServed, CalmlyTicked}
-use Rattle.cluster.specs.Tick.{Fed, Heard, Emptied, Stepped, Turned, TurnedFirst, Ticked, endsOf, present}
-use Rattle.cluster.proofs.IdleLaws.{unreached, idle-turned}
+use Rattle.cluster.specs.Tick.{Fed, Heard, Emptied, Stepped, Turned, TurnedFirst, endsOf, present}
+use Rattle.cluster.proofs.IdleLaws.{past-same, past-trans, unreached, idle-turned}
 
 -- ---- nothing arrives in the tick in which it is sent
 
 module _ (plan : List ℕ) (links : serving-specs.declared.Links.Links) (n t : ℕ) (ends : List ℕ) (i : ℕ) (sent : serving-specs.declared.Outgoing.Outgoing) (few : n < links .parties) (own : i < n)
     (later : (q : ℕ) → q < links .parties → (q ≡ i → ⊥) → (q ≡ n → ⊥) → 1 ≤ serving-specs.Links.delayAt plan links t i q) where
-  other-tick : (x q : ℕ) → q < links .parties → (q ≡ i → ⊥) → (q ≡ n → ⊥) → x / receivers ≡ t % 16
-      → eqb (reaches plan links n t ends i sent q % 16) (x / receivers) ≡ false
-  other-tick x q l d w e = ne-eqb (reaches plan links n t ends i sent q % 16) (x / receivers) (λ p. never p (later q l d w) (field-lt plan (serving-specs.Links.linkBit links t i q) 4))
-    where
-      never : (t + serving-specs.Links.delayAt plan links t i q) % 16 ≡ x / receivers → 1 ≤ serving-specs.Links.delayAt plan links t i q → serving-specs.Links.delayAt plan links t i q < 16 → ⊥
-      never p a b = omega (arith, e)
+  other-tick : (x q : ℕ) → q < links .parties → (q ≡ i → ⊥) → (q ≡ n → ⊥) → x / receivers ≡ t % 16 → T (eqb (reaches plan links n t ends i sent q % 16) (x / receivers)) → ⊥
+  other-tick x q l d w e y =
+      let short : serving-specs.Links.delayAt plan links t i q < 16 = field-lt plan (serving-specs.Links.linkBit links t i q) 4 in
+      let p : (t + serving-specs.Links.delayAt plan links t i q) % 16 ≡ x / receivers = eqb→eq _ _ y in
+      omega (arith, later q l d w)
 
   no-vote : (x j : ℕ) → x / receivers ≡ t % 16 → sendsVote plan links n t ends i sent x j ≡ false
   unfolding sendsVote
-  no-vote x j e = go (ltb (x % receivers) n) (eqb (x % receivers) i) refl refl
-    where
-      go : (a b : Bool) → ltb (x % receivers) n ≡ a → eqb (x % receivers) i ≡ b
-          → a && (not b && (eqb (reaches plan links n t ends i sent (x % receivers) % 16) (x / receivers) && votesFor sent j)) ≡ false
-      go false b p q = refl
-      go true true p q = refl
-      go true false p q =
-          let l = ltb-true (x % receivers) n p in
-          rw (other-tick x (x % receivers) (omega arith) (eqb-false (x % receivers) i q) (λ w. omega arith) e)
+  no-vote x j e = F-eq (sendsVote plan links n t ends i sent x j) (not-T (sendsVote plan links n t ends i sent x j) (λ y.
+      let l = ltb→lt (x % receivers) n (search and-l) in
+      let d : T (not (eqb (x % receivers) i)) = search (and-l, and-r) in
+      other-tick x (x % receivers) (omega arith) (λ w. T-not (eqb (x % receivers) i) d (rw w (eqb-refl i))) (λ w. omega arith) e (search (and-l, and-r))))
 
   no-reply : (x j : ℕ) → x / receivers ≡ t % 16 → sendsReply plan links n t ends i sent x j ≡ false
   unfolding sendsReply
-  no-reply x j e = go (leb 16 (x % receivers)) (calendar-specs.Bits.bit (x % receivers - 15) (sent .readers)) (ltb (n + (x % receivers - 15)) (links .parties)) refl refl
-    where
-      q : ℕ
-      q = n + (x % receivers - 15)
-
-      late : Bool
-      late = leb (reaches plan links n t ends i sent q) (getD ends (x % receivers - 16) 0)
-
-      go : (a b c : Bool) → leb 16 (x % receivers) ≡ a → ltb q (links .parties) ≡ c
-          → a && (b && (c && (late && (eqb (reaches plan links n t ends i sent q % 16) (x / receivers) && calendar-specs.Posts.among (sent .kept) j)))) ≡ false
-      go false b c p r = refl
-      go true false c p r = refl
-      go true true false p r = refl
-      go true true true p r =
-          let l = leb-true 16 (x % receivers) p in
-          rw (other-tick x q (ltb-true q (links .parties) r) (λ w. omega arith) (λ w. omega arith) e) (and-false late)
+  no-reply x j e = F-eq (sendsReply plan links n t ends i sent x j) (not-T (sendsReply plan links n t ends i sent x j) (λ y.
+      let l = leb→le 16 (x % receivers) (search and-l) in
+      let q = n + (x % receivers - 15) in
+      other-tick x q (ltb→lt q (links .parties) (search (and-l, and-r))) (λ w. omega arith) (λ w. omega arith) e (search (and-l, and-r))))
 
   none-now : (x j : ℕ) → x / receivers ≡ t % 16 → sends plan links n t ends i sent x j ≡ false
   none-now x j e = rw (no-vote x j e, no-reply x j e)
@@ -96,7 +75,7 @@ pub turned-here : (F : Fed) (ends : List ℕ) (b : ℕ) (s : Server) (o : Step) 
     → Cleared (F .work) cleared (rowOf (F .t) b) → Posted cleared after (λ x j k. eqb k b && sends (F .plan) (F .links) (F .rules .n) (F .t) ends b (o .sent) x j)
     → CalmlyTurned F ends b s (o .server) after
 turned-here F ends b s o cleared after S T C P = record {
-  rest = record { size = P .rest .size ∙ C .rest .size; past = λ k h. P .rest .past k h ∙ C .rest .past k h };
+  rest = past-trans (F .work) cleared after (C .rest) (P .rest);
   spans = calendar-laws.Spans.posted-spanned cleared after _ P (calendar-laws.Spans.cleared-spanned (F .work) cleared (rowOf (F .t) b) C S);
   turned = λ K. record {
     out = o;
@@ -125,7 +104,7 @@ module _ (F : Fed) (ends : List ℕ) (c : List Server) where
 
   pub serving-none : Spanned (F .work) → Serving c (F .work) 0
   serving-none S = record {
-    past = record { size = refl; past = λ k l. refl };
+    past = past-same (F .work);
     spans = S;
     rest = λ b l. refl;
     served = λ calm. record {
@@ -138,113 +117,86 @@ module _ (F : Fed) (ends : List ℕ) (c : List Server) where
     };
   }
 
-  module _ (r : List Server) (work : List ℕ) (b : ℕ) (l : b < 16) (size : length c ≡ 16) (same : getD r b absent ≡ getD c b absent) (S : TurnedFirst F ends c r work b)
-      (now : (i x j : ℕ) (sent : serving-specs.declared.Outgoing.Outgoing) → i < b → x / receivers ≡ F .t % 16 → posts i sent x j ≡ false) where
-    -- no server before it has sent anything that arrives now
-    none-yet : (x j i : ℕ) → x / receivers ≡ F .t % 16 → ltb i b && posts i (S .outs i .sent) x j ≡ false
-    none-yet x j i e = go (ltb i b) refl
-      where
-        go : (a : Bool) → ltb i b ≡ a → a && posts i (S .outs i .sent) x j ≡ false
-        go false p = refl
-        go true p = now i x j (S .outs i .sent) (ltb-true i b p) e
-
-    -- its row is as it was
-    still : (j i : ℕ) → j < places → sender work (rowOf (F .t) b) j i ≡ sender (F .work) (rowOf (F .t) b) j i
-    still j i m =
-        let e : rowOf (F .t) b / receivers ≡ F .t % 16 = omega arith in
-        let d : rowOf (F .t) b % receivers ≡ b = omega arith in
-        S .cells (rowOf (F .t) b) j i (omega arith) m
-        ∙ rw (none-yet (rowOf (F .t) b) j i e, d, le-ltb b b (omega arith), and-false (eqb (rowOf (F .t) b / receivers) (F .t % 16)))
-        (or-false (sender (F .work) (rowOf (F .t) b) j i))
-
-    -- the rows taken, with one more
-    taken-more : (x : ℕ) → x < rows → (s : Bool)
-        → not (eqb x (rowOf (F .t) b)) && (not (eqb (x / receivers) (F .t % 16) && ltb (x % receivers) b) && s)
-        ≡ not (eqb (x / receivers) (F .t % 16) && ltb (x % receivers) (b + 1)) && s
-    taken-more x h s = rw leb·zero at (calendar-laws.Clearing.row-more (F .t) 0 b x s h (omega arith) (omega arith))
-
-    module _ (q : Server) (after : List ℕ) (T : Turned (feedAt F work) ends b (getD r b absent) q after) where
-      outs : ℕ → Step
-      outs i = cond (eqb i b) (T .out) (S .outs i)
-
-      out-here : outs b ≡ T .out
-      unfolding outs
-      out-here = rw (eq-eqb b b refl)
-
-      out-there : (i : ℕ) → (i ≡ b → ⊥) → outs i ≡ S .outs i
-      unfolding outs
-      out-there i d = rw (ne-eqb i b d)
-
-      stepped : Stepped (F .work) b (F .arrivals) (F .movement) (F .t) (F .rules) (F .known .m) (server (getD c b absent)) (both (T .out))
-      stepped = let U = rw same at (T .done) in
-          record { votes = U .votes; came = λ h j i m n. U .came h j i m n ∙ rw (still j i m); stages = U .stages }
-
-      cells : (x j i : ℕ) → x < rows → j < places
-          → sender after x j i ≡ (not (eqb (x / receivers) (F .t % 16) && ltb (x % receivers) (b + 1)) && sender (F .work) x j i) || (ltb i (b + 1) && posts i (outs i .sent) x j)
-      cells x j i h m =
-          T .cells x j i h m
-          ∙ rw (S .cells x j i h m)
-          (ap (λ (y : Bool). y || (eqb i b && posts b (T .out .sent) x j)) (apart (eqb x (rowOf (F .t) b)) (not (eqb (x / receivers) (F .t % 16) && ltb (x % receivers) b) && sender (F .work) x j i) (ltb i b && posts i (S .outs i .sent) x j) (λ e. none-yet x j i (its (eqb-true x (rowOf (F .t) b) e))))
-          ∙ rw (taken-more x h (sender (F .work) x j i))
-          (or-assoc (not (eqb (x / receivers) (F .t % 16) && ltb (x % receivers) (b + 1)) && sender (F .work) x j i) (ltb i b && posts i (S .outs i .sent) x j) (eqb i b && posts b (T .out .sent) x j)
-          ∙ rw (by-all (ℕ-discrete i b))))
-        where
-          apart : (a u f : Bool) → (a ≡ true → f ≡ false) → not a && (u || f) ≡ (not a && u) || f
-          apart true u f e = sym (e refl)
-          apart false u f e = refl
-
-          its : x ≡ rowOf (F .t) b → x / receivers ≡ F .t % 16
-          its e = omega arith
-
-          by-all : Dec (i ≡ b) → (ltb i b && posts i (S .outs i .sent) x j) || (eqb i b && posts b (T .out .sent) x j) ≡ ltb i (b + 1) && posts i (outs i .sent) x j
-          by-all (yes e) = rw (e, out-here, le-ltb b b (omega arith), eq-eqb b b refl, lt-ltb b (b + 1) (omega arith))
-          by-all (no d) = rw (out-there i d, ne-eqb i b d) (rw (ne-eqb i b d) at (calendar-laws.Laws.ltb-more i b (posts i (S .outs i .sent) x j)))
-
-      served-turn : TurnedFirst F ends c (set r b q) after (b + 1)
-      served-turn = record {
-        outs = outs;
-        size = length-set r b q ∙ S .size;
-        done = λ i h. done i h (ℕ-discrete i b);
-        next = λ i h. next i h (ℕ-discrete i b);
-        cells = cells;
-      }
-        where
-          done : (i : ℕ) → i < b + 1 → Dec (i ≡ b)
-              → Stepped (F .work) i (F .arrivals) (F .movement) (F .t) (F .rules) (F .known .m) (server (getD c i absent)) (both (outs i))
-          done i h (yes e) = rw (e, out-here) stepped
-          done i h (no d) = rw (out-there i d) (S .done i (omega arith))
-
-          next : (i : ℕ) → i < b + 1 → Dec (i ≡ b) → getD (set r b q) i absent ≡ outs i .server
-          next i h (yes e) = rw (e, out-here) (getD-set-same r b q absent (omega (arith, S .size)) ∙ T .next)
-          next i h (no d) = rw (out-there i d) (getD-set-other r b i q absent d ∙ S .next i (omega arith))
-
   module _ (r : List Server) (work : List ℕ) (b : ℕ) (l : b < 16) (size : length c ≡ 16) (H : Serving r work b)
       (now : (i x j : ℕ) (sent : serving-specs.declared.Outgoing.Outgoing) → i < b → x / receivers ≡ F .t % 16 → posts i sent x j ≡ false) where
+    same : getD r b absent ≡ getD c b absent
+    same = H .rest b (omega arith)
+
+    module _ (calm : Calm (F .rules) (F .known) c) where
+      abbrev S : TurnedFirst F ends c r work b
+      S = H .served calm
+
+      -- no server before it has sent anything that arrives now
+      none-yet : (x j i : ℕ) → x / receivers ≡ F .t % 16 → ltb i b && posts i (S .outs i .sent) x j ≡ false
+      none-yet x j i e = elim (decLe b i) [ yes d ↦ rw (le-ltb i b d) | no d ↦ rw (now i x j (S .outs i .sent) (omega arith) e) (and-false (ltb i b)) ]
+
+      -- its row is as it was
+      still : (j i : ℕ) → j < places → sender work (rowOf (F .t) b) j i ≡ sender (F .work) (rowOf (F .t) b) j i
+      still j i m =
+          let e : rowOf (F .t) b / receivers ≡ F .t % 16 = omega arith in
+          let d : rowOf (F .t) b % receivers ≡ b = omega arith in
+          S .cells (rowOf (F .t) b) j i (omega arith) m
+          ∙ rw (none-yet (rowOf (F .t) b) j i e, d, le-ltb b b (omega arith), and-false (eqb (rowOf (F .t) b / receivers) (F .t % 16)))
+          (or-false (sender (F .work) (rowOf (F .t) b) j i))
+
+      module _ (q : Server) (after : List ℕ) (T : Turned (feedAt F work) ends b (getD r b absent) q after) where
+        abbrev outs : ℕ → Step
+        outs i = cond (eqb i b) (T .out) (S .outs i)
+
+        stepped : Stepped (F .work) b (F .arrivals) (F .movement) (F .t) (F .rules) (F .known .m) (server (getD c b absent)) (both (T .out))
+        stepped = let U = rw same at (T .done) in
+            record { votes = U .votes; came = λ h j i m n. U .came h j i m n ∙ rw (still j i m); stages = U .stages }
+
+        by-all : (x j i : ℕ) → (ltb i b && posts i (S .outs i .sent) x j) || (eqb i b && posts b (T .out .sent) x j) ≡ ltb i (b + 1) && posts i (outs i .sent) x j
+        by-all x j i = elim (ℕ-discrete i b) [
+          | yes e ↦ rw (e, le-ltb b b (omega arith), eq-eqb b b refl, lt-ltb b (b + 1) (omega arith))
+          | no d ↦ rw (ne-eqb i b d) (rw (ne-eqb i b d) at (calendar-laws.Laws.ltb-more i b (posts i (S .outs i .sent) x j)))
+        ]
+
+        cells : (x j i : ℕ) → x < rows → j < places
+            → sender after x j i ≡ (not (eqb (x / receivers) (F .t % 16) && ltb (x % receivers) (b + 1)) && sender (F .work) x j i) || (ltb i (b + 1) && posts i (outs i .sent) x j)
+        cells x j i h m =
+            let more = rw leb·zero at (calendar-laws.Clearing.row-more (F .t) 0 b x (sender (F .work) x j i) h (omega arith) (omega arith)) in
+            T .cells x j i h m ∙ rw (S .cells x j i h m, ← more, ← by-all x j i) (elim (ℕ-discrete x (rowOf (F .t) b)) [
+              | yes e ↦ rw (eq-eqb x (rowOf (F .t) b) e, none-yet x j i (omega arith))
+              | no d ↦ rw (ne-eqb x (rowOf (F .t) b) d) (or-assoc (not (eqb (x / receivers) (F .t % 16) && ltb (x % receivers) b) && sender (F .work) x j i)
+                  (ltb i b && posts i (S .outs i .sent) x j) (eqb i b && posts b (T .out .sent) x j))
+            ])
+
+        served-turn : TurnedFirst F ends c (set r b q) after (b + 1)
+        served-turn = record {
+          outs = outs;
+          size = length-set r b q ∙ S .size;
+          done = λ i h. elim (ℕ-discrete i b) [ yes e ↦ rw (e, eq-eqb b b refl) stepped | no d ↦ rw (ne-eqb i b d) (S .done i (omega arith)) ];
+          next = λ i h. elim (ℕ-discrete i b) [
+            | yes e ↦ rw (e, eq-eqb b b refl) (getD-set-same r b q absent (omega (arith, S .size)) ∙ T .next)
+            | no d ↦ rw (ne-eqb i b d) (getD-set-other r b i q absent d ∙ S .next i (omega arith))
+          ];
+          cells = cells;
+        }
+
     -- a server that something reaches
     pub serving-turn : b < F .rules .n → (q : Server) (after : List ℕ) → CalmlyTurned (feedAt F work) ends b (getD r b absent) q after → Serving (set r b q) after (b + 1)
     serving-turn own q after T = record {
-      past = record { size = T .rest .size ∙ H .past .size; past = λ k h. T .rest .past k h ∙ H .past .past k h };
+      past = past-trans (F .work) work after (H .past) (T .rest);
       spans = T .spans;
       rest = λ i h. getD-set-other r b i q absent (λ e. omega arith) ∙ H .rest i (omega arith);
-      served = λ calm. served-turn r work b l size (H .rest b (omega arith)) (H .served calm) now q after (T .turned (rw (H .rest b (omega arith)) (calm b own)));
+      served = λ calm. served-turn calm q after (T .turned (rw same (calm b own)));
     }
 
     -- a server that nothing new reaches
-    pub serving-idle : b < F .rules .n → F .known .m ≤ places → (due : ℕ) → calendar-specs.Bits.bit b due ≡ cluster-specs.Inputs.isAsked (F .arrivals .requests) b → (busy any : Bool)
+    pub serving-idle : b < F .rules .n → F .known .m ≤ places → (due : ℕ) → bit b due ≡ cluster-specs.Inputs.isAsked (F .arrivals .requests) b → (busy any : Bool)
         → busy ≡ called b due (F .arrivals .live) (F .movement .moving) (F .t) (F .rules .delta) (statusOf (getD r b absent .status)) (getD r b absent .pending)
         → any ≡ reached busy work (rowOf (F .t) b) (statusOf (getD r b absent .status)) (keys (getD r b absent .kept)) → any ≡ false
         → (after : List ℕ) → Emptied work after (rowOf (F .t) b) → Serving r after (b + 1)
     serving-idle own few due all busy any q e none after E = record {
-      past = record { size = E .rest .size ∙ H .past .size; past = λ k h. E .rest .past k h ∙ H .past .past k h };
+      past = past-trans (F .work) work after (H .past) (E .rest);
       spans = E .spans;
       rest = λ i h. H .rest i (omega arith);
-      served = λ calm. subst (λ (x : List Server). TurnedFirst F ends c x after (b + 1)) (set-getD r b absent)
-          (served-turn r work b l size (H .rest b (omega arith)) (H .served calm) now (getD r b absent) after (idle calm));
+      served = λ calm. subst (λ (x : List Server). TurnedFirst F ends c x after (b + 1)) (set-getD r b absent) (served-turn calm (getD r b absent) after
+          (idle-turned (feedAt F work) ends b (getD r b absent) l (H .spans) few (unreached work b (F .arrivals) (F .movement) (F .t) (F .rules .delta) _ _ _ due all busy q (sym e ∙ none))
+          (rw same (calm b own)) after E));
     }
-      where
-        idle : Calm (F .rules) (F .known) c → Turned (feedAt F work) ends b (getD r b absent) (getD r b absent) after
-        idle calm = idle-turned (feedAt F work) ends b (getD r b absent) l (H .spans) few (unreached work b (F .arrivals) (F .movement) (F .t) (F .rules .delta) (statusOf (getD r b absent .status)) (getD r b absent .pending) (keys (getD r b absent .kept)) due all busy q (sym e ∙ none))
-            (rw (H .rest b (omega arith)) (calm b own)) after E
 
 -- ---- the whole tick
 
@@ -263,38 +215,35 @@ sized-after plan work after t rules known links Z P S = record {
   delays = Z .delays;
 }
 
-module _ (F : Fed) (c : cluster-specs.declared.Cluster.Cluster) (heard : List cluster-specs.declared.Reader.Reader) (served : List Server) (noted work : List ℕ) (n : ℕ) (few : n ≤ 16) (size : length (c .servers) ≡ 16)
-    (H : Heard (F .work) noted (F .t) (c .readers) heard) (S : TurnedFirst (feedAt F noted) (endsOf (c .readers)) (c .servers) served work n) where
-  -- a server's row is not a reader's
-  same-votes : (b j i : ℕ) → b < 16 → j < places → sender noted (rowOf (F .t) b) j i ≡ sender (F .work) (rowOf (F .t) b) j i
-  same-votes b j i l m =
-      let d : rowOf (F .t) b % receivers ≡ b = omega arith in
-      H .cells (rowOf (F .t) b) j i (omega arith) m ∙ rw (d, lt-leb 16 b l, and-false (eqb (rowOf (F .t) b / receivers) (F .t % 16)))
+two-taken : (a b c s : Bool) → not (a && b) && (not (a && c) && s) ≡ not (a && (b || c)) && s
+two-taken true true c s = refl
+two-taken true false c s = refl
+two-taken false b c s = refl
 
-  two-taken : (a b c s : Bool) → not (a && b) && (not (a && c) && s) ≡ not (a && (b || c)) && s
-  two-taken true true c s = refl
-  two-taken true false c s = refl
-  two-taken false b c s = refl
-
-  ticked-all : Ticked F c (record { servers = served; readers = heard }) work n
-  unfolding present
-  ticked-all = record {
-    outs = S .outs;
-    servers = S .size ∙ size;
-    done = λ b l.
-        let T = S .done b l in
-        record { votes = T .votes; came = λ h j i m n. T .came h j i m n ∙ rw (same-votes b j i (omega arith) m); stages = T .stages };
-    next = S .next;
-    heard = H .readers;
-    cells = λ x j i l m. S .cells x j i l m
-        ∙ rw (H .cells x j i l m, two-taken (eqb (x / receivers) (F .t % 16)) (ltb (x % receivers) n) (leb 16 (x % receivers)) (sender (F .work) x j i));
-  }
-
+-- a server's row is not a reader's, so it is as it was before the readers heard
 pub calmly-ticked : (F : Fed) (c : cluster-specs.declared.Cluster.Cluster) (heard : List cluster-specs.declared.Reader.Reader) (served : List Server) (noted work : List ℕ) → F .rules .n ≤ 16 → length (c .servers) ≡ 16
     → Heard (F .work) noted (F .t) (c .readers) heard → CalmlyServed (feedAt F noted) (endsOf (c .readers)) (c .servers) served work
     → CalmlyTicked F c (record { servers = served; readers = heard }) work
-calmly-ticked F c heard served noted work few size H S = record {
-  rest = record { size = S .rest .size ∙ H .rest .size; past = λ k l. S .rest .past k l ∙ H .rest .past k l };
-  spans = S .spans;
-  ticked = λ calm. ticked-all F c heard served noted work (F .rules .n) few size H (S .served calm);
+unfolding present
+calmly-ticked F c heard served noted work few size H Z = record {
+  rest = past-trans (F .work) noted work (H .rest) (Z .rest);
+  spans = Z .spans;
+  ticked = λ calm.
+      let S = Z .served calm in
+      record {
+        outs = S .outs;
+        servers = S .size ∙ size;
+        done = λ b l.
+            let T = S .done b l in
+            let d : rowOf (F .t) b % receivers ≡ b = omega arith in
+            record {
+              votes = T .votes;
+              came = λ h j i m n. T .came h j i m n ∙ rw (H .cells (rowOf (F .t) b) j i (omega arith) m, d, lt-leb 16 b (omega arith), and-false (eqb (rowOf (F .t) b / receivers) (F .t % 16)));
+              stages = T .stages;
+            };
+        next = S .next;
+        heard = H .readers;
+        cells = λ x j i l m. S .cells x j i l m
+            ∙ rw (H .cells x j i l m, two-taken (eqb (x / receivers) (F .t % 16)) (ltb (x % receivers) (F .rules .n)) (leb 16 (x % receivers)) (sender (F .work) x j i));
+      };
 }

@@ -2,7 +2,7 @@
 -- It stands on the calendar's laws of posting.
 use mathlib.Core.Path.{_≡_}
 use mathlib.Core.Bool.{false, _&&_, or-comm, or-false}
-use mathlib.Core.Logic.{inl, inr}
+use mathlib.Core.Logic.{_⊎_, inl, inr}
 use mathlib.Core.List.{List}
 use Prim.Native.Nat.{ℕ, _+_, _*_, _-_, _%_, _≤_, _<_}
 use native.Mathlib.Omega.{arith}
@@ -77,48 +77,41 @@ module _ (ends : List ℕ) (n : ℕ) (a : List ℕ) (from : ℕ) where
 
 -- ---- the rows of the sixteen ticks after t
 
+-- a row that it goes to is the receiver's, and a reader is still there
+goes-row : (ends : List ℕ) (n q a x : ℕ) → T (goesTo ends n q a x)
+    → ((q < n) × (x ≡ rowOf a q)) ⊎ ((n < q) × (q - n ≤ 4) × (a ≤ getD ends (q - n - 1) 0) × (x ≡ rowOf a (15 + (q - n))))
+unfolding goesTo
+goes-row ends n q a x h = elim (or-e (ltb q n && eqb x (rowOf a q)) _ h) [
+  | inl y ↦ inl (ltb→lt q n (and-l (ltb q n) _ y), eqb→eq x (rowOf a q) (and-r (ltb q n) _ y))
+  | inr y ↦ (
+      let z = and-r (ltb n q) _ y in
+      let w = and-r (leb (q - n) 4) _ z in
+      let u = getD ends (q - n - 1) 0 in
+      inr (
+        ltb→lt n q (and-l (ltb n q) _ y),
+        leb→le (q - n) 4 (and-l (leb (q - n) 4) _ z),
+        leb→le a u (and-l (leb a u) _ w),
+        eqb→eq x (rowOf a (15 + (q - n))) (and-r (leb a u) _ w),
+      )
+      )
+]
+
 rows-apart : (s a y z : ℕ) → y ≤ 4 → z ≤ 4 → rowOf s (15 + y) ≡ rowOf a (15 + z) → (z ≡ y) × (a % 16 ≡ s % 16)
 rows-apart s a y z h l e = (omega arith, omega arith)
 
 module _ (ends : List ℕ) (n t q a s : ℕ) (few : n ≤ 16) (after : t < a) (within : a ≤ t + 15) (later : t < s) (seen : s ≤ t + 16) where
   module _ (b : ℕ) (server : b < n) where
     pub server-row : T (goesTo ends n q a (rowOf s b)) → (q ≡ b) × (a ≡ s)
-    unfolding goesTo
-    server-row h = elim (or-e (ltb q n && eqb (rowOf s b) (rowOf a q)) _ h) [
-      | inl y ↦ (
-          let l = ltb→lt q n (and-l (ltb q n) _ y) in
-          let e = eqb→eq (rowOf s b) (rowOf a q) (and-r (ltb q n) _ y) in
-          (omega arith, omega arith)
-          )
-      | inr y ↦ (
-          let l = ltb→lt n q (and-l (ltb n q) _ y) in
-          let z = and-r (ltb n q) _ y in
-          let m = leb→le (q - n) 4 (and-l (leb (q - n) 4) _ z) in
-          let w = and-r (leb (q - n) 4) _ z in
-          let e = eqb→eq (rowOf s b) (rowOf a (15 + (q - n))) (and-r (leb a (getD ends (q - n - 1) 0)) _ w) in
-          absurd (omega arith)
-          )
-    ]
+    server-row h = elim (goes-row ends n q a (rowOf s b) h) [ inl (l, e) ↦ (omega arith, omega arith) | inr (l, m, d, e) ↦ absurd (omega arith) ]
 
   slots-apart : a % 16 ≡ s % 16 → a ≡ s
   slots-apart e = omega arith
 
   module _ (y : ℕ) (first : 1 ≤ y) (last : y ≤ 4) where
     pub reader-row : T (goesTo ends n q a (rowOf s (15 + y))) → (q ≡ n + y) × (a ≡ s) × (s ≤ getD ends (y - 1) 0)
-    unfolding goesTo
-    reader-row h = elim (or-e (ltb q n && eqb (rowOf s (15 + y)) (rowOf a q)) _ h) [
-      | inl u ↦ (
-          let l = ltb→lt q n (and-l (ltb q n) _ u) in
-          let e = eqb→eq (rowOf s (15 + y)) (rowOf a q) (and-r (ltb q n) _ u) in
-          absurd (omega arith)
-          )
-      | inr u ↦ (
-          let l = ltb→lt n q (and-l (ltb n q) _ u) in
-          let z = and-r (ltb n q) _ u in
-          let m = leb→le (q - n) 4 (and-l (leb (q - n) 4) _ z) in
-          let w = and-r (leb (q - n) 4) _ z in
-          let d = leb→le a (getD ends (q - n - 1) 0) (and-l (leb a (getD ends (q - n - 1) 0)) _ w) in
-          let e = eqb→eq (rowOf s (15 + y)) (rowOf a (15 + (q - n))) (and-r (leb a (getD ends (q - n - 1) 0)) _ w) in
+    reader-row h = elim (goes-row ends n q a (rowOf s (15 + y)) h) [
+      | inl (l, e) ↦ absurd (omega arith)
+      | inr (l, m, d, e) ↦ (
           let (qy, slot) = rows-apart s a y (q - n) last m e in
           let same : a ≡ s = slots-apart slot in
           (omega arith, same, rw (qy, same) at d)

@@ -6,11 +6,10 @@ use Prim.Native.Nat.{ℕ, _+_, _*_, _-_, _≤_, _<_}
 use native.Mathlib.Numerals.{add-one}
 use native.Mathlib.Omega.{arith}
 use lib.ListN.{length, getD, take, drop, length-drop, replicate}
-use lib.Seq.{take-all, take-suc, take-at, drop-drop, drop-append-add, length-take-le, ext-getD, getD-drop}
+use lib.Seq.{take-suc, take-at, drop-drop, drop-append-add, length-take-le, ext-getD, getD-drop}
 use Rattle.register.specs.Plan.{Plan, Read}
 use Rattle.register.specs.Reading.{answerOf}
-use Rattle.plan.specs.Packed.{planOf}
-use Rattle.answers.specs.Answers.{answerBytes, answersFor, answersOf}
+use Rattle.answers.specs.Answers.{answerBytes, answersFor}
 use Rattle.answers.specs.Workspace.{workspaceSize, zeroed}
 use Rattle.answers.proofs.Lengths.{answers-length}
 
@@ -27,10 +26,6 @@ module _ (P : Plan) where
   unfolding answersFor
   all-one r = append-nil (answerBytes 16 r (answerOf P r))
 
-  pub answers-none : (b : List ℕ) → b ≡ answersFor 16 P [] ++ drop 0 b
-  unfolding answersFor
-  answers-none b = refl
-
   -- with i answers written, one more is placed at its own five bytes
   pub answers-more : (rs : List Read) (b buffer : List ℕ) (i : ℕ) (d : Read) → i < length rs → buffer ≡ answersFor 16 P (take i rs) ++ drop (5 * i) b
       → take (5 * i) buffer ++ (answerBytes 16 (getD rs i d) (answerOf P (getD rs i d)) ++ drop 5 (drop (5 * i) buffer))
@@ -43,19 +38,10 @@ module _ (P : Plan) where
       let e : drop (5 * i + 5) (p ++ q) ≡ drop (5 * i + 5) b = drop-past p q (5 * i) 5 n ∙ drop-drop 5 (5 * i) b in
       rw (is, take-at p q (5 * i) n, drop-drop, e, k, add-one, take-suc rs i d h, all-append, all-one) (sym (append-assoc p _ _))
 
--- all answers are written
-pub answers-done : (s b buffer : List ℕ) (i : ℕ) → i ≡ length (planOf 16 s .reads) → buffer ≡ answersFor 16 (planOf 16 s) (take i (planOf 16 s .reads)) ++ drop (5 * i) b
-    → buffer ≡ answersOf 16 s ++ drop (5 * i) b
-unfolding answersOf
-answers-done s b buffer i e is = rw (take-all i (planOf 16 s .reads) (omega arith)) at is
-
 -- zeroing forgets what was written below byte 60,000
-module _ (a b : List ℕ) (size : length b ≡ length a) where
-  past : (n : ℕ) → ((p : ℕ) → n ≤ p → getD b p 0 ≡ getD a p 0) → drop n b ≡ drop n a
-  past n same =
-      ext-getD 0 (drop n b) (drop n a) (length-drop n b ∙ ap (λ (k : ℕ). k - n) size ∙ sym (length-drop n a))
-      (λ i l. getD-drop n b i 0 ∙ same (n + i) (omega arith) ∙ sym (getD-drop n a i 0))
-
-  pub zeroed-same : ((p : ℕ) → workspaceSize ≤ p → getD b p 0 ≡ getD a p 0) → zeroed b ≡ zeroed a
-  unfolding zeroed
-  zeroed-same same = ap (λ (l : List ℕ). replicate workspaceSize 0 ++ l) (past workspaceSize same)
+pub zeroed-same : (a b : List ℕ) → length b ≡ length a → ((p : ℕ) → workspaceSize ≤ p → getD b p 0 ≡ getD a p 0) → zeroed b ≡ zeroed a
+unfolding zeroed
+zeroed-same a b size same =
+    ap (λ (l : List ℕ). replicate workspaceSize 0 ++ l) (ext-getD 0 (drop workspaceSize b) (drop workspaceSize a)
+    (length-drop workspaceSize b ∙ ap (λ (k : ℕ). k - workspaceSize) size ∙ sym (length-drop workspaceSize a))
+    (λ i l. getD-drop workspaceSize b i 0 ∙ same (workspaceSize + i) (omega arith) ∙ sym (getD-drop workspaceSize a i 0)))

@@ -52,15 +52,13 @@ module _ (s : List ℕ) (r : Script) (R : Decoded s r) where
   reader-range i l = knows .readers (readAt (r .reads) i) (listed i l)
 
   begins-rise : (i j : ℕ) → i ≤ j → j < r .reads .m → begunAt i ≤ begunAt j
-  begins-rise i j h l = go (ℕ-discrete i j)
-    where
-      go : Dec (i ≡ j) → begunAt i ≤ begunAt j
-      go (yes e) = rw e (omega arith)
-      go (no d) =
-          let a = R .scripted .reads .each i (omega arith) in
-          let b = R .scripted .reads .each j l in
-          let x = rw (a, b) at (reads-rise 16 s (R .playable) noRead i j (omega arith) (omega (arith, R .scripted .reads .count))) in
-          omega (arith, x, reader-range i (omega arith) .1, reader-range j l .1)
+  begins-rise i j h l = elim (ℕ-discrete i j) [
+    | yes e ↦ rw e (omega arith)
+    | no d ↦ (let a = R .scripted .reads .each i (omega arith) in
+        let b = R .scripted .reads .each j l in
+        let x = rw (a, b) at (reads-rise 16 s (R .playable) noRead i j (omega arith) (omega (arith, R .scripted .reads .count))) in
+        omega (arith, x, reader-range i (omega arith) .1, reader-range j l .1))
+  ]
 
   -- from its cursor on, no read begins before the tick
   pub not-before : (u k i : ℕ) → Until (r .reads .begun) (r .reads .m) 0 u k → k ≤ i → i < r .reads .m → u ≤ begunAt i

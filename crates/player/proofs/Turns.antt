@@ -1,33 +1,25 @@
 -- A tick as the code has it: the readers hear, the servers go through their stages, reads end and begin, messages are forged.
 -- It stands on Ticking.
-use mathlib.Core.Path.{_≡_, refl, sym, ap, _∙_}
-use mathlib.Core.Bool.{false, _||_}
-use mathlib.Core.List.{List}
+use mathlib.Core.{Path._≡_, Path.refl, Path.sym, Path.ap, Path._∙_, Bool.false, Bool._||_, List.List}
 use Prim.Native.Nat.{ℕ, suc, _+_, _*_, _-_, _≤_, _<_}
-use native.Mathlib.Omega.{arith}
-use native.Mathlib.Numerals.{add-one}
-use native.Mathlib.Decide.{decLe}
-use lib.ListN.{length, getD, length-map}
-use lib.Seq.{ext-getD}
+use native.Mathlib.{Omega.arith, Numerals.add-one, Decide.decLe}
+use lib.{ListN.length, ListN.getD, ListN.length-map, Seq.ext-getD}
 use Rattle.register.proofs.Logic.{neither}
 use Rattle.plan.specs.Packed.{planOf}
 use Rattle.calendar.specs.View.{Posted}
-use Rattle.cluster.specs as cluster-specs
 use Rattle.serving.specs.declared.Server.{Server}
-use Rattle.cluster.specs.Tick.{Hearing, Heard, noReader, endsOf, feedOf}
+use Rattle.cluster.specs as cluster-specs
+use Rattle.cluster.{specs.Tick.Hearing, specs.Tick.Heard, specs.Tick.noReader, specs.Tick.endsOf, specs.Tick.feedOf, proofs.ServeLaws.sized-after, proofs.ServeLaws.calmly-ticked}
 use Rattle.states.proofs as states-laws
-use Rattle.cluster.proofs.ServeLaws.{sized-after, calmly-ticked}
 use Rattle.script.specs as script-specs
 use Rattle.forging.specs.Forging.{SentIn, forges}
-use Rattle.requests.specs.Requests.{SameOutside}
-use Rattle.requests.proofs.Requesting.{behind-trans, outside-trans, past-behind}
-use Rattle.asking.specs.Asking.{WroteOn}
-use Rattle.asking.proofs.Laws.{between-none}
+use Rattle.requests.{specs.Requests.SameBehind, specs.Requests.SameOutside, proofs.Requesting.behind-trans, proofs.Requesting.outside-trans, proofs.Requesting.past-behind}
+use Rattle.asking.{specs.Asking.WroteOn, proofs.Laws.between-none}
 use Rattle.reading.specs as reading-specs
-use Rattle.player.specs as player-specs
 use Rattle.reading.proofs.Cursors.{until-more, until-still, placed-none, begun-none}
+use Rattle.player.specs as player-specs
 use Rattle.player.proofs as player-laws
-use Rattle.player.proofs.Ticking.{sized, kept, servers-there, answers-are, can-forge, state-next}
+use Rattle.player.proofs.Ticking.{sized, ticked, answers-are, state-next}
 
 -- ---- the ends of the readers' reads
 
@@ -103,6 +95,9 @@ module _ (s work : List ℕ) (r : script-specs.declared.Script.Script) (t : ℕ)
       outside : SameOutside work₁ work₃
       outside = outside-trans work₁ work₂ work₃ (N .outside) (W .asked .outside)
 
+      behind : SameBehind work work₃
+      behind = behind-trans work work₁ work₃ (past-behind work work₁ (fed .rest)) (outside .rest)
+
       have-ended : reading-specs.Reading.Until (r .reads .begun) (r .reads .m) 0 (t + 1 - 2 * r .rules .delta) (z .answered)
       have-ended =
           until-more (r .reads .begun) (r .reads .m) (t - 2 * r .rules .delta) (t + 1 - 2 * r .rules .delta) (p .answered) (z .answered) (omega arith) (L .answered)
@@ -113,24 +108,22 @@ module _ (s work : List ℕ) (r : script-specs.declared.Script.Script) (t : ℕ)
 
       pub forge-ready : (r .rules .n ≤ 16) × (t < 128) × (script-specs.Forged.entriesEnd ≤ length work₃) × SentIn work₃ (r .starts) t
       forge-ready =
-          can-forge s r (Q .decoded) work (Q .kept) (Q .room) t below written (p .ends) f F c (L .state) (L .requested) (L .written) same d work₁ fed work₃ outside
-          (p .begun) (z .begun) (L .begun) have-begun (omega (arith, W .began .from, H .begun))
+          player-laws.Posts.can-forge s r (Q .decoded) t below work₃ (behind-trans (Q .decoded .after) work work₃ (Q .kept) behind) (z .ends) (omega (arith, Q .room, behind .size))
 
       pub went : (work₄ : List ℕ) → Posted work₃ work₄ (forges (z .ends) (r .rules .n) work₃ (getD (r .starts) t 0) (getD (r .starts) (t + 1) 0))
           → player-specs.Run.Went s work work₄ answers answers₁ r (at servers p written t) (at served z written₁ (t + 1))
       went work₄ P =
           let D = Q .decoded in
-          let k = kept s r D work (Q .kept) (Q .room) t below written (p .ends) f F c (L .state) (L .requested) (L .written) same d work₁ fed in
           let rs = rw (H .begun) at (W .readers) in
           let up : p .begun ≤ z .begun = omega (arith, W .began .from, H .begun) in
           record {
-            kept = behind-trans work work₁ work₄ (past-behind work work₁ k) (behind-trans work₁ work₃ work₄ (outside .rest) (past-behind work₃ work₄ (P .rest)));
+            kept = behind-trans work work₃ work₄ behind (past-behind work₃ work₄ (P .rest));
             played = record {
-              size = servers-there s r D work (Q .kept) (Q .room) t below written (p .ends) f F c (L .state) (L .requested) (L .written) same d work₁ fed;
+              size = ticked s r D work (Q .kept) (Q .room) t below written (p .ends) f F c (L .state) (L .requested) (L .written) same d work₁ fed .servers;
               state = rw (add-one t) (state-next s r D work (Q .kept) (Q .room) t below written (p .ends) f F c (L .state) (L .requested) (L .written) same d work₁ fed work₃ outside
                   (p .begun) (z .begun) (L .begun) have-begun up (at served z written₁ t .cluster) work₄ refl rs (rw (W .ends, rs) at P));
               requested = rw (add-one t) (states-laws.RequestLaws.requested-past (planOf 16 s) (suc t) work₃ work₄ (P .rest) (player-laws.Requests.requested-after s r D t below written (L .written) (p .begun) (z .begun) (L .begun) have-begun up
-                  written₁ work₁ work₂ work₃ (states-laws.RequestLaws.requested-past (planOf 16 s) t work work₁ k (L .requested)) N (rw (H .begun) at (W .asked))));
+                  written₁ work₁ work₂ work₃ (states-laws.RequestLaws.requested-past (planOf 16 s) t work work₁ (fed .rest) (L .requested)) N (rw (H .begun) at (W .asked))));
               written = rw (add-one t) (player-laws.Requests.written-next s r D t below written (L .written) written₁ work₁ work₂ N);
               begun = have-begun;
               answered = have-ended;

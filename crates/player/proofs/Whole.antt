@@ -1,28 +1,21 @@
 -- From a script that was read to the end of its ticks: the start, one tick more, all answers, and what is left of the workspace.
 -- It stands on Turns and Buffers.
-use mathlib.Core.Path.{_≡_, refl, ap, _∙_}
-use mathlib.Core.Logic.{inr}
-use mathlib.Core.List.{List, _++_}
+use mathlib.Core.{Path._≡_, Path.refl, Path.ap, Path._∙_, Logic.inr, List.List, List._++_}
 use Prim.Native.Nat.{ℕ, zero, suc, _+_, _*_, _-_, _≤_, _<_}
-use native.Mathlib.Numerals.{add-one}
-use native.Mathlib.Omega.{arith}
-use native.Mathlib.Decide.{decLe}
-use lib.ListN.{length, getD, take, drop}
+use native.Mathlib.{Numerals.add-one, Omega.arith, Decide.decLe}
+use lib.{ListN.length, ListN.getD, ListN.take, ListN.drop, Seq.take-all}
 use Rattle.plan.specs as plan-specs
-use Rattle.plan.specs.Packed.{planOf}
-use Rattle.plan.proofs as plan-laws
-use Rattle.requests.specs.Requests.{SameBehind}
-use Rattle.requests.proofs.Requesting.{behind-trans}
+use Rattle.plan.{specs.Packed.planOf, proofs.Tests.getD-in, proofs.AcceptReads.read-stands}
+use Rattle.requests.{specs.Requests.SameBehind, proofs.Requesting.behind-trans}
 use Rattle.states.proofs as states-laws
-use Rattle.cluster.specs.Inputs.{pairAt}
 use Rattle.serving.specs.Stored.{absent}
 use Rattle.script.specs as script-specs
-use Rattle.script.proofs.Fitting.{script-knows}
 use Rattle.answers.specs as answers-specs
+use Rattle.answers.specs.Answers.{answersFor, answersOf}
 use Rattle.reading.specs.Reading.{placed}
+use Rattle.reading.proofs.Cursors.{until-none, placed-none, placed-on}
 use Rattle.player.specs as player-specs
 use Rattle.player.specs.Run.{Decoded, Ready, PlayedTo, Fresh, answerIn, Went}
-use Rattle.reading.proofs.Cursors.{until-none, placed-none, placed-on}
 use Rattle.player.proofs as player-laws
 
 pub ready-kept : (s a b : List ℕ) (r : script-specs.declared.Script.Script) → SameBehind a b → Ready s a r → Ready s b r
@@ -39,8 +32,7 @@ module _ (s : List ℕ) (r : script-specs.declared.Script.Script) where
   played-none before work p D E =
       rw (E .first) (record {
         size = E .started .size;
-        state = states-laws.StateLaws.first-state (planOf 16 s) (pairAt (r .writes .known)) (r .writes .known .m)
-            (script-knows s (D .before) (D .after) (D .playable) r (D .scripted)) (p .cluster) work (E .started) (E .empty);
+        state = states-laws.StateLaws.first-state (planOf 16 s) _ (r .writes .known .m) (player-laws.Tables.knows s r D) (p .cluster) work (E .started) (E .empty);
         requested = states-laws.RequestLaws.requested-none (planOf 16 s) work (E .unasked);
         written = record { below = omega (arith, D .scripted .writes .count); before = λ h. absurd (omega arith); last = λ j a b. omega arith };
         begun = until-none (r .reads .begun) (r .reads .m) 0 refl;
@@ -68,9 +60,9 @@ module _ (s : List ℕ) (r : script-specs.declared.Script.Script) where
       }
 
 -- the answers of the first reads, placed one by one
-all-placed : (s b : List ℕ) (i : ℕ) → i ≤ length (planOf 16 s .reads) → placed (answerIn s) 0 i b ≡ answers-specs.Answers.answersFor 16 (planOf 16 s) (take i (planOf 16 s .reads)) ++ drop (5 * i) b
-unfolding placed
-all-placed s b zero h = player-laws.Buffers.answers-none (planOf 16 s) b
+all-placed : (s b : List ℕ) (i : ℕ) → i ≤ length (planOf 16 s .reads) → placed (answerIn s) 0 i b ≡ answersFor 16 (planOf 16 s) (take i (planOf 16 s .reads)) ++ drop (5 * i) b
+unfolding placed answersFor
+all-placed s b zero h = refl
 all-placed s b (suc i) h =
     let z : 0 + i ≡ i = omega arith in
     rw (z, ← add-one i) (player-laws.Buffers.answers-more (planOf 16 s) (planOf 16 s .reads) b (placed (answerIn s) 0 i b) i script-specs.Operations.noRead (omega arith) (all-placed s b i (omega arith)))
@@ -85,12 +77,6 @@ module _ (s before after started : List ℕ) (r : script-specs.declared.Script.S
 
   pub begun : PlayedTo s started r first
   begun = played-none s r after started first decoded fresh
-
-  pub servers-few : plan-specs.Header.headerOf 16 s .n ≤ 16
-  servers-few = player-laws.Feeding.range s r decoded .n-hi
-
-  pub ticks-are : r .shape .ticks ≡ plan-specs.Header.headerOf 16 s .ticks
-  ticks-are = player-laws.Feeding.ticks-same s r decoded
 
   module _ (work answers answers₁ : List ℕ) (p : player-specs.declared.Playing.Playing) (W : Went s started work answers answers₁ r first p) where
     all-zeroed : (end : List ℕ) → end ≡ answers-specs.Workspace.zeroed work → end ≡ answers-specs.Workspace.zeroed before
@@ -110,9 +96,9 @@ module _ (s before after started : List ℕ) (r : script-specs.declared.Script.S
     none-left : p .tick ≡ r .shape .ticks → p .answered < r .reads .m → ⊥
     unfolding planOf
     none-left e l =
-        let q = rw (scripted .reads .each (p .answered) l) at (plan-laws.Tests.getD-in (planOf 16 s .reads) (p .answered) script-specs.Operations.noRead (omega (arith, scripted .reads .count))) in
-        let Q = plan-laws.AcceptReads.read-stands 16 s playable _ q in
-        omega (arith, W .played .answered .next l, Q .ends, e, ticks-are, scripted .rules .delta)
+        let q = rw (scripted .reads .each (p .answered) l) at (getD-in (planOf 16 s .reads) (p .answered) script-specs.Operations.noRead (omega (arith, scripted .reads .count))) in
+        let Q = read-stands 16 s playable _ q in
+        omega (arith, W .played .answered .next l, Q .ends, e, player-laws.Feeding.ticks-same s r decoded, scripted .rules .delta)
 
     all-answered : p .tick ≡ r .shape .ticks → p .answered ≡ length (planOf 16 s .reads)
     all-answered e = elim (decLe (r .reads .m) (p .answered)) [
@@ -121,12 +107,13 @@ module _ (s before after started : List ℕ) (r : script-specs.declared.Script.S
     ]
 
     pub all-there : p .tick ≡ r .shape .ticks → (end : List ℕ) → end ≡ answers-specs.Workspace.zeroed work → player-specs.Player.AllAnswered s answers answers₁ before end
+    unfolding answersOf
     all-there e end z =
         let k = all-answered e in
         let none : first .answered ≡ 0 = ap (λ (x : player-specs.declared.Playing.Playing). x .answered) (fresh .first) in
         let all : p .answered - 0 ≡ p .answered = omega arith in
         let whole : answers₁ ≡ placed (answerIn s) 0 (p .answered) answers = rw (none, all) at (W .answers) in
         record {
-          answers = rw (← k) (player-laws.Buffers.answers-done s answers answers₁ (p .answered) k (whole ∙ all-placed s answers (p .answered) (omega arith)));
+          answers = rw (← k) (rw (take-all (p .answered) (planOf 16 s .reads) (omega arith)) at (whole ∙ all-placed s answers (p .answered) (omega arith)));
           workspace = all-zeroed end z;
         }

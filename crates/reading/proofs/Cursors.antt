@@ -26,11 +26,12 @@ module _ (begun : List ℕ) (m : ℕ) where
   until-none u e = record { from = omega arith; few = omega arith; below = λ i a b. absurd (omega arith); next = λ h. omega arith }
 
   pub until-more : (u v k r : ℕ) → u ≤ v → Until begun m 0 u k → Until begun m k v r → Until begun m 0 v r
-  until-more u v k r h A B = record { from = omega arith; few = B .few; below = λ i a b. go i b (decLe k i); next = B .next }
-    where
-      go : (i : ℕ) → i < r → Dec (k ≤ i) → getD begun i 0 < v
-      go i b (yes c) = B .below i c b
-      go i b (no c) = omega (arith, A .below i (omega arith) (omega arith))
+  until-more u v k r h A B = record {
+    from = omega arith;
+    few = B .few;
+    below = λ i a b. elim (decLe k i) [ yes c ↦ B .below i c b | no c ↦ omega (arith, A .below i (omega arith) (omega arith)) ];
+    next = B .next;
+  }
 
   module _ (k u i : ℕ) (lo : k ≤ i) (below : (j : ℕ) → k ≤ j → j < i → getD begun j 0 < u) where
     pub until-found : i < m → u ≤ getD begun i 0 → Until begun m k u i
@@ -115,14 +116,13 @@ module _ (by : List ℕ) (end k : ℕ) (rs : List Reader) where
   pub begun-there : (x n i : ℕ) → k ≤ i → i < k + n → x ≡ getD by i 0 - 1 → x < length rs → getD (begunBy by end k n rs) x noReader ≡ freshReader end
   unfolding begunBy
   begun-there x zero i a l e h = absurd (omega arith)
-  begun-there x (suc n) i a l e h = go (ℕ-discrete x (getD by (k + n) 0 - 1)) (ℕ-discrete i (k + n)) (λ z. begun-there x n i a z e h)
-    where
-      go : Dec (x ≡ getD by (k + n) 0 - 1) → Dec (i ≡ k + n) → (i < k + n → getD (begunBy by end k n rs) x noReader ≡ freshReader end)
-          → getD (set (begunBy by end k n rs) (getD by (k + n) 0 - 1) (freshReader end)) x noReader ≡ freshReader end
-      go (yes d) z ih = rw (← d) (getD-set-same (begunBy by end k n rs) x (freshReader end) noReader (omega (arith, begun-size n)))
-      go (no d) (yes z) ih = absurd (d (rw z at e))
-      go (no d) (no z) ih =
-          getD-set-other (begunBy by end k n rs) (getD by (k + n) 0 - 1) x (freshReader end) noReader d ∙ ih (omega arith)
+  begun-there x (suc n) i a l e h = elim (ℕ-discrete x (getD by (k + n) 0 - 1)) [
+    | yes d ↦ rw (← d) (getD-set-same (begunBy by end k n rs) x (freshReader end) noReader (omega (arith, begun-size n)))
+    | no d ↦ (
+        let z : i < k + n = elim (ℕ-discrete i (k + n)) [ yes z ↦ absurd (d (rw z at e)) | no z ↦ omega arith ] in
+        getD-set-other (begunBy by end k n rs) (getD by (k + n) 0 - 1) x (freshReader end) noReader d ∙ begun-there x n i a z e h
+        )
+  ]
 
   pub begun-more : (i : ℕ) (a r : List Reader) → k ≤ i → a ≡ begunBy by end k (i - k) rs → r ≡ set a (getD by i 0 - 1) (freshReader end)
       → r ≡ begunBy by end k (i + 1 - k) rs

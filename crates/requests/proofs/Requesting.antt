@@ -1,6 +1,6 @@
 -- What a request adds, and what is left when a tick's requests are taken. It stands on the calendar's laws of words.
 use mathlib.Core.Path.{_≡_, refl, sym, _∙_}
-use mathlib.Core.Bool.{Bool, true, false, not, _&&_, _||_, and-true, and-false, or-false, or-assoc}
+use mathlib.Core.Bool.{Bool, false, _&&_, _||_, and-comm, or-false, or-assoc}
 use mathlib.Core.List.{List}
 use Prim.Native.Nat.{ℕ, _+_, _*_, _%_, _^_, _≤_, _<_}
 use native.Mathlib.Omega.{arith}
@@ -53,24 +53,15 @@ asked-trans a b c g h A B = record {
 -- ---- a request is posted
 
 same-request : (t q u p : ℕ) → q < parties → p < parties → eqb (requestWord t q) (requestWord u p) ≡ eqb q p && eqb (u % 16) (t % 16)
-same-request t q u p hq hp = go (ℕ-discrete q p) (ℕ-discrete (u % 16) (t % 16))
-  where
-    go : Dec (q ≡ p) → Dec (u % 16 ≡ t % 16) → eqb (requestWord t q) (requestWord u p) ≡ eqb q p && eqb (u % 16) (t % 16)
-    go (yes d) (yes e) = rw (eq-eqb q p d, eq-eqb (u % 16) (t % 16) e, eq-eqb (requestWord t q) (requestWord u p) (omega arith))
-    go (yes d) (no e) = rw (eq-eqb q p d, ne-eqb (u % 16) (t % 16) e, ne-eqb (requestWord t q) (requestWord u p) (λ g. e (omega arith)))
-    go (no d) e = rw (ne-eqb q p d, ne-eqb (requestWord t q) (requestWord u p) (λ g. d (omega arith)))
+same-request t q u p hq hp = laws.eqb-both (requestWord t q) (requestWord u p) q p (u % 16) (t % 16) (λ e. (omega arith, omega arith)) (λ d e. omega arith)
 
 module _ (s : Sending) (p : ℕ) (hp : p < parties) where
   pub asked-first : (a : List ℕ) → Asked a a (askedFirst s p 0)
-  asked-first a = record { outside = outside-none a; requests = λ t q b l. rw (le-ltb b 0 (omega arith)) (sym (or-false (reachedBy a t q b))) }
+  asked-first a = asked-none a _ (λ t q b. rw (le-ltb b 0 (omega arith)))
 
   -- server b's share
   to-server : (t q c b : ℕ) → (eqb q p && eqb (arrivalOf s b % 16) (t % 16)) && eqb c b ≡ eqb c b && (eqb q p && eqb (arrivalOf s c % 16) (t % 16))
-  to-server t q c b = go (eqb c b) refl
-    where
-      go : (e : Bool) → eqb c b ≡ e → (eqb q p && eqb (arrivalOf s b % 16) (t % 16)) && e ≡ e && (eqb q p && eqb (arrivalOf s c % 16) (t % 16))
-      go true e = rw (eqb-true c b e) (and-true (eqb q p && eqb (arrivalOf s b % 16) (t % 16)))
-      go false e = and-false (eqb q p && eqb (arrivalOf s b % 16) (t % 16))
+  to-server t q c b = and-comm (eqb q p && eqb (arrivalOf s b % 16) (t % 16)) (eqb c b) ∙ laws.under (eqb c b) _ _ (λ e. rw (eqb-true c b e))
 
   -- the bytes with server b reached
   unfoldable pub reaching : List ℕ → ℕ → List ℕ
@@ -114,19 +105,20 @@ zeroed-outside a r from to h l Z = record {
 pub taken : (a r : List ℕ) (t from : ℕ) → from ≡ 2 * requestWord t 0 → Zeroed a r from (from + 2 * parties) → Taken a r t
 taken a r t from d Z = record {
   outside = zeroed-outside a r from (from + 2 * parties) (omega arith) (omega arith) Z;
-  requests = λ u p b l. go u p b l (ℕ-discrete (u % 16) (t % 16)) (decLe (u % 16) (t % 16));
+  requests = λ u p b l. elim (ℕ-discrete (u % 16) (t % 16)) [
+    | yes e ↦ rw (eq-eqb (u % 16) (t % 16) e, laws.zeroed-word a r from (from + 2 * parties) (requestWord u p) (omega arith) (omega arith) Z) (laws.bit-zero b)
+    | no e ↦ rw (ne-eqb (u % 16) (t % 16) e) (elim (decLe (u % 16) (t % 16)) [
+      | yes g ↦ word-below a r from (from + 2 * parties) (requestWord u p) b Z (below (u % 16) (t % 16) p l e g d)
+      | no g ↦ word-above a r from (from + 2 * parties) (requestWord u p) b Z (above (u % 16) (t % 16) p g d)
+    ])
+  ];
 }
   where
-    go : (u p b : ℕ) → p < parties → Dec (u % 16 ≡ t % 16) → Dec (u % 16 ≤ t % 16) → reachedBy r u p b ≡ not (eqb (u % 16) (t % 16)) && reachedBy a u p b
-    go u p b l (yes e) g = rw (eq-eqb (u % 16) (t % 16) e, laws.zeroed-word a r from (from + 2 * parties) (requestWord u p) (omega arith) (omega arith) Z) (laws.bit-zero b)
-    go u p b l (no e) (yes g) = rw (ne-eqb (u % 16) (t % 16) e) (word-below a r from (from + 2 * parties) (requestWord u p) b Z (below (u % 16) (t % 16) e g d))
-      where
-        below : (v w : ℕ) → (v ≡ w → ⊥) → v ≤ w → from ≡ 2 * (requestsAt + (parties * w + 0)) → 2 * (requestsAt + (parties * v + p)) + 1 < from
-        below v w e g d = omega arith
-    go u p b l (no e) (no g) = rw (ne-eqb (u % 16) (t % 16) e) (word-above a r from (from + 2 * parties) (requestWord u p) b Z (above (u % 16) (t % 16) g d))
-      where
-        above : (v w : ℕ) → (v ≤ w → ⊥) → from ≡ 2 * (requestsAt + (parties * w + 0)) → from + 2 * parties ≤ 2 * (requestsAt + (parties * v + p))
-        above v w g d = omega arith
+    below : (v w p : ℕ) → p < parties → (v ≡ w → ⊥) → v ≤ w → from ≡ 2 * (requestsAt + (parties * w + 0)) → 2 * (requestsAt + (parties * v + p)) + 1 < from
+    below v w p l e g d = omega arith
+
+    above : (v w p : ℕ) → (v ≤ w → ⊥) → from ≡ 2 * (requestsAt + (parties * w + 0)) → from + 2 * parties ≤ 2 * (requestsAt + (parties * v + p))
+    above v w p g d = omega arith
 
 -- all words are zeroed
 pub unasked : (a r : List ℕ) → Zeroed a r calendarSize requestsEnd → SameOutside a r × Unasked r

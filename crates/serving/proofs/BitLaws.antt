@@ -12,21 +12,12 @@ use Rattle.register.specs.Lists.{count, one-if}
 use Rattle.register.proofs.Counting.{digit-one}
 use Rattle.register.proofs.Lists.{getD-replicate-same}
 use Rattle.calendar.specs.Bits.{bit}
-use Rattle.calendar.proofs.Laws.{bit-or, bit-zero}
-
-digit-and : (x y : ℕ) → x < 2 → y < 2 → eqb (bitAnd x y) 1 ≡ eqb x 1 && eqb y 1
-digit-and zero zero h g = refl
-digit-and zero (suc zero) h g = refl
-digit-and (suc zero) zero h g = refl
-digit-and (suc zero) (suc zero) h g = refl
-digit-and zero (suc (suc y)) h g = absurd (omega arith)
-digit-and (suc zero) (suc (suc y)) h g = absurd (omega arith)
-digit-and (suc (suc x)) y h g = absurd (omega arith)
+use Rattle.calendar.proofs.Laws.{by-digits, bit-or, bit-zero}
 
 -- intersection
 pub bit-and : (k a b : ℕ) → bit k (bitAnd a b) ≡ bit k a && bit k b
 unfolding bit
-bit-and zero a b = rw (and-mod a b 1) (digit-and (a % 2) (b % 2) (omega arith) (omega arith))
+bit-and zero a b = rw (and-mod a b 1) (by-digits (λ x y. eqb (bitAnd x y) 1 ≡ eqb x 1 && eqb y 1) refl refl refl refl (a % 2) (b % 2) (omega arith) (omega arith))
 bit-and (suc k) a b = rw (and-shr a b 1) (bit-and k (a / 2) (b / 2))
 
 -- a shift right moves the bits

@@ -1,6 +1,6 @@
 -- What a server sends, posted: where its delays stand in the plan; its votes; its replies, reader by reader.
 use mathlib.Core.Path.{_≡_, refl, sym, _∙_}
-use mathlib.Core.Bool.{Bool, true, false, not, _&&_, _||_, and-false, or-false, and-or-distrib-left}
+use mathlib.Core.Bool.{Bool, true, false, not, _&&_, _||_, and-false, and-assoc, or-false, and-or-distrib-left}
 use mathlib.Core.List.{List}
 use Prim.Native.Nat.{ℕ, _+_, _*_, _-_, _/_, _%_, _^_, _≤_, _<_}
 use native.Mathlib.Nat.{mul-le-mul}
@@ -8,11 +8,11 @@ use native.Mathlib.Omega.{arith}
 use lib.Dec.{eqb, leb, ltb}
 use lib.ListN.{length, getD}
 use borrow.Author.Tests.{lt-ltb, le-ltb, le-leb, lt-leb, eq-eqb, ne-eqb, eqb-true, ltb-true, ltb-false}
+use Rattle.register.proofs as register-laws
 use Rattle.calendar.specs as calendar-specs
-use Rattle.calendar.specs.Bits.{bit}
 use Rattle.calendar.specs.Layout.{receivers, rows, places, rowOf}
 use Rattle.calendar.specs.View.{Posted}
-use Rattle.calendar.specs.Posts.{Messages, inRow, among, dueIn, toOthers, arrivalOf, Sent}
+use Rattle.calendar.specs.Posts.{Messages, inRow, among, dueIn, toOthers, Sent}
 use Rattle.calendar.proofs as calendar-laws
 use Rattle.calendar.proofs.Posting.{posted-eq, posted-trans, posted-none}
 use Rattle.serving.specs as serving-specs
@@ -58,27 +58,18 @@ module _ (plan : List ℕ) (links : serving-specs.declared.Links.Links) (n t : �
 
   others-sent : (s : calendar-specs.declared.Sending.Sending) (P : ℕ → Bool) → Sent plan (linkBit links t i 0) n t i s → (x j k : ℕ) → toOthers s P x j k ≡ to-servers P x j k
   unfolding dueIn to-servers
-  others-sent s P S x j k = named (s .n) (s .sender) (S .servers) (S .sender)
+  others-sent s P S x j k =
+      let b = x % receivers in
+      let to : Bool = eqb (reaches plan links n t ends i sent b % 16) (x / receivers) in
+      calendar-laws.Laws.under (ltb b (s .n)) _ ((not (eqb b (s .sender)) && to) && (eqb k (s .sender) && P j))
+      (λ e. rw (S .arrives b (rw (S .servers) at (ltb-true b (s .n) e)), link-at links t i b))
+      ∙ rw (S .servers, S .sender) (turn (ltb b n) (not (eqb b i)) to (eqb k i) (P j))
     where
-      turn : (a b c d : Bool) → (a && b) && (c && d) ≡ c && (a && (b && d))
-      turn true true c d = refl
-      turn true false true d = refl
-      turn true false false d = refl
-      turn false b true d = refl
-      turn false b false d = refl
-
-      go : (c : Bool) → ltb (x % receivers) n ≡ c
-          → c && ((not (eqb (x % receivers) i) && eqb (arrivalOf s (x % receivers) % 16) (x / receivers)) && (eqb k i && P j))
-          ≡ eqb k i && (c && (not (eqb (x % receivers) i) && (eqb (reaches plan links n t ends i sent (x % receivers) % 16) (x / receivers) && P j)))
-      go false e = sym (and-false (eqb k i))
-      go true e =
-          let l = ltb-true (x % receivers) n e in
-          rw (S .arrives (x % receivers) l, link-at links t i (x % receivers)) (turn (not (eqb (x % receivers) i)) _ (eqb k i) (P j))
-
-      named : (m f : ℕ) → m ≡ n → f ≡ i
-          → ltb (x % receivers) m && ((not (eqb (x % receivers) f) && eqb (arrivalOf s (x % receivers) % 16) (x / receivers)) && (eqb k f && P j))
-          ≡ eqb k i && (ltb (x % receivers) n && (not (eqb (x % receivers) i) && (eqb (reaches plan links n t ends i sent (x % receivers) % 16) (x / receivers) && P j)))
-      named m f p q = rw (p, q) (go (ltb (x % receivers) n) refl)
+      turn : (l a b k p : Bool) → l && ((a && b) && (k && p)) ≡ k && (l && (a && (b && p)))
+      turn true true true k p = refl
+      turn true true false k p = sym (and-false k)
+      turn true false b k p = sym (and-false k)
+      turn false a b k p = sym (and-false k)
 
   module _ (s : calendar-specs.declared.Sending.Sending) (S : Sent plan (linkBit links t i 0) n t i s) (a b : List ℕ) (A : Posted a b (toOthers s (λ y. eqb y (sent .wrote)))) where
     pub votes-plain : sent .echoed ≡ false → Posted a b (λ x j k. eqb k i && sendsVote plan links n t ends i sent x j)
@@ -104,14 +95,9 @@ module _ (plan : List ℕ) (links : serving-specs.declared.Links.Links) (n t : �
   abbrev pub repliesBelow : ℕ → Messages
   repliesBelow y x j k = ltb (x % receivers) (15 + y) && (eqb k i && sendsReply plan links n t ends i sent x j)
 
-  -- a reply is for a reader
-  no-reply : (x j : ℕ) → x % receivers < 16 → sendsReply plan links n t ends i sent x j ≡ false
-  unfolding sendsReply
-  no-reply x j h = rw (lt-leb 16 (x % receivers) h)
-
   reply-at : (x j y : ℕ) → x % receivers ≡ 15 + y → 1 ≤ y
       → sendsReply plan links n t ends i sent x j
-      ≡ bit y (sent .readers)
+      ≡ calendar-specs.Bits.bit y (sent .readers)
       && (ltb (n + y) (links .parties)
       && (leb (reaches plan links n t ends i sent (n + y)) (getD ends (y - 1) 0)
       && (eqb (reaches plan links n t ends i sent (n + y) % 16) (x / receivers) && among (sent .kept) j)))
@@ -121,12 +107,10 @@ module _ (plan : List ℕ) (links : serving-specs.declared.Links.Links) (n t : �
       let q : 15 + y - 16 ≡ y - 1 = omega arith in
       rw (e, le-leb 16 (15 + y) (omega arith), p, q)
 
+  -- a reply is for a reader
   pub replies-first : (a : List ℕ) → Posted a a (repliesBelow 1)
-  replies-first a = posted-none a _ (λ x j k l m. go x j (eqb k i) (ltb (x % receivers) 16) refl)
-    where
-      go : (x j : ℕ) (d c : Bool) → ltb (x % receivers) 16 ≡ c → c && (d && sendsReply plan links n t ends i sent x j) ≡ false
-      go x j d false e = refl
-      go x j d true e = rw (no-reply x j (ltb-true (x % receivers) 16 e)) (and-false d)
+  unfolding sendsReply
+  replies-first a = posted-none a _ (λ x j k l m. calendar-laws.Laws.never (ltb (x % receivers) 16) _ (λ e. rw (lt-leb 16 (x % receivers) (ltb-true (x % receivers) 16 e)) (and-false (eqb k i))))
 
   replies-more : (a r w : List ℕ) (y : ℕ) (f : Messages) → Posted a r (repliesBelow y) → Posted r w f
       → ((x j k : ℕ) → x < rows → f x j k ≡ eqb (x % receivers) (15 + y) && (eqb k i && sendsReply plan links n t ends i sent x j))
@@ -138,51 +122,42 @@ module _ (plan : List ℕ) (links : serving-specs.declared.Links.Links) (n t : �
       rw (e x j k l, p) (calendar-laws.Laws.ltb-more (x % receivers) (15 + y) (eqb k i && sendsReply plan links n t ends i sent x j)))
 
   -- one more reader, who gets nothing
-  pub replies-none : (a r : List ℕ) (y : ℕ) → Posted a r (repliesBelow y)
+  replies-none : (a r : List ℕ) (y : ℕ) → Posted a r (repliesBelow y)
       → ((x j : ℕ) → x % receivers ≡ 15 + y → sendsReply plan links n t ends i sent x j ≡ false) → Posted a r (repliesBelow (y + 1))
   replies-none a r y A e =
-      replies-more a r r y (λ x j k. false) A (posted-none r _ (λ x j k l m. refl)) (λ x j k l. go x j (eqb k i) (eqb (x % receivers) (15 + y)) refl)
-    where
-      go : (x j : ℕ) (d c : Bool) → eqb (x % receivers) (15 + y) ≡ c → false ≡ c && (d && sendsReply plan links n t ends i sent x j)
-      go x j d false q = refl
-      go x j d true q = rw (e x j (eqb-true (x % receivers) (15 + y) q)) (sym (and-false d))
+      replies-more a r r y (λ x j k. false) A (posted-none r _ (λ x j k l m. refl))
+      (λ x j k l. sym (calendar-laws.Laws.never (eqb (x % receivers) (15 + y)) _ (λ q. rw (e x j (eqb-true (x % receivers) (15 + y) q)) (and-false (eqb k i)))))
 
   module _ (a r : List ℕ) (y : ℕ) (h : 1 ≤ y) (A : Posted a r (repliesBelow y)) where
     pub replies-unasked : (sent .readers / 2 ^ y % 2 ≡ 1 → ⊥) → Posted a r (repliesBelow (y + 1))
     replies-unasked d =
-        let e : bit y (sent .readers) ≡ false = sym (bit-test y (sent .readers)) ∙ ne-eqb (sent .readers / 2 ^ y % 2) 1 d in
+        let e : calendar-specs.Bits.bit y (sent .readers) ≡ false = sym (bit-test y (sent .readers)) ∙ ne-eqb (sent .readers / 2 ^ y % 2) 1 d in
         replies-none a r y A (λ x j p. reply-at x j y p h ∙ rw e)
 
     pub replies-absent : links .parties ≤ n + y → Posted a r (repliesBelow (y + 1))
-    replies-absent e = replies-none a r y A (λ x j p. reply-at x j y p h ∙ rw (le-ltb (n + y) (links .parties) e) (and-false (bit y (sent .readers))))
+    replies-absent e = replies-none a r y A (λ x j p. reply-at x j y p h ∙ rw (le-ltb (n + y) (links .parties) e) (and-false (calendar-specs.Bits.bit y (sent .readers))))
 
     pub replies-late : getD ends (y - 1) 0 < reaches plan links n t ends i sent (n + y) → Posted a r (repliesBelow (y + 1))
     replies-late e =
         replies-none a r y A
-        (λ x j p. reply-at x j y p h ∙ rw (lt-leb (reaches plan links n t ends i sent (n + y)) (getD ends (y - 1) 0) e, and-false (ltb (n + y) (links .parties))) (and-false (bit y (sent .readers))))
+        (λ x j p. reply-at x j y p h
+        ∙ rw (lt-leb (reaches plan links n t ends i sent (n + y)) (getD ends (y - 1) 0) e, and-false (ltb (n + y) (links .parties)))
+        (and-false (calendar-specs.Bits.bit y (sent .readers))))
 
     pub replies-sent : (w : List ℕ) → y < 5 → sent .readers / 2 ^ y % 2 ≡ 1 → n + y < links .parties
         → reaches plan links n t ends i sent (n + y) ≤ getD ends (y - 1) 0
         → Posted r w (inRow (rowOf (reaches plan links n t ends i sent (n + y)) (15 + y)) i (among (sent .kept))) → Posted a w (repliesBelow (y + 1))
-    replies-sent w g u p l B = replies-more a r w y _ A B (λ x j k m. rw (calendar-laws.Stores.same-row x at (15 + y) m (omega arith)) (go x j (eqb k i) (eqb (x % receivers) (15 + y)) refl))
+    replies-sent w g u p l B = replies-more a r w y _ A B (λ x j k m.
+        let at = reaches plan links n t ends i sent (n + y) in
+        let e : calendar-specs.Bits.bit y (sent .readers) ≡ true = sym (bit-test y (sent .readers)) ∙ eq-eqb (sent .readers / 2 ^ y % 2) 1 u in
+        rw (calendar-laws.Stores.same-row x at (15 + y) m (omega arith), and-assoc (eqb (x % receivers) (15 + y)) (eqb (at % 16) (x / receivers)) (eqb k i && among (sent .kept) j))
+        (calendar-laws.Laws.under (eqb (x % receivers) (15 + y)) _ _ (λ q.
+        rw (reply-at x j y (eqb-true (x % receivers) (15 + y) q) h, e, lt-ltb (n + y) (links .parties) p, le-leb at (getD ends (y - 1) 0) l)
+        (turn (eqb k i) (eqb (at % 16) (x / receivers)) (among (sent .kept) j)))))
       where
-        e : bit y (sent .readers) ≡ true
-        e = sym (bit-test y (sent .readers)) ∙ eq-eqb (sent .readers / 2 ^ y % 2) 1 u
-
-        at : ℕ
-        at = reaches plan links n t ends i sent (n + y)
-
-        turn : (d q f : Bool) → q && (d && f) ≡ d && (true && (true && (true && (q && f))))
-        turn true true f = refl
-        turn true false f = refl
-        turn false true f = refl
-        turn false false f = refl
-
-        go : (x j : ℕ) (d c : Bool) → eqb (x % receivers) (15 + y) ≡ c
-            → (c && eqb (at % 16) (x / receivers)) && (d && among (sent .kept) j) ≡ c && (d && sendsReply plan links n t ends i sent x j)
-        go x j d false q = refl
-        go x j d true q = rw (reply-at x j y (eqb-true (x % receivers) (15 + y) q) h, e, lt-ltb (n + y) (links .parties) p, le-leb at (getD ends (y - 1) 0) l)
-            (turn d (eqb (at % 16) (x / receivers)) (among (sent .kept) j))
+        turn : (d q f : Bool) → q && (d && f) ≡ d && (q && f)
+        turn true q f = refl
+        turn false q f = and-false q
 
   -- ---- both
 
@@ -194,20 +169,17 @@ module _ (plan : List ℕ) (links : serving-specs.declared.Links.Links) (n t : �
   -- no vote for a known pair
   pub votes-nobody : (a : List ℕ) → false ≡ sent .echoed || ltb (sent .wrote) places → Posted a a (λ x j k. eqb k i && sendsVote plan links n t ends i sent x j)
   unfolding sendsVote
-  votes-nobody a e = go (sent .echoed) refl e
-    where
-      go : (b : Bool) → sent .echoed ≡ b → false ≡ b || ltb (sent .wrote) places → Posted a a (λ x j k. eqb k i && sendsVote plan links n t ends i sent x j)
-      go true d q = absurd (let z : _≡_ {A = ℕ} 0 1 = cc in omega arith)
-      go false d q =
-          posted-none a _ (λ x j k l m.
-          rw (
-            d,
-            ne-eqb j (sent .wrote) (λ h. omega (arith, ltb-false (sent .wrote) places (sym q))),
-            and-false (eqb (reaches plan links n t ends i sent (x % receivers) % 16) (x / receivers)),
-            and-false (not (eqb (x % receivers) i)),
-            and-false (ltb (x % receivers) n),
-          )
-          (and-false (eqb k i)))
+  votes-nobody a e =
+      let b = register-laws.Logic.neither (sent .echoed) (ltb (sent .wrote) places) (sym e) in
+      posted-none a _ (λ x j k l m.
+      rw (
+        b .0,
+        ne-eqb j (sent .wrote) (λ h. omega (arith, ltb-false (sent .wrote) places (b .1))),
+        and-false (eqb (reaches plan links n t ends i sent (x % receivers) % 16) (x / receivers)),
+        and-false (not (eqb (x % receivers) i)),
+        and-false (ltb (x % receivers) n),
+      )
+      (and-false (eqb k i)))
 
   pub replies-nobody : (a : List ℕ) → sent .readers ≡ 0 → Posted a a (λ x j k. eqb k i && sendsReply plan links n t ends i sent x j)
   unfolding sendsReply

@@ -3,27 +3,25 @@
 use mathlib.Core.Path.{_≡_, refl, sym, ap, _∙_, fun-ext}
 use mathlib.Core.Bool.{Bool, true, false, _&&_, _||_, cond, true≢false}
 use mathlib.Core.List.{List}
-use Prim.Native.Nat.{ℕ, _+_, _^_, _≤_, _<_}
+use Prim.Native.Nat.{ℕ, suc, _+_, _^_, _≤_, _<_}
 use native.Mathlib.Omega.{arith}
-use native.Mathlib.Numerals.{add-one}
 use lib.Dec.{leb, ltb}
-use lib.ListN.{take, getD, replicate}
+use lib.ListN.{take, getD}
 use lib.Bits.{bitOr, bitAnd}
 use lib.Count.{ones}
 use borrow.Author.Tests.{lt-ltb, le-leb, lt-leb}
-use Rattle.register.specs.Lists.{count, sameList}
+use Rattle.register.specs.Lists.{sameList}
 use Rattle.register.specs.Server.{Status, faulty, cured, correct, isFaulty, isCorrect, curedAt, insert}
 use Rattle.register.proofs as register-laws
 use Rattle.calendar.specs.Bits.{bit}
 use Rattle.calendar.specs.Layout.{depth, sender}
 use Rattle.calendar.proofs.Laws.{bit-zero, bit-or}
-use Rattle.serving.specs.declared.Voters.{Voters}
-use Rattle.serving.specs.Bits.{sets, listed, noVoters, Joined}
+use Rattle.serving.specs as serving-specs
 use Rattle.serving.specs.Stored.{Plain, Said, Both}
 use Rattle.serving.specs.Stages.{Voted, nobody, noVotes, blankAs, silent, restated, written, resetAt, cureEnded, turned, within, quorate, taken, voting, withWrite, repliesTo, delivered, deliveredOf, stageOne, stageTwo, movedOn, stageFour}
 use Rattle.serving.proofs.BitLaws.{bit-and, unmarked, ones-count, ones-either}
 
-pub zero-table : sets noVoters ≡ noVotes
+pub zero-table : serving-specs.Bits.sets serving-specs.Bits.noVoters ≡ noVotes
 zero-table = fun-ext (λ j. fun-ext (λ k. unmarked 65 j k))
 
 pub zero-set : (λ x. bit x 0) ≡ nobody
@@ -40,21 +38,15 @@ module _ (e r f o : ℕ) (h : f < 2 ^ 16) (g : o < 2 ^ 16) where
 
 -- no votes, no quorum
 pub unvoted : (e r f o : ℕ) → 1 ≤ e → 1 ≤ r → f ≡ 0 → o ≡ 0 → false ≡ quorate e r (λ i. bit i f) (λ i. bit i o)
-unvoted e r f o he hr ef eo = rw (ef, eo) (go (count (λ i. bit i 0) 16) (count (λ i. bit i 0 || bit i 0) 16) none either)
-  where
-    none : count (λ i. bit i 0) 16 ≡ 0
-    none = ap (λ (p : ℕ → Bool). count p 16) zero-set ∙ register-laws.Counting.count-none 16
-
-    either : count (λ i. bit i 0 || bit i 0) 16 ≡ 0
-    either = ap (λ (p : ℕ → Bool). count p 16) (fun-ext (λ i. rw (bit-zero i))) ∙ register-laws.Counting.count-none 16
-
-    go : (x y : ℕ) → x ≡ 0 → y ≡ 0 → false ≡ leb e x || leb r y
-    go x y a b = rw (lt-leb e x (omega arith), lt-leb r y (omega arith))
+unfolding ones
+unvoted e r f o he hr ef eo = rw (ef, eo) (sym (lt-leb r 0 hr) ∙ quorate-no e r 0 0 (omega arith) (omega arith) he)
 
 -- the test of pair j
-pub voting-at : (e r : ℕ) (v w : Voters) (j f o : ℕ) (b : Bool) → f ≡ getD (listed v) j 0 → o ≡ getD (listed w) j 0 → b ≡ quorate e r (λ i. bit i f) (λ i. bit i o) → voting e r (sets v) (sets w) j ≡ b
+pub voting-at : (e r : ℕ) (v w : serving-specs.declared.Voters.Voters) (j f o : ℕ) (b : Bool) → f ≡ getD (serving-specs.Bits.listed v) j 0
+    → o ≡ getD (serving-specs.Bits.listed w) j 0 → b ≡ quorate e r (λ i. bit i f) (λ i. bit i o) → voting e r (serving-specs.Bits.sets v) (serving-specs.Bits.sets w) j ≡ b
 voting-at e r v w j f o b h k q =
-    ap (λ (x : ℕ). quorate e r (λ i. bit i x) (λ i. bit i (getD (listed w) j 0))) (sym h) ∙ (ap (λ (y : ℕ). quorate e r (λ i. bit i f) (λ i. bit i y)) (sym k) ∙ sym q)
+    ap (λ (x : ℕ). quorate e r (λ i. bit i x) (λ i. bit i (getD (serving-specs.Bits.listed w) j 0))) (sym h)
+    ∙ (ap (λ (y : ℕ). quorate e r (λ i. bit i f) (λ i. bit i y)) (sym k) ∙ sym q)
 
 -- a pair in the span
 pub in-span : (low high j : ℕ) (b v : Bool) → low ≤ j → j < high → v ≡ b → within low high j && v ≡ b
@@ -63,13 +55,9 @@ in-span low high j b v l h e = rw (le-leb low j l, lt-ltb j high h) e
 -- ---- a turn of taking in
 
 module _ (c : ℕ → Bool) (j : ℕ) (l k r : List ℕ) (e : k ≡ taken c j l) where
-  pub taken-yes : c j ≡ true → r ≡ take depth (insert j k) → r ≡ taken c (j + 1) l
+  pub taken-more : (b : Bool) → c j ≡ b → r ≡ cond b (take depth (insert j k)) k → r ≡ taken c (j + 1) l
   unfolding taken
-  taken-yes h q = rw (add-one j, h, ← e) q
-
-  pub taken-no : c j ≡ false → r ≡ k → r ≡ taken c (j + 1) l
-  unfolding taken
-  taken-no h q = rw (add-one j, h, ← e) q
+  taken-more b h q = let z : j + 1 ≡ suc j = omega arith in rw (z, h, ← e) q
 
 -- ---- stage 1
 
@@ -127,8 +115,8 @@ not-cured delta t (cured u) e h = let z : _≡_ {A = ℕ} 0 1 = ap (λ (x : Bool
 not-cured delta t correct e h = let z : _≡_ {A = ℕ} 0 1 = ap (λ (x : Bool). cond x 1 0) e in omega arith
 
 -- a new period: no fresh votes, and of the old ones those that still count
-pub turned-law : (two : Bool) (s : Plain) (v : Voters) (old : ℕ → ℕ → Bool) → v ≡ noVoters → old ≡ cond two (s .fresh) noVotes
-    → record { status = s .status; kept = s .kept; pending = s .pending; fresh = sets v; old = old } ≡ turned two s
+pub turned-law : (two : Bool) (s : Plain) (v : serving-specs.declared.Voters.Voters) (old : ℕ → ℕ → Bool) → v ≡ serving-specs.Bits.noVoters → old ≡ cond two (s .fresh) noVotes
+    → record { status = s .status; kept = s .kept; pending = s .pending; fresh = serving-specs.Bits.sets v; old = old } ≡ turned two s
 turned-law two s v old e f = rw (e, zero-table, f)
 
 -- a server that becomes faulty is reset first
@@ -146,9 +134,9 @@ echo-law two h t o s e p q = rw (q, p)
 pub votes-lost : (f : ℕ → ℕ → Bool) (s : Plain) → isFaulty (s .status) ≡ true → Voted f s s
 votes-lost f s h = record { status = refl; kept = refl; pending = refl; old = refl; fresh = λ e. absurd (true≢false (sym h ∙ e)); lost = λ e. refl }
 
-pub votes-noted : (work : List ℕ) (row : ℕ) (fresh : Voters) (s r : Plain) → s .fresh ≡ sets fresh → (more : Voters)
-    → isFaulty (s .status) ≡ false → Joined work row fresh more
-    → r ≡ record { status = s .status; kept = s .kept; pending = s .pending; fresh = sets more; old = s .old } → Voted (sender work row) s r
+pub votes-noted : (work : List ℕ) (row : ℕ) (fresh : serving-specs.declared.Voters.Voters) (s r : Plain) → s .fresh ≡ serving-specs.Bits.sets fresh → (more : serving-specs.declared.Voters.Voters)
+    → isFaulty (s .status) ≡ false → serving-specs.Bits.Joined work row fresh more
+    → r ≡ record { status = s .status; kept = s .kept; pending = s .pending; fresh = serving-specs.Bits.sets more; old = s .old } → Voted (sender work row) s r
 votes-noted work row fresh s r q more h J e = record {
   status = rw e;
   kept = rw e;

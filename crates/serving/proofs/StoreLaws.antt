@@ -4,48 +4,45 @@ use mathlib.Core.Bool.{Bool, true, false, _&&_, _||_, cond}
 use mathlib.Core.Logic.{_⊎_, inl, inr, _≢_}
 use mathlib.Core.List.{List, [], _∷_}
 use Prim.Native.Nat.{ℕ, zero, suc, _+_, _≤_, _<_}
-use native.Mathlib.Numerals.{add-one}
 use native.Mathlib.Nat.{le-of-suc-le-suc, eq-or-lt-of-le, suc-inj}
 use native.Mathlib.Omega.{arith}
-use native.Mathlib.Decide.{decLe}
 use lib.Dec.{eqb, leb, ltb, eqb·zero-suc, eqb·suc-zero, eqb·suc-suc}
 use lib.ListN.{length, take, drop, getD, set, drop-of-length-le, List·getD-eq-default}
 use lib.Seq.{take-all, take-at, length-take-le, take-suc-set, drop-set-lt, drop-cons, append-snoc}
-use borrow.Author.Tests.{lt-ltb, le-ltb, le-leb, lt-leb, eq-eqb, ne-eqb}
-use Rattle.register.specs.Lists.{any, anyUpTo, member, sameList}
+use borrow.Author.Tests.{lt-ltb, le-ltb, le-leb, leb-true, eq-eqb, ne-eqb}
+use Rattle.register.specs.Lists.{any, member, sameList}
 use Rattle.register.specs.Server.{insert}
 use Rattle.register.proofs as register-laws
 use Rattle.calendar.specs.declared.Stamped.{Stamped}
 use Rattle.calendar.specs.Layout.{depth}
 use Rattle.calendar.specs.Posts.{vacant, amongFirst, among}
+use Rattle.calendar.proofs.Laws.{never}
 use Rattle.serving.specs.Stored.{keys, placeOf, putAt}
 use Rattle.serving.specs.Stages.{isNew, anyNew}
 
-cut : (b : Bool) (n p : ℕ) (ps : List ℕ) → take (suc n) (cond b (p ∷ ps) []) ≡ cond b (p ∷ take n ps) []
-cut true n p ps = refl
-cut false n p ps = refl
+either-way : (b : Bool) → (b ≡ true) ⊎ (b ≡ false)
+either-way true = inl refl
+either-way false = inr refl
 
 take-keys : (n : ℕ) (ps : List Stamped) → take n (keys ps) ≡ keys (take n ps)
 unfolding keys
 take-keys zero ps = refl
 take-keys (suc n) [] = refl
-take-keys (suc n) (p ∷ ps) = cut (p .kept) n (p .number) (keys ps) ∙ rw (take-keys n ps)
+take-keys (suc n) (p ∷ ps) = elim (either-way (p .kept)) [ inl e ↦ rw (e, take-keys n ps) | inr e ↦ rw e ]
 
 -- the numbers posted are those of the pairs kept
 pub among-keys : (ps : List Stamped) (j : ℕ) → among ps j ≡ member j (keys ps)
 unfolding amongFirst keys any
 among-keys [] j = refl
-among-keys (p ∷ ps) j = rw (among-keys ps j, register-laws.Logic.eqb-comm j (p .number)) (go (p .kept))
-  where
-    go : (c : Bool) → c && (eqb (p .number) j || member j (keys ps)) ≡ member j (cond c (p .number ∷ keys ps) [])
-    go true = refl
-    go false = refl
+among-keys (p ∷ ps) j = rw (among-keys ps j, register-laws.Logic.eqb-comm j (p .number)) (elim (either-way (p .kept)) [ inl e ↦ rw e | inr e ↦ rw e ])
 
 -- ---- the places from one on move by one
 
 -- what is carried is put down, what stood there is carried on
 pub carried-on : (i : ℕ) (p : Stamped) (ps : List Stamped) → i < length ps → putAt (i + 1) (getD ps i vacant) (set ps i p) ≡ putAt i p ps
-carried-on i p ps h = rw (add-one i, take-suc-set ps i p h, drop-set-lt (suc i) ps i p (omega arith), drop-cons ps i vacant h) (append-snoc (take i ps) p _)
+carried-on i p ps h =
+    let z : i + 1 ≡ suc i = omega arith in
+    rw (z, take-suc-set ps i p h, drop-set-lt (suc i) ps i p (omega arith), drop-cons ps i vacant h) (append-snoc (take i ps) p _)
 
 -- what is carried past the last place is dropped
 pub dropped : (n : ℕ) (p : Stamped) (ps : List Stamped) → length ps ≡ n → ps ≡ take n (putAt n p ps)
@@ -58,11 +55,7 @@ abbrev pub Above : Stamped → ℕ → List Stamped → Type 0
 Above p i ps = (j : ℕ) → j < i → placeOf p < placeOf (getD ps j vacant)
 
 pub above-more : (p : Stamped) (i : ℕ) (ps : List Stamped) → Above p i ps → placeOf p < placeOf (getD ps i vacant) → Above p (i + 1) ps
-above-more p i ps a h j l = go (eq-or-lt-of-le l)
-  where
-    go : (suc j ≡ i + 1) ⊎ (suc j < i + 1) → placeOf p < placeOf (getD ps j vacant)
-    go (inl e) = let z : j ≡ i = omega arith in rw z h
-    go (inr k) = a j (omega arith)
+above-more p i ps a h j l = elim (eq-or-lt-of-le l) [ inl e ↦ let z : j ≡ i = omega arith in rw z h | inr k ↦ a j (omega arith) ]
 
 module _ (p : Stamped) (is : p .kept ≡ true) where
   abbrev Put : List Stamped → List Stamped → Type 0
@@ -74,29 +67,30 @@ module _ (p : Stamped) (is : p .kept ≡ true) where
 
   at-lower : (x : Stamped) (ps : List Stamped) → placeOf x < placeOf p → Put (x ∷ ps) (p ∷ x ∷ ps)
   unfolding insert keys
-  at-lower x ps h = go (x .kept) refl
-    where
-      go : (b : Bool) → x .kept ≡ b → Put (x ∷ ps) (p ∷ x ∷ ps)
-      go false e = rw (e, is)
-      go true e = rw (e, is, lt-ltb (x .number) (p .number) (le-of-suc-le-suc (rw (e, is) at h)))
+  at-lower x ps h = elim (either-way (x .kept)) [
+    | inl e ↦ rw (e, is, lt-ltb (x .number) (p .number) (le-of-suc-le-suc (rw (e, is) at h)))
+    | inr e ↦ rw (e, is)
+  ]
 
   at-same : (x : Stamped) (ps : List Stamped) → placeOf x ≡ placeOf p → Put (x ∷ ps) (x ∷ ps)
   unfolding insert keys
-  at-same x ps h = go (x .kept) refl
-    where
-      go : (b : Bool) → x .kept ≡ b → Put (x ∷ ps) (x ∷ ps)
-      go false e = let z : 0 ≡ suc (p .number) = rw (e, is) at h in absurd (omega arith)
-      go true e = let z : x .number ≡ p .number = suc-inj (rw (e, is) at h) in rw (e, le-ltb (x .number) (p .number) (omega arith), eq-eqb (x .number) (p .number) z)
+  at-same x ps h = elim (either-way (x .kept)) [
+    | inl e ↦ let z : x .number ≡ p .number = suc-inj (rw (e, is) at h) in rw (e, le-ltb (x .number) (p .number) (omega arith), eq-eqb (x .number) (p .number) z)
+    | inr e ↦ let z : 0 ≡ suc (p .number) = rw (e, is) at h in absurd (omega arith)
+  ]
+
+  -- a higher place is no empty one
+  higher : (x : Stamped) → placeOf p < placeOf x → (x .kept ≡ true) × (p .number < x .number)
+  higher x h = elim (either-way (x .kept)) [
+    | inl e ↦ (e, le-of-suc-le-suc (rw (e, is) at h))
+    | inr e ↦ let z : suc (p .number) < 0 = rw (e, is) at h in absurd (omega arith)
+  ]
 
   below : (x : Stamped) (ps rs : List Stamped) → placeOf p < placeOf x → Put ps rs → Put (x ∷ ps) (x ∷ rs)
   unfolding insert keys
-  below x ps rs h q = go (x .kept) refl
-    where
-      go : (b : Bool) → x .kept ≡ b → Put (x ∷ ps) (x ∷ rs)
-      go false e = let z : suc (p .number) < 0 = rw (e, is) at h in absurd (omega arith)
-      go true e =
-          let z : p .number < x .number = le-of-suc-le-suc (rw (e, is) at h) in
-          rw (e, le-ltb (x .number) (p .number) (omega arith), ne-eqb (x .number) (p .number) (λ q. omega arith), q)
+  below x ps rs h q =
+      let z = higher x h in
+      rw (z .0, le-ltb (x .number) (p .number) (omega (arith, z .1)), ne-eqb (x .number) (p .number) (λ d. omega (arith, z .1)), q)
 
   goes-at : (i : ℕ) (ps : List Stamped) → i ≤ length ps → Above p i ps → placeOf (getD ps i vacant) < placeOf p → Put ps (putAt i p ps)
   goes-at zero [] h a l = at-end
@@ -166,7 +160,7 @@ module _ (a b : List Stamped) where
     same-end e z = sym here ∙ rw (eq-eqb x y e, eq-eqb x 0 z)
 
     pub same-on : x ≡ y → x ≢ 0 → sameFrom (i + 1) ≡ sameFrom i
-    same-on e d = rw (add-one i) (sym (sym here ∙ rw (eq-eqb x y e, ne-eqb x 0 d)))
+    same-on e d = let z : i + 1 ≡ suc i = omega arith in rw z (sym (sym here ∙ rw (eq-eqb x y e, ne-eqb x 0 d)))
 
 -- ---- pairs that are new to a store
 
@@ -181,37 +175,27 @@ module _ (p : Stamped) (is : p .kept ≡ true) where
   unfolding insert keys sameList
   changed-at zero i ps h k a l = absurd (omega arith)
   changed-at (suc n) i [] h k a l = absurd (omega arith)
-  changed-at (suc n) zero (x ∷ ps) h k a l = go (x .kept) refl
-    where
-      go : (b : Bool) → x .kept ≡ b → sameList (take (suc n) (insert (p .number) (keys (x ∷ ps)))) (keys (x ∷ ps)) ≡ false
-      go false e = rw e
-      go true e =
-          let z : x .number < p .number = le-of-suc-le-suc (rw (e, is) at l) in
-          rw (e, lt-ltb (x .number) (p .number) z, ne-eqb (p .number) (x .number) (λ q. omega arith))
-  changed-at (suc n) (suc i) (x ∷ ps) h k a l = go (x .kept) refl (changed-at n i ps (omega arith) (omega arith) (λ j q. a (suc j) (omega arith)) l)
-    where
-      go : (b : Bool) → x .kept ≡ b → sameList (take n (insert (p .number) (keys ps))) (keys ps) ≡ false → sameList (take (suc n) (insert (p .number) (keys (x ∷ ps)))) (keys (x ∷ ps)) ≡ false
-      go false e ih = let z : suc (p .number) < 0 = rw (e, is) at (a 0 (omega arith)) in absurd (omega arith)
-      go true e ih =
-          let z : p .number < x .number = le-of-suc-le-suc (rw (e, is) at (a 0 (omega arith))) in
-          rw (e, le-ltb (x .number) (p .number) (omega arith), ne-eqb (x .number) (p .number) (λ q. omega arith), eq-eqb (x .number) (x .number) refl) ih
+  changed-at (suc n) zero (x ∷ ps) h k a l = elim (either-way (x .kept)) [
+    | inl e ↦ let z : x .number < p .number = le-of-suc-le-suc (rw (e, is) at l) in rw (e, lt-ltb (x .number) (p .number) z, ne-eqb (p .number) (x .number) (λ q. omega arith))
+    | inr e ↦ rw e
+  ]
+  changed-at (suc n) (suc i) (x ∷ ps) h k a l =
+      let z = higher p is x (a 0 (omega arith)) in
+      rw (z .0, le-ltb (x .number) (p .number) (omega (arith, z .1)), ne-eqb (x .number) (p .number) (λ q. omega (arith, z .1)), eq-eqb (x .number) (x .number) refl)
+      (changed-at n i ps (omega arith) (omega arith) (λ j q. a (suc j) (omega arith)) l)
 
   module _ (ps : List Stamped) (size : length ps ≡ depth) where
-    new-lower : (i : ℕ) → i < depth → Above p i ps → placeOf (getD ps i vacant) < placeOf p → isNew (p .number) (keys ps) ≡ true
-    unfolding isNew
-    new-lower i h a l = rw (changed-at depth i ps h (omega arith) a l)
-
     unchanged : keys ps ≡ take depth (insert (p .number) (keys ps)) → isNew (p .number) (keys ps) ≡ false
     unfolding isNew
     unchanged e = rw (← e, same-as-itself (keys ps))
 
     -- at the first place that is not higher
     pub new-first : (i : ℕ) → i < depth → Above p i ps → placeOf (getD ps i vacant) ≤ placeOf p → ltb (placeOf (getD ps i vacant)) (placeOf p) ≡ isNew (p .number) (keys ps)
-    new-first i h a l = go (eq-or-lt-of-le l)
-      where
-        go : (placeOf (getD ps i vacant) ≡ placeOf p) ⊎ (placeOf (getD ps i vacant) < placeOf p) → ltb (placeOf (getD ps i vacant)) (placeOf p) ≡ isNew (p .number) (keys ps)
-        go (inl e) = rw (le-ltb (placeOf (getD ps i vacant)) (placeOf p) (omega arith), unchanged (put-same p is depth ps size i h a e))
-        go (inr k) = rw (lt-ltb (placeOf (getD ps i vacant)) (placeOf p) k, new-lower i h a k)
+    unfolding isNew
+    new-first i h a l = elim (eq-or-lt-of-le l) [
+      | inl e ↦ rw (le-ltb (placeOf (getD ps i vacant)) (placeOf p) (omega arith)) (sym (unchanged (put-same p is depth ps size i h a e)))
+      | inr k ↦ rw (lt-ltb (placeOf (getD ps i vacant)) (placeOf p) k, changed-at depth i ps h (omega arith) a k)
+    ]
 
     pub new-none : Above p depth ps → isNew (p .number) (keys ps) ≡ false
     new-none a = unchanged (put-none p is depth ps size a)
@@ -225,17 +209,7 @@ module _ (l : List ℕ) (low : ℕ) where
   NoneNew high = (j : ℕ) → low ≤ j → j < high → isNew j l ≡ false
 
   pub none-more : (j : ℕ) → NoneNew j → isNew j l ≡ false → NoneNew (j + 1)
-  none-more j f e i h k = go (eq-or-lt-of-le k)
-    where
-      go : (suc i ≡ j + 1) ⊎ (suc i < j + 1) → isNew i l ≡ false
-      go (inl q) = let z : i ≡ j = omega arith in rw z e
-      go (inr q) = f i h (omega arith)
+  none-more j f e i h k = elim (eq-or-lt-of-le k) [ inl q ↦ let z : i ≡ j = omega arith in rw z e | inr q ↦ f i h (omega arith) ]
 
   pub none-new : (high : ℕ) → NoneNew high → anyNew l low high ≡ false
-  unfolding anyUpTo
-  none-new zero f = refl
-  none-new (suc j) f = rw (none-new j (λ i h k. f i h (omega arith))) (go (decLe low j))
-    where
-      go : Dec (low ≤ j) → (leb low j && isNew j l) || false ≡ false
-      go (yes h) = rw (le-leb low j h, f j h (omega arith))
-      go (no h) = rw (lt-leb low j (omega arith))
+  none-new high f = register-laws.Counting.none-up high (λ i. leb low i && isNew i l) (λ i k. never (leb low i) _ (λ e. f i (leb-true low i e) k))

@@ -14,11 +14,10 @@ pub taken-past : (c : ℕ → Bool) (n m : ℕ) (l : List ℕ) → n ≤ m → (
 unfolding taken
 taken-past c zero zero l h e = refl
 taken-past c (suc n) zero l h e = absurd (omega arith)
-taken-past c n (suc m) l h e = go (ℕ-discrete n (suc m)) (λ k. taken-past c n m l k (λ j a b. e j a (omega arith)))
-  where
-    go : Dec (n ≡ suc m) → (n ≤ m → taken c m l ≡ taken c n l) → taken c (suc m) l ≡ taken c n l
-    go (yes d) ih = rw d
-    go (no d) ih = rw (e m (omega arith) (omega arith)) (ih (omega arith))
+taken-past c n (suc m) l h e = elim (ℕ-discrete n (suc m)) [
+  | yes d ↦ rw d
+  | no d ↦ rw (e m (omega arith) (omega arith)) (taken-past c n m l (omega arith) (λ j a b. e j a (omega arith)))
+]
 
 module _ (v : ℕ → Bool) (low high : ℕ) where
   -- no pair below the span
@@ -29,15 +28,10 @@ module _ (v : ℕ → Bool) (low high : ℕ) where
   -- none beyond it
   pub taken-beyond : (n m : ℕ) (l : List ℕ) → n ≤ m → (high ≤ m → high ≤ n) → (m ≤ high → m ≤ n)
       → taken (λ j. within low high j && v j) m l ≡ taken (λ j. within low high j && v j) n l
-  taken-beyond n m l h e f = go (decLe high m)
-    where
-      go : Dec (high ≤ m) → taken (λ j. within low high j && v j) m l ≡ taken (λ j. within low high j && v j) n l
-      go (yes d) = taken-past (λ j. within low high j && v j) n m l h (λ j a b. rw (le-ltb j high (omega (arith, e d)), and-false (leb low j)))
-      go (no d) = let z : n ≡ m = omega (arith, f (omega arith)) in rw z
+  taken-beyond n m l h e f = elim (decLe high m) [
+    | yes d ↦ taken-past (λ j. within low high j && v j) n m l h (λ j a b. rw (le-ltb j high (omega (arith, e d)), and-false (leb low j)))
+    | no d ↦ let z : n ≡ m = omega (arith, f (omega arith)) in rw z
+  ]
 
 pub from-low : (low m j : ℕ) → (low ≤ m → low ≤ j) → (m ≤ low → m ≤ j) → j < m → low ≤ j
-from-low low m j e f h = go (decLe low m)
-  where
-    go : Dec (low ≤ m) → low ≤ j
-    go (yes d) = e d
-    go (no d) = absurd (omega (arith, f (omega arith)))
+from-low low m j e f h = elim (decLe low m) [ yes d ↦ e d | no d ↦ absurd (omega (arith, f (omega arith))) ]

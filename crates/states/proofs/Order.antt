@@ -19,6 +19,7 @@ use Rattle.register.proofs.Rising.{take-map, insert-map, same-map}
 use Rattle.register.proofs.Stores.{Falling, in-insertAll, falling-insertAll, insertAll-in}
 use Rattle.calendar.specs.Layout.{depth}
 use Rattle.serving.specs.Stages.{isNew, taken}
+use Rattle.cluster.proofs.Settled.{put-cut}
 
 -- two falling lists with the same members are equal
 falling-ext : (l m : List ℕ) → Falling l → Falling m → ((q : ℕ) → In q l → In q m) → ((q : ℕ) → In q m → In q l) → l ≡ m
@@ -35,22 +36,10 @@ falling-ext (x ∷ l) (y ∷ m) d e f g =
     (λ q i. elim (g q (inr i)) [ inl a ↦ absurd (omega (arith, e .0 q i)) | inr a ↦ a ])))
 
 -- what is cut off does not matter for what is put in later
-take-insert : (k p : ℕ) (l : List ℕ) → take k (insert p (take k l)) ≡ take k (insert p l)
-unfolding insert
-take-insert zero p l = refl
-take-insert (suc k) p [] = refl
-take-insert (suc k) p (x ∷ l) = go (ltb x p) (eqb x p) (take-insert k p l)
-  where
-    go : (a b : Bool) → take k (insert p (take k l)) ≡ take k (insert p l)
-        → take (suc k) (cond a (p ∷ x ∷ take k l) (cond b (x ∷ take k l) (x ∷ insert p (take k l)))) ≡ take (suc k) (cond a (p ∷ x ∷ l) (cond b (x ∷ l) (x ∷ insert p l)))
-    go true b ih = ap (λ (m : List ℕ). p ∷ m) (take-take k (suc k) (x ∷ l) (omega arith))
-    go false true ih = ap (λ (m : List ℕ). x ∷ m) (take-take k k l (omega arith))
-    go false false ih = ap (λ (m : List ℕ). x ∷ m) ih
-
 take-insertAll : (k : ℕ) (ps l : List ℕ) → take k (insertAll ps (take k l)) ≡ take k (insertAll ps l)
 unfolding insertAll
 take-insertAll k [] l = take-take k k l (omega arith)
-take-insertAll k (p ∷ ps) l = sym (take-insertAll k ps (insert p (take k l))) ∙ rw (take-insert k p l) (take-insertAll k ps (insert p l))
+take-insertAll k (p ∷ ps) l = sym (take-insertAll k ps (insert p (take k l))) ∙ rw (put-cut k p l) (take-insertAll k ps (insert p l))
 
 -- taking in depends only on the set of candidates
 take-in-set : (k : ℕ) (ps qs l : List ℕ) → Falling l → ((q : ℕ) → In q ps → In q qs) → ((q : ℕ) → In q qs → In q ps) → takeIn k ps l ≡ takeIn k qs l
@@ -100,7 +89,7 @@ module _ (g : ℕ → ℕ) (rising : (i j : ℕ) → i < j → g i < g j) where
     where
       go : (b : Bool) → map g (taken c j l) ≡ take depth (insertAll (picked c g j) (map g l))
           → map g (cond b (take depth (insert j (taken c j l))) (taken c j l)) ≡ take depth (insertAll (cond b (g j ∷ []) []) (insertAll (picked c g j) (map g l)))
-      go true e = put-number j (taken c j l) ∙ rw e (take-insert depth (g j) (insertAll (picked c g j) (map g l)))
+      go true e = put-number j (taken c j l) ∙ rw e (put-cut depth (g j) (insertAll (picked c g j) (map g l)))
       go false e = e
 
   -- the WRITE's pair first, then the others by number, is taking in, for the same set

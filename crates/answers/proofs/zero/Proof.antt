@@ -24,8 +24,8 @@ loop-again c =
     let w = now (c .before .before .args .work) in
     (search needs, simp length-set (l .inv .1), ap (λ (s : List ℕ). set s (l .i) 0) (l .inv .2) ∙ fill-more (l .i) 0 w (omega arith))
 
-returns : tie.Need-returns Inv-loop μ-loop
-returns c = zeroed-at (c .before .loop .i) (now (c .before .before .args .work)) _ (omega arith) (c .before .loop .inv .2)
-
 pub zero-spec : {M : Type 1} → statement M
-zero-spec = tie.close (tie.spec Inv-loop μ-loop (search needs) (search needs) (search needs) (search needs) loop-again (search needs) returns)
+zero-spec =
+    tie.close
+    (tie.spec Inv-loop μ-loop (search needs) (search needs) (search needs) (search needs) loop-again (search needs)
+    (λ c. zeroed-at (c .before .loop .i) (now (c .before .before .args .work)) _ (omega arith) (c .before .loop .inv .2)))

@@ -15,9 +15,6 @@ Inv-loop work₀ plan links n t by from to i₀ work i = (from ≤ i) × (i ≤ 
 abbrev μ-loop : tie.MeasureT-loop
 μ-loop work₀ plan links n t by from to i₀ work i = to - i
 
-loop-holds : tie.Need-loop-holds Inv-loop μ-loop
-loop-holds c = (omega arith, c .before .before .pre .1 .ordered, between-none _ _ _ _ _ _ _)
-
 element-copy-out-size-of : tie.Need-element-copy-out-size-of Inv-loop μ-loop
 element-copy-out-size-of c = let h : c .before .before .loop .i < 255 = omega (arith, c .before .loop-test .taken, c .before .before .before .before .before .pre .1 .few) in search needs
 
@@ -33,11 +30,11 @@ loop-again c = let l = c .before .before .before .before .before .before .before
     let a = c .before .before .before .before .before .before .before .before .before .before .args in
     (omega (arith, l .inv .0), omega (arith, c .before .before .before .before .before .before .loop-test .taken), between-more _ (a .links) (a .n) (a .t) (a .by .now) (a .from) _ _ _ (l .i) (l .inv .0) (l .inv .2) (rw (c .before .before .before .size-of .ensures .0) at (c .before .before .ask .ensures)))
 
-same-length : tie.Need-same-length Inv-loop μ-loop
-same-length c = c .before .loop .inv .2 .outside .rest .size
-
 returns : tie.Need-returns Inv-loop μ-loop
 returns c = let e : c .before .loop .i ≡ c .before .before .before .before .args .to = omega (arith, c .before .loop .inv .1, c .loop-test .left) in rw e at (c .before .loop .inv .2)
 
 pub ask-all-spec : {M : Type 1} → statement M
-ask-all-spec = tie.close (tie.spec Inv-loop μ-loop loop-holds element-copy-out-size-of (search needs) ask-requires add-i (search needs) loop-again same-length returns)
+ask-all-spec =
+    tie.close
+    (tie.spec Inv-loop μ-loop (λ c. (omega arith, c .before .before .pre .1 .ordered, between-none _ _ _ _ _ _ _)) element-copy-out-size-of (search needs)
+    ask-requires add-i (search needs) loop-again (λ c. c .before .loop .inv .2 .outside .rest .size) returns)

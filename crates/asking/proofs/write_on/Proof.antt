@@ -13,9 +13,6 @@ returns c =
     let h = le-ltb _ _ (rw (c .before .size-of .ensures .0, add-one) at (c .if1 .taken)) in
     wrote-on _ _ _ (c .before .before .before .before .before .before .before .before .args .t) _ _ _ _ _ _ _ (c .before .before .before .before .clear .ensures) (asked-none _ _ (λ s q b. rw h)) (rw h)
 
-element-copy-out-size-of : tie.Need-element-copy-out-size-of
-element-copy-out-size-of c = omega (arith, c .if1 .left, c .before .before .before .before .before .before .before .before .pre .1)
-
 returns-2 : tie.Need-returns-2
 returns-2 c =
     let a = c .before .before .before .before .before .before .before .before .before .before .before .args in
@@ -39,5 +36,6 @@ returns-3 c =
 pub write-on-spec : {M : Type 1} → statement M
 write-on-spec =
     tie.close
-    (tie.spec (search needs) (search needs) (search needs) (search needs) returns element-copy-out-size-of (search needs) (search needs) returns-2 ask-requires
-    add-result (search needs) returns-3)
+    (tie.spec (search needs) (search needs) (search needs) (search needs) returns
+    (λ c. omega (arith, c .if1 .left, c .before .before .before .before .before .before .before .before .pre .1)) (search needs) (search needs) returns-2
+    ask-requires add-result (search needs) returns-3)

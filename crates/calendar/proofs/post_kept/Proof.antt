@@ -18,12 +18,6 @@ Inv-loop work₀ row i kept q₀ work q = (q ≤ depth) × (length kept ≡ dept
 abbrev μ-loop : tie.MeasureT-loop
 μ-loop work₀ row i kept q₀ work q = depth - q
 
-loop-holds : tie.Need-loop-holds Inv-loop μ-loop
-loop-holds c = let a = c .before .args in (omega arith, c .before .good .1 .1 .0 .1 .0 .1, λ q h. absurd (omega arith), kept-first (a .t3) (a .row) (a .i) _)
-
-same-length : tie.Need-same-length Inv-loop μ-loop
-same-length c = c .before .before .before .before .loop .inv .3 .rest .size
-
 returns : tie.Need-returns Inv-loop μ-loop
 returns c =
     let a = c .before .before .before .before .before .before .args in
@@ -48,14 +42,11 @@ loop-again c =
       kept-more (a .t3) (a .row) (a .i) _ _ _ (l .q) (l .inv .2) (omega (arith, l .inv .1)) (l .inv .3) k (c .before .before .post .ensures),
     )
 
-same-length-2 : tie.Need-same-length-2 Inv-loop μ-loop
-same-length-2 c = c .before .loop .inv .3 .rest .size
-
-returns-2 : tie.Need-returns-2 Inv-loop μ-loop
-returns-2 c = let l = c .before .loop in let e : l .q ≡ length (c .before .before .before .args .t3) = omega (arith, l .inv .1) in rw e at (l .inv .3)
-
 pub post-kept-spec : {M : Type 1} → statement M
 post-kept-spec =
     tie.close
-    (tie.spec Inv-loop μ-loop loop-holds (search needs) (search needs) same-length returns post-requires (search needs) (search needs) loop-again same-length-2
-    returns-2)
+    (tie.spec Inv-loop μ-loop
+    (λ c. let a = c .before .args in (omega arith, c .before .good .1 .1 .0 .1 .0 .1, λ q h. absurd (omega arith), kept-first (a .t3) (a .row) (a .i) _))
+    (search needs) (search needs) (λ c. c .before .before .before .before .loop .inv .3 .rest .size) returns post-requires (search needs) (search needs) loop-again
+    (λ c. c .before .loop .inv .3 .rest .size)
+    (λ c. let l = c .before .loop in let e : l .q ≡ length (c .before .before .before .args .t3) = omega (arith, l .inv .1) in rw e at (l .inv .3)))

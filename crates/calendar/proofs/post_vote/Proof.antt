@@ -17,15 +17,6 @@ Inv-loop work₀ sending j n i b₀ work b = (b ≤ n) × Posted work₀ work (t
 abbrev μ-loop : tie.MeasureT-loop
 μ-loop work₀ sending j n i b₀ work b = n - b
 
-loop-holds : tie.Need-loop-holds Inv-loop μ-loop
-loop-holds c = let a = c .before .args in (omega arith, others-first (a .sending) _ _)
-
-arrival-requires : tie.Need-arrival-requires Inv-loop μ-loop
-arrival-requires c κs = (c .before .before .before .before .before .pre .0, c .before .before .loop-test .taken)
-
-row-requires : tie.Need-row-requires Inv-loop μ-loop
-row-requires c κs = omega (arith, c .before .before .before .before .before .before .pre .0 .servers, c .before .before .before .loop-test .taken)
-
 post-requires : tie.Need-post-requires Inv-loop μ-loop
 post-requires c κs = let p = c .before .before .before .before .before .before .before .pre in (c .row .ensures .1, p .1, omega (arith, c .before .before .before .before .before .loop .inv .1 .rest .size))
 
@@ -40,11 +31,11 @@ loop-again c = let s = c .before .before .before .before in
       ],
     )
 
-same-length : tie.Need-same-length Inv-loop μ-loop
-same-length c = c .before .loop .inv .1 .rest .size
-
-returns : tie.Need-returns Inv-loop μ-loop
-returns c = let e : c .before .loop .b ≡ c .before .before .before .args .sending .n = omega arith in rw e at (c .before .loop .inv .1)
-
 pub post-vote-spec : {M : Type 1} → statement M
-post-vote-spec = tie.close (tie.spec Inv-loop μ-loop loop-holds arrival-requires row-requires post-requires (search needs) (search needs) loop-again same-length returns)
+post-vote-spec =
+    tie.close
+    (tie.spec Inv-loop μ-loop (λ c. let a = c .before .args in (omega arith, others-first (a .sending) _ _))
+    (λ c κs. (c .before .before .before .before .before .pre .0, c .before .before .loop-test .taken))
+    (λ c κs. omega (arith, c .before .before .before .before .before .before .pre .0 .servers, c .before .before .before .loop-test .taken)) post-requires
+    (search needs) (search needs) loop-again (λ c. c .before .loop .inv .1 .rest .size)
+    (λ c. let e : c .before .loop .b ≡ c .before .before .before .args .sending .n = omega arith in rw e at (c .before .loop .inv .1)))

@@ -41,9 +41,6 @@ loop-again c =
     let l = c .before .before .before .before .before .loop in
     (omega (arith, l .inv .0), omega (arith, c .before .before .before .before .loop-test .taken), forges-more _ _ _ _ _ _ (l .e) (l .inv .0) (l .inv .2) (c .before .before .post-entry .ensures))
 
-same-length : tie.Need-same-length Inv-loop μ-loop
-same-length c = c .before .loop .inv .2 .rest .size
-
 returns : tie.Need-returns Inv-loop μ-loop
 returns c =
     let a = c .before .before .before .before .before .before .before .args in
@@ -53,5 +50,5 @@ returns c =
 pub forge-spec : {M : Type 1} → statement M
 forge-spec =
     tie.close
-    (tie.spec Inv-loop μ-loop (search needs) (search needs) (search needs) (search needs) (search needs) (search needs) (search needs) loop-holds
-    post-entry-requires add-e (search needs) loop-again same-length returns)
+    (tie.spec Inv-loop μ-loop (search needs) (search needs) (search needs) (search needs) (search needs) (search needs) (search needs) loop-holds post-entry-requires
+    add-e (search needs) loop-again (λ c. c .before .loop .inv .2 .rest .size) returns)

@@ -3,58 +3,84 @@ use borrow.Author.Needs.{needs}
 use native.Mathlib.Omega.{arith}
 use Prim.Native.Nat.{_<_, suc}
 use mathlib.Core.Path.{ap, _∙_}
-use Rattle.player.proofs.Whole.{ready-kept, went-on, ready, begun, servers-few, ticks-are, seen}
+use Rattle.player.proofs.{Feeding.range, Feeding.ticks-same, Whole.ready-kept, Whole.went-on, Whole.ready, Whole.begun, Whole.seen}
 use Rattle.player.proofs.look.Statement.{statement}
 use Rattle.player.proofs.look.Tie as tie
 
-read-requires : tie.Need-read-requires
-read-requires c κs = search needs
-
-begin-requires : tie.Need-begin-requires
-begin-requires c κs = omega (arith, c .before .before .before .before .before .before .before .pre .1, c .before .before .before .read .ensures .forged .filled .size)
-
 run-requires : tie.Need-run-requires
-run-requires c κs = (
-  ready _ _ _ _ _ (c .before .before .before .before .before .before .before .before .before .before .before .before .pre .0) (c .before .before .before .before .before .before .before .before .before .before .before .before .pre .1) (c .before .before .before .before .before .before .before .before .read .ensures) _ (c .before .before .before .before .begin .ensures),
-  begun _ _ _ _ _ (c .before .before .before .before .before .before .before .before .before .before .before .before .pre .0) (c .before .before .before .before .before .before .before .before .before .before .before .before .pre .1) (c .before .before .before .before .before .before .before .before .read .ensures) _ (c .before .before .before .before .begin .ensures),
-  rw (c .before .before .before .before .begin .ensures .first) (omega arith),
-  omega (arith, c .before .before .before .before .before .before .before .before .before .before .before .before .pre .3, ticks-are _ _ _ _ _ (c .before .before .before .before .before .before .before .before .before .before .before .before .pre .0) (c .before .before .before .before .before .before .before .before .before .before .before .before .pre .1) (c .before .before .before .before .before .before .before .before .read .ensures) _ (c .before .before .before .before .begin .ensures)),
-  omega (arith, c .before .before .before .before .before .before .before .before .read .ensures .reads .few),
-)
+run-requires c κs =
+    let b = c .before .before .before .before in
+    let r = b .before .before .before .before in
+    let p = r .before .before .before .before .pre in
+    let R = ready _ _ _ _ _ (p .0) (p .1) (r .read .ensures) _ (b .begin .ensures) in (
+      R,
+      begun _ _ _ _ _ (p .0) (p .1) (r .read .ensures) _ (b .begin .ensures),
+      rw (b .begin .ensures .first) (omega arith),
+      omega (arith, p .3, ticks-same _ _ (R .decoded)),
+      omega (arith, r .read .ensures .reads .few),
+    )
 
 next-requires : tie.Need-next-requires
-next-requires c κs = (
-  ready-kept _ _ _ _ (c .before .before .before .before .before .run .ensures .0 .kept) (ready _ _ _ _ _ (c .before .before .before .before .before .before .before .before .before .before .before .before .before .before .before .before .before .before .pre .0) (c .before .before .before .before .before .before .before .before .before .before .before .before .before .before .before .before .before .before .pre .1) (c .before .before .before .before .before .before .before .before .before .before .before .before .before .before .read .ensures) _ (c .before .before .before .before .before .before .before .before .before .before .begin .ensures)),
-  c .before .before .before .before .before .run .ensures .0 .played,
-  omega (arith, c .before .before .before .before .before .before .before .before .before .before .before .before .before .before .before .before .before .before .pre .3, c .before .before .before .before .before .run .ensures .1, ticks-are _ _ _ _ _ (c .before .before .before .before .before .before .before .before .before .before .before .before .before .before .before .before .before .before .pre .0) (c .before .before .before .before .before .before .before .before .before .before .before .before .before .before .before .before .before .before .pre .1) (c .before .before .before .before .before .before .before .before .before .before .before .before .before .before .read .ensures) _ (c .before .before .before .before .before .before .before .before .before .before .begin .ensures)),
-  omega (arith, c .before .before .before .before .before .before .before .before .before .before .before .before .before .before .read .ensures .reads .few, c .before .before .before .before .before .run .kept .1 .1 .0),
-)
+next-requires c κs =
+    let d = c .before .before .before .before .before in
+    let b = d .before .before .before .before .before in
+    let r = b .before .before .before .before in
+    let p = r .before .before .before .before .pre in
+    let R = ready _ _ _ _ _ (p .0) (p .1) (r .read .ensures) _ (b .begin .ensures) in (
+      ready-kept _ _ _ _ (d .run .ensures .0 .kept) R,
+      d .run .ensures .0 .played,
+      omega (arith, p .3, d .run .ensures .1, ticks-same _ _ (R .decoded)),
+      omega (arith, r .read .ensures .reads .few, d .run .kept .1 .1 .0),
+    )
 
 zero-requires : tie.Need-zero-requires
-zero-requires c κs = omega (arith, c .before .before .before .before .before .before .before .before .before .before .before .before .before .before .before .before .before .before .before .before .before .before .before .pre .1, c .before .before .before .before .before .before .before .before .before .before .before .before .before .before .before .before .before .before .before .read .ensures .forged .filled .size, c .before .before .before .before .before .before .before .before .before .before .before .before .before .before .before .begin .ensures .kept .size, c .before .before .before .before .before .before .before .before .before .before .run .ensures .0 .kept .size, c .before .before .before .before .next .ensures .0 .kept .size)
+zero-requires c κs =
+    let n = c .before .before .before .before in
+    let d = n .before .before .before .before .before .before in
+    let b = d .before .before .before .before .before in
+    let r = b .before .before .before .before in
+    omega (arith, r .before .before .before .before .pre .1, r .read .ensures .forged .filled .size, b .begin .ensures .kept .size, d .run .ensures .0 .kept .size, n .next .ensures .0 .kept .size)
 
+-- the server is one of the array's
 mul-seen : tie.Need-mul-seen
 mul-seen c =
-    let h = servers-few _ _ _ _ _ (c .before .before .before .before .before .before .before .before .before .before .before .before .before .before .before .before .before .before .before .before .before .before .before .before .before .before .before .pre .0) (c .before .before .before .before .before .before .before .before .before .before .before .before .before .before .before .before .before .before .before .before .before .before .before .before .before .before .before .pre .1) (c .before .before .before .before .before .before .before .before .before .before .before .before .before .before .before .before .before .before .before .before .before .before .before .read .ensures) _ (c .before .before .before .before .before .before .before .before .before .before .before .before .before .before .before .before .before .before .before .begin .ensures) in
-    let l : c .before .before .before .before .before .before .before .before .before .before .before .before .before .before .before .before .before .before .before .before .before .before .before .before .before .before .before .args .server < 16 = omega (arith, h, c .before .before .before .before .before .before .before .before .before .before .before .before .before .before .before .before .before .before .before .before .before .before .before .before .before .before .before .pre .2) in
+    let b = c .before .before .before .before .before .before .before .before .before .before .before .before .before .before .before .before .before .before .before in
+    let r = b .before .before .before .before in
+    let s = r .before .before .before .before in
+    let h = range _ _ (ready _ _ _ _ _ (s .pre .0) (s .pre .1) (r .read .ensures) _ (b .begin .ensures) .decoded) .n-hi in
+    let l : s .args .server < 16 = omega (arith, h, s .pre .2) in
     search needs
 
 element-copy-out-seen : tie.Need-element-copy-out-seen
 element-copy-out-seen c =
-    let h = servers-few _ _ _ _ _ (c .before .before .before .before .before .before .before .before .before .before .before .before .before .before .before .before .before .before .before .before .before .before .before .before .before .before .before .pre .0) (c .before .before .before .before .before .before .before .before .before .before .before .before .before .before .before .before .before .before .before .before .before .before .before .before .before .before .before .pre .1) (c .before .before .before .before .before .before .before .before .before .before .before .before .before .before .before .before .before .before .before .before .before .before .before .read .ensures) _ (c .before .before .before .before .before .before .before .before .before .before .before .before .before .before .before .before .before .before .before .begin .ensures) in
-    let l : c .before .before .before .before .before .before .before .before .before .before .before .before .before .before .before .before .before .before .before .before .before .before .before .before .before .before .before .args .server < 16 = omega (arith, h, c .before .before .before .before .before .before .before .before .before .before .before .before .before .before .before .before .before .before .before .before .before .before .before .before .before .before .before .pre .2) in
+    let b = c .before .before .before .before .before .before .before .before .before .before .before .before .before .before .before .before .before .before .before in
+    let r = b .before .before .before .before in
+    let s = r .before .before .before .before in
+    let h = range _ _ (ready _ _ _ _ _ (s .pre .0) (s .pre .1) (r .read .ensures) _ (b .begin .ensures) .decoded) .n-hi in
+    let l : s .args .server < 16 = omega (arith, h, s .pre .2) in
     search needs
 
 same-length : tie.Need-same-length
-same-length c = omega (arith, c .before .before .before .before .before .before .zero .kept .0, c .before .before .before .before .before .before .before .before .before .before .before .next .ensures .0 .kept .size, c .before .before .before .before .before .before .before .before .before .before .before .before .before .before .before .before .before .run .ensures .0 .kept .size, c .before .before .before .before .before .before .before .before .before .before .before .before .before .before .before .before .before .before .before .before .before .before .begin .ensures .kept .size, c .before .before .before .before .before .before .before .before .before .before .before .before .before .before .before .before .before .before .before .before .before .before .before .before .before .before .read .ensures .forged .filled .size)
+same-length c =
+    let z = c .before .before .before .before .before .before in
+    let n = z .before .before .before .before .before in
+    let d = n .before .before .before .before .before .before in
+    let b = d .before .before .before .before .before in
+    omega (arith, z .zero .kept .0, n .next .ensures .0 .kept .size, d .run .ensures .0 .kept .size, b .begin .ensures .kept .size, b .before .before .before .before .read .ensures .forged .filled .size)
 
 returns : tie.Need-returns
 returns c =
-    let went = went-on _ _ _ _ _ _ _ _ _ _ _ (c .before .before .before .before .before .before .before .before .before .before .before .before .before .before .before .before .before .run .ensures .0) (c .before .before .before .before .before .before .before .before .before .before .before .next .ensures .0) in
-    seen _ _ _ _ _ (c .before .before .before .before .before .before .before .before .before .before .before .before .before .before .before .before .before .before .before .before .before .before .before .before .before .before .before .before .before .before .pre .0) (c .before .before .before .before .before .before .before .before .before .before .before .before .before .before .before .before .before .before .before .before .before .before .before .before .before .before .before .before .before .before .pre .1) (c .before .before .before .before .before .before .before .before .before .before .before .before .before .before .before .before .before .before .before .before .before .before .before .before .before .before .read .ensures) _ (c .before .before .before .before .before .before .before .before .before .before .before .before .before .before .before .before .before .before .before .before .before .before .begin .ensures) _ _ _ _ went (c .before .before .before .before .before .before .before .before .before .before .before .before .before .before .before .before .before .before .before .before .before .before .before .before .before .before .before .before .before .before .args .server) _ _ (c .before .before .before .before .before .before .before .before .before .before .before .before .before .before .before .before .before .before .before .before .before .before .before .before .before .before .before .before .before .before .pre .2) (c .before .before .before .before .before .before .before .before .before .before .before .next .ensures .1 ∙ ap suc (c .before .before .before .before .before .before .before .before .before .before .before .before .before .before .before .before .before .run .ensures .1)) (c .before .before .before .before .before .before .zero .ensures)
+    let z = c .before .before .before .before .before .before in
+    let n = z .before .before .before .before .before in
+    let d = n .before .before .before .before .before .before in
+    let b = d .before .before .before .before .before in
+    let r = b .before .before .before .before in
+    let s = r .before .before .before .before in
+    seen _ _ _ _ _ (s .pre .0) (s .pre .1) (r .read .ensures) _ (b .begin .ensures) _ _ _ _ (went-on _ _ _ _ _ _ _ _ _ _ _ (d .run .ensures .0) (n .next .ensures .0)) (s .args .server) _ _
+    (s .pre .2) (n .next .ensures .1 ∙ ap suc (d .run .ensures .1)) (z .zero .ensures)
 
 pub look-spec : {M : Type 1} → statement M
 look-spec =
     tie.close
-    (tie.spec read-requires begin-requires (search needs) run-requires (search needs) next-requires zero-requires mul-seen element-copy-out-seen same-length
-    returns)
+    (tie.spec (λ c κs. search needs) (λ c κs. omega (arith, c .before .before .before .before .before .before .before .pre .1, c .before .before .before .read .ensures .forged .filled .size))
+    (search needs) run-requires (search needs) next-requires zero-requires mul-seen element-copy-out-seen same-length returns)

@@ -5,26 +5,34 @@ use Rattle.player.proofs.Whole.{ready, begun, all-there}
 use Rattle.player.proofs.play.Statement.{statement}
 use Rattle.player.proofs.play.Tie as tie
 
-read-requires : tie.Need-read-requires
-read-requires c κs = (c .before .before .before .before .pre .0, omega (arith, c .before .before .before .before .pre .2))
-
-begin-requires : tie.Need-begin-requires
-begin-requires c κs = omega (arith, c .before .before .before .before .before .before .before .before .pre .2, c .before .before .before .read .ensures .forged .filled .size)
-
 run-requires : tie.Need-run-requires
-run-requires c κs = (
-  ready _ _ _ _ _ (c .before .before .before .before .before .before .before .before .before .before .before .before .before .pre .0) (c .before .before .before .before .before .before .before .before .before .before .before .before .before .pre .2) (c .before .before .before .before .before .before .before .before .read .ensures) _ (c .before .before .before .before .begin .ensures),
-  begun _ _ _ _ _ (c .before .before .before .before .before .before .before .before .before .before .before .before .before .pre .0) (c .before .before .before .before .before .before .before .before .before .before .before .before .before .pre .2) (c .before .before .before .before .before .before .before .before .read .ensures) _ (c .before .before .before .before .begin .ensures),
-  rw (c .before .before .before .before .begin .ensures .first) (omega arith),
-  omega arith,
-  omega (arith, c .before .before .before .before .before .before .before .before .read .ensures .reads .count, c .before .before .before .before .before .before .before .before .before .before .before .before .before .pre .1),
-)
+run-requires c κs =
+    let b = c .before .before .before .before in
+    let r = b .before .before .before .before in
+    let p = r .before .before .before .before .before .pre in (
+      ready _ _ _ _ _ (p .0) (p .2) (r .read .ensures) _ (b .begin .ensures),
+      begun _ _ _ _ _ (p .0) (p .2) (r .read .ensures) _ (b .begin .ensures),
+      rw (b .begin .ensures .first) (omega arith),
+      omega arith,
+      omega (arith, r .read .ensures .reads .count, p .1),
+    )
 
 zero-requires : tie.Need-zero-requires
-zero-requires c κs = omega (arith, c .before .before .before .before .before .before .before .before .before .before .before .before .before .before .before .before .before .before .before .pre .2, c .before .before .before .before .before .before .before .before .before .before .before .before .before .before .read .ensures .forged .filled .size, c .before .before .before .before .before .before .before .before .before .before .begin .ensures .kept .size, c .before .before .before .before .before .run .ensures .0 .kept .size)
-
-returns : tie.Need-returns
-returns c = all-there _ _ _ _ _ (c .before .before .before .before .before .before .before .before .before .before .before .before .before .before .before .before .before .before .before .before .before .before .pre .0) (c .before .before .before .before .before .before .before .before .before .before .before .before .before .before .before .before .before .before .before .before .before .before .pre .2) (c .before .before .before .before .before .before .before .before .before .before .before .before .before .before .before .before .before .read .ensures) _ (c .before .before .before .before .before .before .before .before .before .before .before .before .before .begin .ensures) _ _ _ _ (c .before .before .before .before .before .before .before .before .run .ensures .0) (c .before .before .before .before .before .before .before .before .run .ensures .1) _ (c .before .before .zero .ensures)
+zero-requires c κs =
+    let d = c .before .before .before .before .before in
+    let b = d .before .before .before .before .before in
+    let r = b .before .before .before .before in
+    omega (arith, r .before .before .before .before .before .pre .2, r .read .ensures .forged .filled .size, b .begin .ensures .kept .size, d .run .ensures .0 .kept .size)
 
 pub play-spec : {M : Type 1} → statement M
-play-spec = tie.close (tie.spec read-requires begin-requires run-requires zero-requires (search needs) (search needs) returns)
+play-spec =
+    tie.close
+    (tie.spec (λ c κs. let p = c .before .before .before .before .pre in (p .0, omega (arith, p .2)))
+    (λ c κs. omega (arith, c .before .before .before .before .before .before .before .before .pre .2, c .before .before .before .read .ensures .forged .filled .size)) run-requires zero-requires
+    (search needs) (search needs)
+    (λ c.
+    let d = c .before .before .before .before .before .before .before .before in
+    let b = d .before .before .before .before .before in
+    let r = b .before .before .before .before in
+    let p = r .before .before .before .before .before .pre in
+    all-there _ _ _ _ _ (p .0) (p .2) (r .read .ensures) _ (b .begin .ensures) _ _ _ _ (d .run .ensures .0) (d .run .ensures .1) _ (c .before .before .zero .ensures)))

@@ -15,14 +15,11 @@ element-copy-out-write c =
     let h : c .before .before .before .before .chosen .result .number < 65 = rw (c .before .before .before .before .chosen .ensures) (choice-below _ _ _ (c .before .before .before .before .before .before .pre .1)) in
     search needs
 
-write-requires-2 : tie.Need-write-requires-2
-write-requires-2 c κs = let s = c .before .before .before .before .before .before .before in (s .pre .0, s .pre .2 _)
-
 returns-2 : tie.Need-returns-2
 returns-2 c = let x = c .before .before .before .before .before .before .before .before .chosen in rw (← x .ensures, answer-found _ (x .result) (not-false (x .result .found) (c .before .before .before .before .before .before .if1 .left))) (c .before .before .write2 .ensures)
 
 pub answer-spec : {M : Type 1} → statement M
 answer-spec =
     tie.close
-    (tie.spec (search needs) (search needs) (search needs) returns (search needs) (search needs) element-copy-out-write write-requires-2 (search needs)
-    returns-2)
+    (tie.spec (search needs) (search needs) (search needs) returns (search needs) (search needs) element-copy-out-write
+    (λ c κs. let s = c .before .before .before .before .before .before .before in (s .pre .0, s .pre .2 _)) (search needs) returns-2)

@@ -13,12 +13,6 @@ Inv-loop begun m k u i₀ i = (k ≤ i) × (i ≤ m) × ((j : ℕ) → k ≤ j �
 abbrev μ-loop : tie.MeasureT-loop
 μ-loop begun m k u i₀ i = m - i
 
-loop-holds : tie.Need-loop-holds Inv-loop μ-loop
-loop-holds c = (omega arith, c .pre .0, λ j a b. absurd (omega arith))
-
-element-copy-out-size-of : tie.Need-element-copy-out-size-of Inv-loop μ-loop
-element-copy-out-size-of c = let h : c .before .loop .i < 255 = omega (arith, c .loop-test .taken, c .before .before .pre .1) in search needs
-
 returns : tie.Need-returns Inv-loop μ-loop
 returns c =
     let l = c .before .before .before .before .loop in
@@ -27,16 +21,15 @@ returns c =
 add-i : tie.Need-add-i Inv-loop μ-loop
 add-i c = let h : c .before .before .before .before .loop .i < 255 = omega (arith, c .before .before .before .loop-test .taken, c .before .before .before .before .before .pre .1) in search needs
 
-loop-less : tie.Need-loop-less Inv-loop μ-loop
-loop-less c = omega (arith, c .before .before .before .loop-test .taken)
-
 loop-again : tie.Need-loop-again Inv-loop μ-loop
 loop-again c =
     let l = c .before .before .before .before .loop in
     (omega (arith, l .inv .0), omega (arith, c .before .before .before .loop-test .taken), until-passed (c .before .before .before .before .before .args .begun .now) (c .before .before .before .before .before .args .m) _ _ (l .i) (l .inv .0) (l .inv .2) (rw (c .before .size-of .ensures) at (c .if1 .left)))
 
-returns-2 : tie.Need-returns-2 Inv-loop μ-loop
-returns-2 c = let l = c .before .loop in until-last _ _ _ _ (l .i) (l .inv .0) (l .inv .2) (c .loop-test .left) (l .inv .1)
-
 pub first-from-spec : {M : Type 1} → statement M
-first-from-spec = tie.close (tie.spec Inv-loop μ-loop loop-holds element-copy-out-size-of (search needs) returns add-i loop-less loop-again returns-2)
+first-from-spec =
+    tie.close
+    (tie.spec Inv-loop μ-loop (λ c. (omega arith, c .pre .0, λ j a b. absurd (omega arith)))
+    (λ c. let h : c .before .loop .i < 255 = omega (arith, c .loop-test .taken, c .before .before .pre .1) in search needs) (search needs) returns add-i
+    (λ c. omega (arith, c .before .before .before .loop-test .taken)) loop-again
+    (λ c. let l = c .before .loop in until-last _ _ _ _ (l .i) (l .inv .0) (l .inv .2) (c .loop-test .left) (l .inv .1)))

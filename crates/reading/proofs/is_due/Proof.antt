@@ -4,9 +4,6 @@ use borrow.Author.Needs.{needs}
 use Rattle.reading.proofs.is_due.Statement.{statement}
 use Rattle.reading.proofs.is_due.Tie as tie
 
-returns : tie.Need-returns
-returns c = let e = rw (c .before .before .size-of .ensures) at (c .before .is-before .ensures) in rw (sym e ∙ c .if1 .taken)
-
 returns-2 : tie.Need-returns-2
 returns-2 c =
     let e = rw (c .before .before .before .before .size-of .ensures) at (c .before .before .before .is-before .ensures) in
@@ -14,4 +11,7 @@ returns-2 c =
     rw (sym e ∙ c .before .before .if1 .left) f
 
 pub is-due-spec : {M : Type 1} → statement M
-is-due-spec = tie.close (tie.spec (search needs) (search needs) (search needs) returns (search needs) (search needs) returns-2)
+is-due-spec =
+    tie.close
+    (tie.spec (search needs) (search needs) (search needs)
+    (λ c. let e = rw (c .before .before .size-of .ensures) at (c .before .is-before .ensures) in rw (sym e ∙ c .if1 .taken)) (search needs) (search needs) returns-2)

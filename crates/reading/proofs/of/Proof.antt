@@ -3,8 +3,5 @@ use borrow.Author.Needs.{needs}
 use Rattle.reading.proofs.of.Statement.{statement}
 use Rattle.reading.proofs.of.Tie as tie
 
-returns : tie.Need-returns
-returns c = rw (c .ends-of .ensures)
-
 pub of-spec : {M : Type 1} → statement M
-of-spec = tie.close (tie.spec (search needs) returns)
+of-spec = tie.close (tie.spec (search needs) (λ c. rw (c .ends-of .ensures)))

@@ -14,15 +14,6 @@ Inv-loop work₀ sending p n b₀ work b = (b ≤ n) × Asked work₀ work (aske
 abbrev μ-loop : tie.MeasureT-loop
 μ-loop work₀ sending p n b₀ work b = n - b
 
-loop-holds : tie.Need-loop-holds Inv-loop μ-loop
-loop-holds c = let s = c .before in (omega arith, asked-first (s .args .sending) (s .args .p) (s .pre .1) _)
-
-arrival-requires : tie.Need-arrival-requires Inv-loop μ-loop
-arrival-requires c κs = (c .before .before .before .before .pre .0, c .before .loop-test .taken)
-
-word-requires : tie.Need-word-requires Inv-loop μ-loop
-word-requires c κs = c .before .before .before .before .before .pre .1
-
 add-requires : tie.Need-add-requires Inv-loop μ-loop
 add-requires c κs = (omega (arith, c .word .ensures .1, c .before .before .before .before .loop .inv .1 .outside .rest .size, c .before .before .before .before .before .before .pre .2), omega (arith, c .before .before .before .before .before .before .pre .0 .servers, c .before .before .before .loop-test .taken))
 
@@ -35,11 +26,10 @@ loop-again c = let s = c .before .before .before .before .before .before .before
           (asked-more (s .args .sending) (s .args .p) (s .pre .1) _ _ (l .b) (omega (arith, l .inv .1 .outside .rest .size, s .pre .2)) (l .inv .1)),
     )
 
-same-length : tie.Need-same-length Inv-loop μ-loop
-same-length c = c .before .loop .inv .1 .outside .rest .size
-
-returns : tie.Need-returns Inv-loop μ-loop
-returns c = let e : c .before .loop .b ≡ c .before .before .before .args .sending .n = omega arith in rw e at (c .before .loop .inv .1)
-
 pub post-spec : {M : Type 1} → statement M
-post-spec = tie.close (tie.spec Inv-loop μ-loop loop-holds arrival-requires word-requires add-requires (search needs) (search needs) loop-again same-length returns)
+post-spec =
+    tie.close
+    (tie.spec Inv-loop μ-loop (λ c. let s = c .before in (omega arith, asked-first (s .args .sending) (s .args .p) (s .pre .1) _))
+    (λ c κs. (c .before .before .before .before .pre .0, c .before .loop-test .taken)) (λ c κs. c .before .before .before .before .before .pre .1) add-requires
+    (search needs) (search needs) loop-again (λ c. c .before .loop .inv .1 .outside .rest .size)
+    (λ c. let e : c .before .loop .b ≡ c .before .before .before .args .sending .n = omega arith in rw e at (c .before .loop .inv .1)))

@@ -17,10 +17,6 @@ Inv-loop m reply names best₀ j₀ best j = (j ≤ m) × (m ≤ places) × (bes
 abbrev μ-loop : tie.MeasureT-loop
 μ-loop m reply names best₀ j₀ best j = m - j
 
-loop-holds : tie.Need-loop-holds Inv-loop μ-loop
-unfolding highestOf
-loop-holds c = (omega arith, c .pre, refl)
-
 at-requires : tie.Need-at-requires Inv-loop μ-loop
 at-requires c κs =
     let l = c .before .before .before in
@@ -36,13 +32,9 @@ loop-again c =
       highest-more (a .t1) (a .reply) _ _ _ _ (c .before .at .ensures) (h .2) (c .better .ensures),
     )
 
-returns : tie.Need-returns Inv-loop μ-loop
-returns c =
-    let l = c .before .loop in
-    let e : l .j ≡ c .before .before .args .m = omega arith in
-    rw e at (l .inv .2)
-
 pub chosen-spec : {M : Type 1} → statement M
+unfolding highestOf
 chosen-spec =
     tie.close
-    (tie.spec Inv-loop μ-loop loop-holds at-requires (search needs) (search needs) (search needs) (search needs) loop-again returns)
+    (tie.spec Inv-loop μ-loop (λ c. (omega arith, c .pre, refl)) at-requires (search needs) (search needs) (search needs) (search needs) loop-again
+    (λ c. let l = c .before .loop in let e : l .j ≡ c .before .before .args .m = omega arith in rw e at (l .inv .2)))

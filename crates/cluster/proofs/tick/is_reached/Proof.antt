@@ -5,24 +5,20 @@ use Rattle.cluster.specs.Settled.{reached}
 use Rattle.cluster.proofs.tick.is_reached.Statement.{statement}
 use Rattle.cluster.proofs.tick.is_reached.Tie as tie
 
-returns : tie.Need-returns
-unfolding reached
-returns c = rw (sym (c .before .is-called .ensures) ∙ c .if1 .taken)
-
-returns-2 : tie.Need-returns-2
-unfolding reached
-returns-2 c = rw (sym (c .before .before .before .is-called .ensures) ∙ c .before .before .if1 .left, sym (c .before .is-faulty .ensures) ∙ c .if2 .taken)
-
-is-any-new-requires : tie.Need-is-any-new-requires
-is-any-new-requires c κs =
-    let r = c .before .before .before .row in
-    rw (c .high .ensures .0) (c .before .before .before .before .before .before .before .before .before .before .pre .2 .top (r .result) (r .ensures .1))
-
-returns-3 : tie.Need-returns-3
-unfolding reached
-returns-3 c = rw (sym (c .before .before .before .before .before .before .before .before .is-called .ensures) ∙ c .before .before .before .before .before .before .before .if1 .left, sym (c .before .before .before .before .before .before .is-faulty .ensures) ∙ c .before .before .before .before .before .if2 .left, c .is-any-new .ensures, c .before .before .low .ensures .0, c .before .high .ensures .0, c .before .before .before .before .row .ensures .0)
-
 pub is-reached-spec : {M : Type 1} → statement M
+unfolding reached
 is-reached-spec =
     tie.close
-    (tie.spec (search needs) returns (search needs) returns-2 (search needs) (search needs) (search needs) (search needs) is-any-new-requires returns-3)
+    (tie.spec (search needs) (λ c. rw (sym (c .before .is-called .ensures) ∙ c .if1 .taken)) (search needs)
+    (λ c. let d = c .before in rw (sym (d .before .before .is-called .ensures) ∙ d .before .if1 .left, sym (d .is-faulty .ensures) ∙ c .if2 .taken))
+    (search needs) (search needs) (search needs) (search needs)
+    (λ c κs. let d = c .before .before .before in rw (c .high .ensures .0) (d .before .before .before .before .before .before .before .pre .2 .top (d .row .result) (d .row .ensures .1)))
+    (λ c. let d = c .before .before .before .before .before in
+    rw (
+      sym (d .before .before .before .is-called .ensures) ∙ d .before .before .if1 .left,
+      sym (d .before .is-faulty .ensures) ∙ d .if2 .left,
+      c .is-any-new .ensures,
+      c .before .before .low .ensures .0,
+      c .before .high .ensures .0,
+      c .before .before .before .before .row .ensures .0,
+    )))

@@ -20,39 +20,6 @@ use Rattle.cluster.proofs as cluster-laws
 use Rattle.cluster.proofs.TickLaws.{stages-moving, stages-still}
 use Rattle.cluster.proofs.tick.turn.Tie as tie
 
-low-requires : tie.Need-low-requires
-low-requires c κs = (c .before .row .ensures .1, c .before .before .before .before .before .before .before .pre .1 .room)
-
-high-requires : tie.Need-high-requires
-high-requires c κs = (c .before .before .before .row .ensures .1, c .before .before .before .before .before .before .before .before .before .pre .1 .room)
-
-vote-requires : tie.Need-vote-requires
-vote-requires c κs = (c .before .before .before .before .before .row .ensures .1, c .before .before .before .before .before .before .before .before .before .before .before .pre .1 .room)
-
-wrote-at-requires : tie.Need-wrote-at-requires
-wrote-at-requires c κs = omega (arith, c .before .before .before .before .before .before .before .before .before .before .before .before .before .before .before .before .pre .0, c .before .before .before .before .before .before .before .before .before .before .before .before .before .before .before .before .pre .1 .servers)
-
-asks-at-requires : tie.Need-asks-at-requires
-asks-at-requires c κs = omega (arith, c .before .before .before .before .before .before .before .before .before .before .before .before .before .before .before .before .before .pre .0, c .before .before .before .before .before .before .before .before .before .before .before .before .before .before .before .before .before .pre .1 .servers)
-
-deliver-requires : tie.Need-deliver-requires
-deliver-requires c κs = let s = c .before .before .before .before .before .before .before .before .before .before .before .before .before .before .before .before .before .before in (s .pre .1 .pairs, s .pre .1 .echo, s .pre .1 .reply)
-
-sub-has-2 : tie.Need-sub-has-2
-sub-has-2 c = omega (arith, c .before .before .before .before .before .before .before .before .before .before .before .before .before .before .before .before .before .before .pre .0, c .before .before .before .before .before .before .before .before .before .before .before .before .before .before .before .before .before .before .pre .1 .servers)
-
-has-requires : tie.Need-has-requires
-has-requires c κs = omega (arith, c .before .before .before .before .before .before .before .before .before .before .before .before .before .before .before .before .before .before .pre .0, c .before .before .before .before .before .before .before .before .before .before .before .before .before .before .before .before .before .before .pre .1 .servers)
-
-clear-requires : tie.Need-clear-requires
-clear-requires c κs = let p = c .before .before .before .before .before .before .before .before .before .before .before .before .before .before .before .before .before .before .before .pre .1 in let r = c .before .before .before .before .before .before .before .before .before .before .before .before .before .row in (r .ensures .1, p .spans .top (r .result) (r .ensures .1), p .room)
-
-cast-send : tie.Need-cast-send
-cast-send c = omega (arith, c .before .before .before .before .before .before .before .before .before .before .before .before .before .before .before .before .before .before .before .before .before .before .before .pre .1 .tick)
-
-send-requires : tie.Need-send-requires
-send-requires c κs = let s = c .before .before .before .before .before .before .before .before .before .before .before .before .before .before .before .before .before .before .before .before .before .before .before in let p = s .pre .1 in (omega (arith, p .room, c .before .before .before .clear .ensures .rest .size), rw (add-one (s .args .feed .t)) (p .linked), p .tick, s .pre .0)
-
 returns : tie.Need-returns
 returns c =
     let s = c .before .before .before .before .before .before .before .before .before .before .before .before .before .before .before .before .before .before .before .before .before .before .before .before .before .before in
@@ -101,6 +68,24 @@ returns c =
 pub turn-spec : {M : Type 1} → cluster-laws.tick.turn.Statement.statement M
 turn-spec =
     tie.close
-    (tie.spec (search needs) (search needs) low-requires high-requires vote-requires (search needs) (search needs) wrote-at-requires asks-at-requires
-    deliver-requires (search needs) (search needs) (search needs) sub-has-2 has-requires (search needs) (search needs) clear-requires cast-send send-requires
+    (tie.spec (search needs) (search needs)
+    (λ c κs. (c .before .row .ensures .1, c .before .before .before .before .before .before .before .pre .1 .room))
+    (λ c κs. (c .before .before .before .row .ensures .1, c .before .before .before .before .before .before .before .before .before .pre .1 .room))
+    (λ c κs. let r = c .before .before .before .before .before in (r .row .ensures .1, r .before .before .before .before .before .before .pre .1 .room)) (search needs) (search needs)
+    (λ c κs. let p = c .before .before .before .before .before .before .before .before .before .before .before .before .before .before .before .before .pre in omega (arith, p .0, p .1 .servers))
+    (λ c κs. let p = c .before .before .before .before .before .before .before .before .before .before .before .before .before .before .before .before .before .pre in omega (arith, p .0, p .1 .servers))
+    (λ c κs. let p = c .before .before .before .before .before .before .before .before .before .before .before .before .before .before .before .before .before .before .pre .1 in (p .pairs, p .echo, p .reply))
+    (search needs) (search needs) (search needs)
+    (λ c. let p = c .before .before .before .before .before .before .before .before .before .before .before .before .before .before .before .before .before .before .pre in omega (arith, p .0, p .1 .servers))
+    (λ c κs. let p = c .before .before .before .before .before .before .before .before .before .before .before .before .before .before .before .before .before .before .pre in omega (arith, p .0, p .1 .servers))
+    (search needs) (search needs)
+    (λ c κs.
+    let r = c .before .before .before .before .before .before .before .before .before .before .before .before .before in
+    let p = r .before .before .before .before .before .before .pre .1 in
+    (r .row .ensures .1, p .spans .top (r .row .result) (r .row .ensures .1), p .room))
+    (λ c. let s = c .before .before .before .before .before .before .before .before .before .before .before .before in omega (arith, s .before .before .before .before .before .before .before .before .before .before .before .pre .1 .tick))
+    (λ c κs.
+    let s = c .before .before .before .before .before .before .before .before .before .before .before .before .before .before .before .before .before .before .before .before .before .before .before in
+    let p = s .pre .1 in
+    (omega (arith, p .room, c .before .before .before .clear .ensures .rest .size), rw (add-one (s .args .feed .t)) (p .linked), p .tick, s .pre .0))
     (search needs) returns)

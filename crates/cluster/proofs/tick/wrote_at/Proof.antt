@@ -5,13 +5,7 @@ use Rattle.cluster.specs.Inputs.{wroteAt}
 use Rattle.cluster.proofs.tick.wrote_at.Statement.{statement}
 use Rattle.cluster.proofs.tick.wrote_at.Tie as tie
 
-returns : tie.Need-returns
-unfolding wroteAt
-returns c = rw (sym (c .before .has .ensures) ∙ c .if1 .taken)
-
-returns-2 : tie.Need-returns-2
-unfolding wroteAt
-returns-2 c = rw (sym (c .before .has .ensures) ∙ c .if1 .left)
-
 pub wrote-at-spec : {M : Type 1} → statement M
-wrote-at-spec = tie.close (tie.spec (search needs) (search needs) returns returns-2)
+unfolding wroteAt
+wrote-at-spec =
+    tie.close (tie.spec (search needs) (search needs) (λ c. rw (sym (c .before .has .ensures) ∙ c .if1 .taken)) (λ c. rw (sym (c .before .has .ensures) ∙ c .if1 .left)))

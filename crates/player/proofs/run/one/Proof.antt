@@ -5,14 +5,8 @@ use Rattle.player.proofs.Feeding.{few-ticks}
 use Rattle.player.proofs.run.one.Statement.{statement}
 use Rattle.player.proofs.run.one.Tie as tie
 
-add-run : tie.Need-add-run
-add-run c = let h = few-ticks _ _ (c .before .before .before .before .before .before .pre .0 .decoded) _ (c .before .before .before .before .before .before .pre .2) in omega (arith, h)
-
-run-requires : tie.Need-run-requires
-run-requires c κs = search needs
-
-returns : tie.Need-returns
-returns c = search needs
-
 pub one-spec : {M : Type 1} → statement M
-one-spec = tie.close (tie.spec add-run run-requires (search needs) (search needs) returns)
+one-spec =
+    tie.close
+    (tie.spec (λ c. let s = c .before .before .before .before .before .before in omega (arith, few-ticks _ _ (s .pre .0 .decoded) _ (s .pre .2))) (λ c κs. search needs) (search needs)
+    (search needs) (λ c. search needs))

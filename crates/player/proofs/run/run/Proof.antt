@@ -112,21 +112,12 @@ module _ (c : tie.After-loop2 Inv-loop2 μ-loop2 Inv-loop3 μ-loop3 Inv-loop μ-
   same-number : c .before .before .before .feed-of .result .rules .n ≡ c .before .before .before .before .before .before .before .before .before .before .before .before .before .before .before .before .before .args .t5 .rules .n
   same-number = ap (λ (x : Rules). x .n) same-rules
 
-loop3-holds : tie.Need-loop3-holds Inv-loop2 μ-loop2 Inv-loop3 μ-loop3 Inv-loop μ-loop
-loop3-holds c = (omega arith, serving-none _ _ _ (all-sized c .spans))
-
 -- in a turn of the inner loop
 inside : (c : tie.Then2 Inv-loop2 μ-loop2 Inv-loop3 μ-loop3 Inv-loop μ-loop) → c .before .before .loop3 .b < c .before .before .before .before .before .before .feed-of .result .rules .n
 inside c = omega (arith, c .if2 .taken, same-number (c .before .before .before))
 
 few : (c : tie.Then2 Inv-loop2 μ-loop2 Inv-loop3 μ-loop3 Inv-loop μ-loop) → c .before .before .loop3 .b < 16
 few c = omega (arith, inside c, all-sized (c .before .before .before) .servers)
-
-mul-s : tie.Need-mul-s Inv-loop2 μ-loop2 Inv-loop3 μ-loop3 Inv-loop μ-loop
-mul-s c = omega (arith, few (c))
-
-array-copy-out-s : tie.Need-array-copy-out-s Inv-loop2 μ-loop2 Inv-loop3 μ-loop3 Inv-loop μ-loop
-array-copy-out-s c = omega (arith, few (c))
 
 is-reached-requires : tie.Need-is-reached-requires Inv-loop2 μ-loop2 Inv-loop3 μ-loop3 Inv-loop μ-loop
 is-reached-requires c κs = let H = c .before .before .before .before .loop3 .inv .1 in (few (c .before .before), omega (arith, all-sized (c .before .before .before .before .before) .room, H .past .size), H .spans)
@@ -137,23 +128,11 @@ turn-requires c κs =
     let H = c .before .before .before .before .before .before .before .loop3 .inv .1 in
     (inside (c .before .before .before .before .before), sized-after _ _ _ (f .t) (f .rules) (f .known) (f .links) (all-sized (c .before .before .before .before .before .before .before .before)) (H .past) (H .spans))
 
-mul-servers : tie.Need-mul-servers Inv-loop2 μ-loop2 Inv-loop3 μ-loop3 Inv-loop μ-loop
-mul-servers c = omega (arith, few (c .before .before .before .before .before .before .before .before))
-
-array-set-from-servers : tie.Need-array-set-from-servers Inv-loop2 μ-loop2 Inv-loop3 μ-loop3 Inv-loop μ-loop
-array-set-from-servers c = omega (arith, few (c .before .before .before .before .before .before .before .before))
-
 cast-pass-over : tie.Need-cast-pass-over Inv-loop2 μ-loop2 Inv-loop3 μ-loop3 Inv-loop μ-loop
 cast-pass-over c = let h = few-ticks _ _ (c .before .before .before .before .before .before .before .before .before .before .before .before .before .before .before .before .before .before .before .before .before .before .before .before .before .pre .0 .decoded) (c .before .before .before .before .before .before .before .before .before .before .before .before .before .before .before .loop .t) (below (c .before .before .before .before .before .before .before .before .before .before .before .before .before .before)) in search needs
 
 pass-over-requires : tie.Need-pass-over-requires Inv-loop2 μ-loop2 Inv-loop3 μ-loop3 Inv-loop μ-loop
 pass-over-requires c κs = let H = c .before .before .before .before .before .before .before .loop3 .inv .1 in (few (c .before .before .before .before .before), omega (arith, all-sized (c .before .before .before .before .before .before .before .before) .room, H .past .size), H .spans)
-
-add-b : tie.Need-add-b Inv-loop2 μ-loop2 Inv-loop3 μ-loop3 Inv-loop μ-loop
-add-b c = omega (arith, few (c .before .before .before .before))
-
-loop3-less : tie.Need-loop3-less Inv-loop2 μ-loop2 Inv-loop3 μ-loop3 Inv-loop μ-loop
-loop3-less c = omega (arith, c .before .before .before .before .if2 .taken)
 
 loop3-again : tie.Need-loop3-again Inv-loop2 μ-loop2 Inv-loop3 μ-loop3 Inv-loop μ-loop
 loop3-again c =
@@ -223,12 +202,6 @@ loop-again c =
     let G = went _ _ _ _ _ _ _ (ready (c .before .before .before .before .before .before .before .before .before .before .before .before .before .before .before .before .before .before .before .before .before .before .before .before)) (below (c .before .before .before .before .before .before .before .before .before .before .before .before .before .before .before .before .before .before .before .before .before .before .before .before)) (c .before .before .before .before .before .before .before .before .before .before .before .before .before .before .before .before .before .before .before .before .before .before .before .before .before .loop .inv .3 .played) (c .before .before .before .before .before .before .before .before .before .before .before .before .before .before .before .before .before .before .before .before .before .before .before .before .before .loop .inv .2) _ (c .before .before .before .before .before .before .before .before .before .before .before .before .before .before .before .before .before .before .before .before .before .feed-of .ensures) _ _ (heard-by (c .before .before .before .before .before .before .before .before .before .before .before .before .before .before .before .before .before .before)) _ _ (served (c .before .before .before .before .before .before .before .before .before .before .before .before .before .before .before)) _ _ (c .before .before .before .before .before .before .before .before .before .before .before .before .before .write-on .ensures) _ _ _ _ W _ (c .before .before .forge .ensures) in
     (omega (arith, c .before .before .before .before .before .before .before .before .before .before .before .before .before .before .before .before .before .before .before .before .before .before .before .before .loop-test .taken), same-room (c .before .before .before .before .before .before .before) ∙ c .before .before .before .before .before .before .before .before .before .before .before .before .before .before .before .before .before .before .before .before .before .before .before .before .before .loop .inv .1, W .ends, player-laws.Whole.went-on _ _ _ _ _ _ _ _ _ _ _ (c .before .before .before .before .before .before .before .before .before .before .before .before .before .before .before .before .before .before .before .before .before .before .before .before .before .loop .inv .3) G)
 
-same-length : tie.Need-same-length Inv-loop2 μ-loop2 Inv-loop3 μ-loop3 Inv-loop μ-loop
-same-length c = c .before .before .loop .inv .1
-
-same-length-2 : tie.Need-same-length-2 Inv-loop2 μ-loop2 Inv-loop3 μ-loop3 Inv-loop μ-loop
-same-length-2 c = c .before .before .loop .inv .3 .kept .size
-
 returns : tie.Need-returns Inv-loop2 μ-loop2 Inv-loop3 μ-loop3 Inv-loop μ-loop
 returns c = (rw (c .before .before .before .of .ensures) at (c .before .before .loop .inv .3), omega (arith, c .before .before .loop .inv .0, c .before .loop-test .left))
 
@@ -236,6 +209,9 @@ pub run-spec : {M : Type 1} → player-laws.run.run.Statement.statement M
 run-spec =
     tie.close
     (tie.spec Inv-loop2 μ-loop2 Inv-loop3 μ-loop3 Inv-loop μ-loop (search needs) loop-holds feed-of-requires (search needs) loop2-holds cast-is-heard
-    is-heard-requires (search needs) (search needs) cast-hear hear-requires (search needs) (search needs) (search needs) (search needs) loop2-again loop3-holds
-    mul-s array-copy-out-s is-reached-requires turn-requires mul-servers array-set-from-servers cast-pass-over pass-over-requires add-b loop3-less loop3-again
-    write-on-requires is-due-requires go-on-requires cast-forge forge-requires add-t loop-less loop-again same-length same-length-2 returns)
+    is-heard-requires (search needs) (search needs) cast-hear hear-requires (search needs) (search needs) (search needs) (search needs) loop2-again
+    (λ c. (omega arith, serving-none _ _ _ (all-sized c .spans))) (λ c. omega (arith, few c)) (λ c. omega (arith, few c)) is-reached-requires turn-requires
+    (λ c. omega (arith, few (c .before .before .before .before .before .before .before .before)))
+    (λ c. omega (arith, few (c .before .before .before .before .before .before .before .before))) cast-pass-over pass-over-requires
+    (λ c. omega (arith, few (c .before .before .before .before))) (λ c. omega (arith, c .before .before .before .before .if2 .taken)) loop3-again write-on-requires is-due-requires
+    go-on-requires cast-forge forge-requires add-t loop-less loop-again (λ c. c .before .before .loop .inv .1) (λ c. c .before .before .loop .inv .3 .kept .size) returns)

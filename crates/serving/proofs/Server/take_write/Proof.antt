@@ -4,11 +4,5 @@ use borrow.Author.Needs.{needs}
 use Rattle.serving.proofs.Server.take_write.Statement.{statement}
 use Rattle.serving.proofs.Server.take_write.Tie as tie
 
-returns : tie.Need-returns
-returns c = rw (lt-ltb _ _ (c .before .if1 .taken)) (c .write .ensures)
-
-returns-2 : tie.Need-returns-2
-returns-2 c = rw (le-ltb _ _ (c .if1 .left))
-
 pub take-write-spec : {M : Type 1} → statement M
-take-write-spec = tie.close (tie.spec (search needs) returns returns-2)
+take-write-spec = tie.close (tie.spec (search needs) (λ c. rw (lt-ltb _ _ (c .before .if1 .taken)) (c .write .ensures)) (λ c. rw (le-ltb _ _ (c .if1 .left))))

@@ -5,14 +5,8 @@ use Rattle.serving.proofs.StageLaws.{votes-lost, votes-noted}
 use Rattle.serving.proofs.Server.vote.Statement.{statement}
 use Rattle.serving.proofs.Server.vote.Tie as tie
 
-returns : tie.Need-returns
-returns c = votes-lost _ _ (sym (c .before .is-faulty .ensures) ∙ c .if1 .taken)
-
-joined-requires : tie.Need-joined-requires
-joined-requires c κs = search needs
-
-returns-2 : tie.Need-returns-2
-returns-2 c = votes-noted _ _ _ _ _ refl _ (sym (c .before .before .before .is-faulty .ensures) ∙ c .before .before .if1 .left) (c .joined .ensures) refl
-
 pub vote-spec : {M : Type 1} → statement M
-vote-spec = tie.close (tie.spec (search needs) returns joined-requires returns-2)
+vote-spec =
+    tie.close
+    (tie.spec (search needs) (λ c. votes-lost _ _ (sym (c .before .is-faulty .ensures) ∙ c .if1 .taken)) (λ c κs. search needs)
+    (λ c. votes-noted _ _ _ _ _ refl _ (sym (c .before .before .before .is-faulty .ensures) ∙ c .before .before .if1 .left) (c .joined .ensures) refl))

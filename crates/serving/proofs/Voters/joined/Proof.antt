@@ -16,9 +16,6 @@ Inv-loop self work row most₀ j₀ most j = (j ≤ 64) × (row < rows) × (cale
 abbrev μ-loop : tie.MeasureT-loop
 μ-loop self work row most₀ j₀ most j = 64 - j
 
-loop-holds : tie.Need-loop-holds Inv-loop μ-loop
-loop-holds c = let s = c .before .before in (omega arith, s .pre .0, s .pre .1, most-length (s .args .self) (s .good .0), joining-none _ _ _)
-
 loop-again : tie.Need-loop-again Inv-loop μ-loop
 loop-again c =
     let l = c .before .before .loop in
@@ -36,5 +33,5 @@ returns c =
 pub joined-spec : {M : Type 1} → statement M
 joined-spec =
     tie.close
-    (tie.spec Inv-loop μ-loop loop-holds (search needs) (search needs) (search needs) (search needs) (search needs) (search needs) (search needs) loop-again
-    (search needs) returns)
+    (tie.spec Inv-loop μ-loop (λ c. let s = c .before .before in (omega arith, s .pre .0, s .pre .1, most-length (s .args .self) (s .good .0), joining-none _ _ _))
+    (search needs) (search needs) (search needs) (search needs) (search needs) (search needs) (search needs) loop-again (search needs) returns)

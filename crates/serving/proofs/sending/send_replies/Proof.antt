@@ -15,36 +15,6 @@ Inv-loop work₀ plan links n t i ends readers kept y₀ work y = (1 ≤ y) × (
 abbrev μ-loop : tie.MeasureT-loop
 μ-loop work₀ plan links n t i ends readers kept y₀ work y = 5 - y
 
-loop-holds : tie.Need-loop-holds Inv-loop μ-loop
-loop-holds c = let a = c .before .before .before .args in (omega arith, omega arith, replies-first _ (a .links) (a .n) (a .t) (a .t8) (a .i) _ _)
-
-add-if2 : tie.Need-add-if2 Inv-loop μ-loop
-add-if2 c = let s = c .before .before .before .before .before .before in omega (arith, s .pre .1 .servers)
-
-add-delay : tie.Need-add-delay Inv-loop μ-loop
-add-delay c = omega (arith, c .before .before .before .before .before .before .before .before .pre .1 .servers, c .before .before .before .loop-test .taken)
-
-delay-requires : tie.Need-delay-requires Inv-loop μ-loop
-delay-requires c κs = let s = c .before .before .before .before .before .before .before .before in (s .pre .1, omega (arith, s .pre .3, s .pre .1 .writer), c .if2 .taken)
-
-add-at : tie.Need-add-at Inv-loop μ-loop
-add-at c = omega (arith, c .before .before .before .before .before .before .before .before .before .pre .2, c .delay .ensures .1)
-
-sub-if3 : tie.Need-sub-if3 Inv-loop μ-loop
-sub-if3 c = c .before .before .before .before .before .loop .inv .0
-
-array-read-if3 : tie.Need-array-read-if3 Inv-loop μ-loop
-array-read-if3 c = omega (arith, c .before .before .before .before .before .loop .inv .0, c .before .before .before .before .loop-test .taken)
-
-cast-if3 : tie.Need-cast-if3 Inv-loop μ-loop
-cast-if3 c = search needs
-
-add-row : tie.Need-add-row Inv-loop μ-loop
-add-row c = omega (arith, c .before .before .before .before .before .before .loop-test .taken)
-
-row-requires : tie.Need-row-requires Inv-loop μ-loop
-row-requires c κs = omega (arith, c .before .before .before .before .before .before .loop-test .taken)
-
 post-kept-requires : tie.Need-post-kept-requires Inv-loop μ-loop
 post-kept-requires c κs = let s = c .before .before .before .before .before .before .before .before .before .before .before .before in
     (c .row .ensures .1, omega (arith, s .pre .3, s .pre .1 .servers), omega (arith, s .pre .0, c .before .before .before .before .before .before .before .before .loop .inv .2 .rest .size))
@@ -62,9 +32,6 @@ loop-again c = let a = c .before .before .before .before .before .before .args i
       ],
     )
 
-same-length : tie.Need-same-length Inv-loop μ-loop
-same-length c = c .before .loop .inv .2 .rest .size
-
 returns : tie.Need-returns Inv-loop μ-loop
 returns c = let a = c .before .before .before .before .before .args in
     let e : c .before .loop .y ≡ 5 = omega (arith, c .before .loop .inv .1, c .loop-test .left) in
@@ -73,5 +40,14 @@ returns c = let a = c .before .before .before .before .before .args in
 pub send-replies-spec : {M : Type 1} → statement M
 send-replies-spec =
     tie.close
-    (tie.spec Inv-loop μ-loop loop-holds (search needs) (search needs) add-if2 add-delay delay-requires add-at sub-if3 array-read-if3 cast-if3 add-row
-    row-requires post-kept-requires (search needs) (search needs) loop-again same-length returns)
+    (tie.spec Inv-loop μ-loop
+    (λ c. let a = c .before .before .before .args in (omega arith, omega arith, replies-first _ (a .links) (a .n) (a .t) (a .t8) (a .i) _ _)) (search needs)
+    (search needs) (λ c. let s = c .before .before .before .before .before .before in omega (arith, s .pre .1 .servers))
+    (λ c. omega (arith, c .before .before .before .before .before .before .before .before .pre .1 .servers, c .before .before .before .loop-test .taken))
+    (λ c κs. let s = c .before .before .before .before .before .before .before .before in (s .pre .1, omega (arith, s .pre .3, s .pre .1 .writer), c .if2 .taken))
+    (λ c. omega (arith, c .before .before .before .before .before .before .before .before .before .pre .2, c .delay .ensures .1))
+    (λ c. c .before .before .before .before .before .loop .inv .0)
+    (λ c. omega (arith, c .before .before .before .before .before .loop .inv .0, c .before .before .before .before .loop-test .taken)) (λ c. search needs)
+    (λ c. omega (arith, c .before .before .before .before .before .before .loop-test .taken))
+    (λ c κs. omega (arith, c .before .before .before .before .before .before .loop-test .taken)) post-kept-requires (search needs) (search needs) loop-again
+    (λ c. c .before .loop .inv .2 .rest .size) returns)

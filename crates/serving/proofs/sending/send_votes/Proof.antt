@@ -3,18 +3,12 @@ use mathlib.Core.Path.{sym, _∙_}
 use borrow.Author.Needs.{needs}
 use borrow.Author.Tests.{not-true}
 use native.Mathlib.Omega.{arith}
-use Rattle.calendar.proofs.Sendings.{sent-sendable}
-use Rattle.serving.proofs.SendLaws.{parties-few, link-small, link-inside, votes-plain, votes-echo, votes-nobody}
+use Rattle.serving.proofs.SendLaws.{link-small, link-inside, votes-plain, votes-echo, votes-nobody}
 use Rattle.serving.proofs.sending.send_votes.Statement.{statement}
 use Rattle.serving.proofs.sending.send_votes.Tie as tie
 
 returns : tie.Need-returns
 returns c = let a = c .before .before .before .before .args in votes-nobody _ (a .links) (a .n) (a .t) (a .ends) (a .i) (a .sent) _ (sym (not-true _ (c .if1 .taken)) ∙ c .before .is-voting .ensures)
-
-row-bit-requires : tie.Need-row-bit-requires
-row-bit-requires c κs = let s = c .before .before .before .before in
-    let L = s .pre .1 in
-    (L .start, parties-few _ (s .args .links) (s .args .n) (s .args .t) L, s .pre .2, omega (arith, s .pre .3, L .writer))
 
 of-requires : tie.Need-of-requires
 of-requires c κs = let s = c .before .before .before .before .before in
@@ -22,19 +16,6 @@ of-requires c κs = let s = c .before .before .before .before .before in
       L .servers,
       omega (arith, c .row-bit .ensures, link-inside _ (s .args .links) (s .args .n) (s .args .t) L (s .args .i) (omega (arith, s .pre .3, L .writer)), L .writer),
       omega (arith, c .row-bit .ensures, link-small _ (s .args .links) (s .args .n) (s .args .t) L (s .args .i) (omega (arith, s .pre .3, L .writer))),
-    )
-
-post-vote-requires : tie.Need-post-vote-requires
-post-vote-requires c κs = let s = c .before .before .before .before .before .before .before in
-    let S = c .before .of .ensures in
-    (sent-sendable _ _ (s .args .n) (s .args .t) (s .args .i) _ (s .pre .1 .servers) (omega (arith, s .pre .2)) S, omega (arith, S .sender, s .pre .3, s .pre .1 .servers), s .pre .0)
-
-post-votes-requires : tie.Need-post-votes-requires
-post-votes-requires c κs = let s = c .before .before .before .before .before .before .before .before .before .before .before .before .before in
-    let S = c .before .before .before .before .before .before .before .of .ensures in (
-      sent-sendable _ _ (s .args .n) (s .args .t) (s .args .i) _ (s .pre .1 .servers) (omega (arith, s .pre .2)) S,
-      omega (arith, S .sender, s .pre .3, s .pre .1 .servers),
-      omega (arith, s .pre .0, c .before .before .before .before .before .post-vote .ensures .rest .size),
     )
 
 returns-2 : tie.Need-returns-2
@@ -55,4 +36,5 @@ returns-3 c = let s = c .before .before .before .before .before .before .before 
 pub send-votes-spec : {M : Type 1} → statement M
 send-votes-spec =
     tie.close
-    (tie.spec (search needs) returns row-bit-requires of-requires post-vote-requires post-votes-requires (search needs) returns-2 (search needs) returns-3)
+    (tie.spec (search needs) returns (λ c κs. search needs) of-requires (λ c κs. search needs) (λ c κs. search needs) (search needs) returns-2 (search needs)
+    returns-3)

@@ -11,8 +11,8 @@ use Rattle.serving.proofs.sets.at.Tie as tie
 returns : tie.Need-returns
 returns c = let s = c .before .before in sym (List·getD-append (s .args .most .now) (s .args .last ∷ []) 0 (s .args .j) (omega (arith, s .pre .0, c .before .if1 .taken)))
 
-returns-2 : tie.Need-returns-2
-returns-2 c = let s = c .before in sym (getD-at (s .args .most .now) (s .args .last) [] 0 (s .args .j) (omega (arith, s .pre .0, s .pre .1, c .if1 .left)))
-
 pub at-spec : {M : Type 1} → statement M
-at-spec = tie.close (tie.spec (search needs) (search needs) returns returns-2)
+at-spec =
+    tie.close
+    (tie.spec (search needs) (search needs) returns
+    (λ c. let s = c .before in sym (getD-at (s .args .most .now) (s .args .last) [] 0 (s .args .j) (omega (arith, s .pre .0, s .pre .1, c .if1 .left)))))

@@ -7,8 +7,5 @@ use Rattle.serving.proofs.stages.is_voted.Statement.{statement}
 returns : tie.Need-returns
 returns c = let a = c .before .before .args in unvoted (a .rules .echo) (a .rules .reply) (a .fresh) (a .old) (c .before .before .pre .0) (c .before .before .pre .1) (c .before .if1 .taken) (c .if2 .taken)
 
-returns-2 : tie.Need-returns-2
-returns-2 c = search needs
-
 pub is-voted-spec : {M : Type 1} → statement M
-is-voted-spec = tie.close (tie.spec returns (search needs) returns-2)
+is-voted-spec = tie.close (tie.spec returns (search needs) (λ c. search needs))

@@ -4,8 +4,5 @@ use Rattle.serving.proofs.stages.quiet.Tie as tie
 use Rattle.serving.proofs.stages.quiet.Statement.{statement}
 use Rattle.serving.proofs.StageLaws.{zero-set}
 
-returns : tie.Need-returns
-returns c = rw (c .none .ensures, zero-set)
-
 pub quiet-spec : {M : Type 1} → statement M
-quiet-spec = tie.close (tie.spec (search needs) returns)
+quiet-spec = tie.close (tie.spec (search needs) (λ c. rw (c .none .ensures, zero-set)))

@@ -1,6 +1,6 @@
 -- `stages::take_in` meets its contract. The loop's invariant: the store has taken in the pairs before j that are in the span and have a quorum.
 use mathlib.Core.Path.{_≡_, refl, sym, _∙_}
-use mathlib.Core.Bool.{Bool, _&&_}
+use mathlib.Core.Bool.{Bool, true, false, _&&_}
 use mathlib.Core.Logic.{inl, inr}
 use Prim.Native.Nat.{ℕ, _≤_, _<_, _-_}
 use native.Mathlib.Omega.{arith}
@@ -10,7 +10,7 @@ use Rattle.serving.specs.Bits.{sets}
 use Rattle.serving.specs.Stored.{keys}
 use Rattle.serving.specs.Stages.{within, taken, voting}
 use Rattle.serving.proofs.Sizes.{most-length}
-use Rattle.serving.proofs.StageLaws.{taken-yes, taken-no, voting-at, in-span}
+use Rattle.serving.proofs.StageLaws.{taken-more, voting-at, in-span}
 use Rattle.serving.proofs.TakenLaws.{from-low, taken-below, taken-beyond}
 use Rattle.serving.proofs.stages.take_in.Statement.{statement}
 use Rattle.serving.proofs.stages.take_in.Tie as tie
@@ -71,8 +71,8 @@ loop-again c = let h = c .before .before .before .before .before .before .before
       h .5,
       h .6,
       elim (c .if1 .came) [
-        | inl w ↦ rw (w .2) (taken-yes C j (keys (a .kept)) (keys k) _ (h .7) (voted ∙ w .0 .taken) (w .1 .ensures))
-        | inr w ↦ rw (w .1) (taken-no C j (keys (a .kept)) (keys k) _ (h .7) (voted ∙ w .0 .left) refl)
+        | inl w ↦ rw (w .2) (taken-more C j (keys (a .kept)) (keys k) _ (h .7) true (voted ∙ w .0 .taken) (w .1 .ensures))
+        | inr w ↦ rw (w .1) (taken-more C j (keys (a .kept)) (keys k) _ (h .7) false (voted ∙ w .0 .left) refl)
       ],
     )
 

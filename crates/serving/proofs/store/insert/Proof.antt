@@ -16,17 +16,11 @@ Inv-loop p kept mine i₀ i = (i ≤ depth) × (length kept ≡ depth) × (mine 
 abbrev μ-loop : tie.MeasureT-loop
 μ-loop p kept mine i₀ i = depth - i
 
-loop-holds : tie.Need-loop-holds Inv-loop μ-loop
-loop-holds c = (omega arith, c .before .good .0 .1 .0 .1, c .place .ensures, λ j h. absurd (omega arith))
-
 returns : tie.Need-returns Inv-loop μ-loop
 returns c =
     let s = c .before .before .before .before .before .before in
     let l = c .before .before .before .before .loop in
     put-same (s .args .p) (s .pre) depth (s .args .t1) (l .inv .1) (l .i) (c .before .before .before .loop-test .taken) (l .inv .3) (rw (c .before .place2 .ensures, l .inv .2) at (c .if1 .taken))
-
-put-at-requires : tie.Need-put-at-requires Inv-loop μ-loop
-put-at-requires c κs = c .before .before .before .before .loop-test .taken
 
 returns-2 : tie.Need-returns-2 Inv-loop μ-loop
 returns-2 c =
@@ -51,5 +45,5 @@ returns-3 c =
 pub insert-spec : {M : Type 1} → statement M
 insert-spec =
     tie.close
-    (tie.spec Inv-loop μ-loop (search needs) loop-holds (search needs) (search needs) (search needs) returns put-at-requires returns-2 (search needs)
-    (search needs) loop-again returns-3)
+    (tie.spec Inv-loop μ-loop (search needs) (λ c. (omega arith, c .before .good .0 .1 .0 .1, c .place .ensures, λ j h. absurd (omega arith))) (search needs)
+    (search needs) (search needs) returns (λ c κs. c .before .before .before .before .loop-test .taken) returns-2 (search needs) (search needs) loop-again returns-3)

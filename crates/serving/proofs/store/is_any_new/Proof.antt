@@ -15,9 +15,6 @@ Inv-loop kept low high j₀ j = (low ≤ j) × (high ≤ places) × NoneNew (key
 abbrev μ-loop : tie.MeasureT-loop
 μ-loop kept low high j₀ j = high - j
 
-loop-holds : tie.Need-loop-holds Inv-loop μ-loop
-loop-holds c = (omega arith, c .pre, λ k h l. absurd (omega arith))
-
 returns : tie.Need-returns Inv-loop μ-loop
 returns c =
     let a = c .before .before .before .before .args in
@@ -37,4 +34,7 @@ returns-2 c =
     sym (none-new (keys (a .kept)) (a .low) (a .high) (λ k h q. l .inv .2 k h (omega (arith, c .loop-test .left))))
 
 pub is-any-new-spec : {M : Type 1} → statement M
-is-any-new-spec = tie.close (tie.spec Inv-loop μ-loop loop-holds (search needs) (search needs) returns (search needs) (search needs) loop-again returns-2)
+is-any-new-spec =
+    tie.close
+    (tie.spec Inv-loop μ-loop (λ c. (omega arith, c .pre, λ k h l. absurd (omega arith))) (search needs) (search needs) returns (search needs) (search needs)
+    loop-again returns-2)

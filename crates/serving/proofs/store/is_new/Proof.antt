@@ -17,11 +17,6 @@ Inv-loop kept mine i₀ i = (i ≤ depth) × (length kept ≡ depth) × ((j : �
 abbrev μ-loop : tie.MeasureT-loop
 μ-loop kept mine i₀ i = depth - i
 
--- src/store.rt:73:5
-loop-holds : tie.Need-loop-holds Inv-loop μ-loop
-loop-holds c = (omega arith, c .before .good .0 .1 .0 .1, λ j h. absurd (omega arith))
-
--- src/store.rt:76:13
 returns : tie.Need-returns Inv-loop μ-loop
 returns c =
     let s = c .before .before .before .before .before .before in
@@ -29,7 +24,6 @@ returns c =
     let l = c .before .before .before .before .loop in
     rw (m, c .before .place2 .ensures) (new-first (s .args .p) (s .pre) (s .args .t1) (l .inv .1) (l .i) (c .before .before .before .loop-test .taken) (rw m at (l .inv .2)) (rw (m, c .before .place2 .ensures) at (c .if1 .taken)))
 
--- src/store.rt:73:5
 loop-again : tie.Need-loop-again Inv-loop μ-loop
 loop-again c =
     let s = c .before .before .before .before .before .before in
@@ -38,7 +32,6 @@ loop-again c =
     let h : c .before .before .before .before .before .place .result < c .before .place2 .result = omega (arith, c .if1 .left) in
     (omega arith, l .inv .1, rw m (above-more (s .args .p) (l .i) (s .args .t1) (rw m at (l .inv .2)) (rw (m, c .before .place2 .ensures) at h)))
 
--- src/store.rt:67:1
 returns-2 : tie.Need-returns-2 Inv-loop μ-loop
 returns-2 c =
     let s = c .before .before .before in
@@ -49,4 +42,5 @@ returns-2 c =
 pub is-new-spec : {M : Type 1} → statement M
 is-new-spec =
     tie.close
-    (tie.spec Inv-loop μ-loop (search needs) loop-holds (search needs) (search needs) (search needs) returns (search needs) (search needs) loop-again returns-2)
+    (tie.spec Inv-loop μ-loop (search needs) (λ c. (omega arith, c .before .good .0 .1 .0 .1, λ j h. absurd (omega arith))) (search needs) (search needs)
+    (search needs) returns (search needs) (search needs) loop-again returns-2)

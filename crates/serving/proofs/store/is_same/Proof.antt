@@ -15,9 +15,6 @@ Inv-loop a b i₀ i = (i ≤ depth) × (length a ≡ depth) × (length b ≡ dep
 abbrev μ-loop : tie.MeasureT-loop
 μ-loop a b i₀ i = depth - i
 
-loop-holds : tie.Need-loop-holds Inv-loop μ-loop
-loop-holds c = (omega arith, c .good .0 .1 .0 .1, c .good .1 .0 .1 .0 .1, refl)
-
 returns : tie.Need-returns Inv-loop μ-loop
 returns c =
     let s = c .before .before .before .before .before .before .before .args in
@@ -53,5 +50,5 @@ returns-3 c =
 pub is-same-spec : {M : Type 1} → statement M
 is-same-spec =
     tie.close
-    (tie.spec Inv-loop μ-loop loop-holds (search needs) (search needs) (search needs) (search needs) (search needs) (search needs) returns returns-2
-    (search needs) (search needs) loop-again returns-3)
+    (tie.spec Inv-loop μ-loop (λ c. (omega arith, c .good .0 .1 .0 .1, c .good .1 .0 .1 .0 .1, refl)) (search needs) (search needs) (search needs) (search needs)
+    (search needs) (search needs) returns returns-2 (search needs) (search needs) loop-again returns-3)

@@ -4,9 +4,6 @@ use Rattle.serving.specs.Stored.{keys}
 use Rattle.serving.proofs.store.none.Statement.{statement}
 use Rattle.serving.proofs.store.none.Tie as tie
 
-returns : tie.Need-returns
-unfolding keys
-returns c = refl
-
 pub none-spec : {M : Type 1} → statement M
-none-spec = tie.close (tie.spec returns)
+unfolding keys
+none-spec = tie.close (tie.spec (λ c. refl))

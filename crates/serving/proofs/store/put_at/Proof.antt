@@ -16,19 +16,15 @@ Inv-loop at more₀ carried₀ i₀ more carried i = (i ≤ depth) × (length mo
 abbrev μ-loop : tie.MeasureT-loop
 μ-loop at more₀ carried₀ i₀ more carried i = depth - i
 
-loop-holds : tie.Need-loop-holds Inv-loop μ-loop
-loop-holds c = (omega (arith, c .pre), c .good .0 .1 .0 .1, refl)
-
 loop-again : tie.Need-loop-again Inv-loop μ-loop
 loop-again c =
     let l = c .before .before .loop in
     let h = c .before .loop-test .taken in
     (omega (arith, h), length-set (l .more) (l .i) (l .carried) ∙ l .inv .1, carried-on (l .i) (l .carried) (l .more) (omega (arith, h, l .inv .1)) ∙ l .inv .2)
 
-returns : tie.Need-returns Inv-loop μ-loop
-returns c = let l = c .before .loop in let e : l .i ≡ depth = omega arith in dropped depth (l .carried) (l .more) (l .inv .1) ∙ rw (rw e at (l .inv .2))
-
 pub put-at-spec : {M : Type 1} → statement M
 put-at-spec =
     tie.close
-    (tie.spec Inv-loop μ-loop loop-holds (search needs) (search needs) (search needs) (search needs) (search needs) (search needs) loop-again returns)
+    (tie.spec Inv-loop μ-loop (λ c. (omega (arith, c .pre), c .good .0 .1 .0 .1, refl)) (search needs) (search needs) (search needs) (search needs) (search needs)
+    (search needs) loop-again
+    (λ c. let l = c .before .loop in let e : l .i ≡ depth = omega arith in dropped depth (l .carried) (l .more) (l .inv .1) ∙ rw (rw e at (l .inv .2))))
