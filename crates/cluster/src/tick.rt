@@ -16,14 +16,9 @@ use super::Cluster;
 use super::Feed;
 use super::REQUESTERS;
 use super::Reader;
-use calendar::NO_PAIR;
 use calendar::READERS;
 use calendar::SERVERS;
-use calendar::Stamped;
 use serving::Server;
-use serving::Status;
-use serving::Voters;
-use serving::sending;
 use serving::servers;
 use serving::stages;
 use serving::store;
@@ -77,7 +72,7 @@ fn wrote_at(requests: [u16; REQUESTERS], number: u8, b: usize) -> u8
     if has(requests[0], b) {
         return number;
     }
-    NO_PAIR
+    calendar::NO_PAIR
 }
 
 // The readers whose READ reaches server b.
@@ -105,7 +100,7 @@ fn is_called(
     moving: bool,
     t: u8,
     delta: u8,
-    status: Status,
+    status: serving::Status,
     pending: u8,
 ) -> bool
     requires { ⌜ b < mostServers ⌝ }
@@ -209,7 +204,7 @@ pub fn turn(
         sent.echoed = servers::is_correct(now);
     }
     calendar::clear(work, at);
-    sending::send(work, plan, feed.links, rules.n, t as usize, b, sent, ends);
+    serving::sending::send(work, plan, feed.links, rules.n, t as usize, b, sent, ends);
     x
 }
 
@@ -229,13 +224,13 @@ pub fn ends_of(readers: [Reader; READERS]) -> [u8; READERS]
 pub fn start() -> Cluster
     ensures { λ r. ⌜ Started r ⌝ }
 {
-    let first = Stamped {
+    let first = calendar::Stamped {
         kept: true,
         number: 0,
     };
     let kept = store::insert(store::none(), first);
-    let nobody = Voters::none();
-    let correct = Status::Correct;
+    let nobody = serving::Voters::none();
+    let correct = serving::Status::Correct;
     let s = Server {
         status: correct,
         kept,

@@ -19,7 +19,7 @@ use Rattle.register.proofs as register-laws
 use Rattle.register.proofs.Trace.{before, delivered, mid, end, before-zero, before-suc, sent-row, row-kept}
 use Rattle.register.proofs.Counting.{any-cong, none-up}
 use Rattle.states.specs.Way.{forgedAs, replyFrom, replyWay, heardWay}
-use Rattle.states.proofs.WayLaws.{never, none-any, any-or, or-turn, before-next}
+use Rattle.states.proofs.WayLaws.{refuted, none-any, any-or, or-turn, before-next}
 
 -- ---- what is sent in a tick
 
@@ -47,7 +47,7 @@ module _ (P : Plan) (G : register-laws.Good.Good P) where
 
   past-none : (t : ℕ) (r : Read) (l : List Read) → Past t l → t ≤ r .begun → any (sameRead r) l ≡ false
   unfolding sameRead
-  past-none t r l p h = never (any (sameRead r) l) (λ y.
+  past-none t r l p h = refuted (any (sameRead r) l) (λ y.
       let (q, i, e) = register-laws.Lists.any-in (sameRead r) l y in
       omega (arith, p q i, eqb→eq (r .begun) (q .begun) (and-l (eqb (r .begun) (q .begun)) _ e)))
 
@@ -138,7 +138,7 @@ module _ (P : Plan) (G : register-laws.Good.Good P) where
 
   forged-later : (t : ℕ) (r : Read) (s p i : ℕ) → s ≤ t → forgedNow P t r s p i ≡ false
   forged-later t r s p i h = none-any (λ x. eqb (x .at) t && forgedAs P s (P .n + r .reader) p i x) (P .forged) (λ x.
-      never (eqb (x .at) t && forgedAs P s (P .n + r .reader) p i x) (λ y.
+      refuted (eqb (x .at) t && forgedAs P s (P .n + r .reader) p i x) (λ y.
       let a = and-l (eqb (x .at) t) (forgedAs P s (P .n + r .reader) p i x) y in
       let f = and-r (eqb (x .at) t) (forgedAs P s (P .n + r .reader) p i x) y in
       omega (arith, eqb→eq (x .at) t a, arrives s (P .n + r .reader) p i x f, G .delay-lo (x .at) (x .from) (x .to))))
@@ -207,7 +207,7 @@ module _ (P : Plan) (G : register-laws.Good.Good P) where
       (and-false (leb s (readEnd P r)))
     where
       late : (x : Forgery) → leb (r .begun) (x .at) && (ltb (x .at) t && forgedAs P s (P .n + r .reader) p i x) ≡ false
-      late x = rw (never (ltb (x .at) t && forgedAs P s (P .n + r .reader) p i x) (λ y.
+      late x = rw (refuted (ltb (x .at) t && forgedAs P s (P .n + r .reader) p i x) (λ y.
           let a = and-l (ltb (x .at) t) (forgedAs P s (P .n + r .reader) p i x) y in
           let f = and-r (ltb (x .at) t) (forgedAs P s (P .n + r .reader) p i x) y in
           omega (arith, ltb→lt (x .at) t a, arrives s (P .n + r .reader) p i x f, G .delay-hi (x .at) (x .from) (x .to))))

@@ -19,7 +19,7 @@ use Rattle.calendar.specs.View.{SamePast}
 use Rattle.requests.specs.Requests.{reachedBy, Unasked}
 use Rattle.requests.proofs.Requesting.{past-requests}
 use Rattle.states.specs.Requests.{writeReaches, readReaches, writeWay, readWay, Requested, writeBegins, readBegins}
-use Rattle.states.proofs.WayLaws.{never, none-any, any-or, before-next, slot-past}
+use Rattle.states.proofs.WayLaws.{refuted, none-any, any-or, before-next, slot-past}
 
 -- ---- operations of any kind, in one tick
 
@@ -36,7 +36,7 @@ module _ {A : Type 0} (l : List A) (begun : A → ℕ) (hit : A → Bool) where
       (elim (ℕ-discrete s (t + 16)) [
         | yes e ↦ rw (
           eq-eqb (s % 16) (t % 16) (omega arith),
-          none-any (λ x. ltb (begun x) t && hit x) l (λ x. never (ltb (begun x) t && hit x)
+          none-any (λ x. ltb (begun x) t && hit x) l (λ x. refuted (ltb (begun x) t && hit x)
               (λ y. omega (arith, slow x (ltb→lt (begun x) t (and-l (ltb (begun x) t) (hit x) y)) (and-r (ltb (begun x) t) (hit x) y)))),
         )
         | no d ↦ rw (slot-past t s lo (omega arith), same (omega arith))

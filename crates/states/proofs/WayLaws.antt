@@ -8,7 +8,7 @@ use native.Mathlib.Numerals.{add-one}
 use native.Mathlib.Omega.{arith}
 use native.Mathlib.Decide.{decLe, ℕ-discrete}
 use lib.Dec.{T, eqb, ltb, eqb→eq, eqb-refl, not-T}
-use borrow.Author.Tests.{lt-ltb, le-ltb, eq-eqb, ne-eqb}
+use borrow.Author.Tests.{lt-ltb, le-ltb, eq-eqb, ne-eqb, ltb-true}
 use Rattle.register.specs.Lists.{any, anyUpTo, filter, flat, member}
 use Rattle.register.specs.Plan.{Plan, Forgery}
 use Rattle.register.specs.Server.{Claim, claimOf, has}
@@ -24,10 +24,10 @@ use Rattle.states.specs.Way.{forgedAs, voteFrom, voteWay}
 
 -- two tests of i below n are the same if they are for such an i
 pub below : (i n : ℕ) (a b : Bool) → (i < n → a ≡ b) → ltb i n && a ≡ ltb i n && b
-below i n a b e = elim (decLe n i) [ yes l ↦ rw (le-ltb i n l) | no l ↦ rw (e (omega arith)) ]
+below i n a b e = calendar-laws.Laws.under (ltb i n) a b (λ h. e (ltb-true i n h))
 
-pub never : (b : Bool) → (T b → ⊥) → b ≡ false
-never b f = F-eq b (not-T b f)
+pub refuted : (b : Bool) → (T b → ⊥) → b ≡ false
+refuted b f = F-eq b (not-T b f)
 
 or-left : (a b c : Bool) → a || (b || c) ≡ b || (a || c)
 or-left a b c = sym (or-assoc a b c) ∙ rw (or-comm a b) (or-assoc b a c)
