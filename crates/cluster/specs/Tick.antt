@@ -10,15 +10,8 @@ use Rattle.register.specs.Server.{correct, isFaulty}
 use Rattle.calendar.specs.Bits.{bit}
 use Rattle.calendar.specs.Layout.{mostServers, mostReaders, slots, receivers, rows, places, rowOf, sender}
 use Rattle.calendar.specs.View.{SamePast, Spanned}
-use Rattle.serving.specs.declared.Server.{Server}
-use Rattle.cluster.specs.declared.Reader.{Reader}
-use Rattle.cluster.specs.declared.Cluster.{Cluster}
-use Rattle.serving.specs.declared.Rules.{Rules}
-use Rattle.cluster.specs.declared.Known.{Known}
-use Rattle.serving.specs.declared.Links.{Links}
-use Rattle.cluster.specs.declared.Arrivals.{Arrivals}
-use Rattle.cluster.specs.declared.Movement.{Movement}
-use Rattle.cluster.specs.declared.Feed.{Feed}
+use Rattle.serving.specs.declared.{Server.Server, Rules.Rules, Links.Links}
+use Rattle.cluster.specs.declared.{Reader.Reader, Cluster.Cluster, Known.Known, Arrivals.Arrivals, Movement.Movement, Feed.Feed}
 use Rattle.serving.specs.Bits.{sets}
 use Rattle.serving.specs.Stored.{Plain, Both, Step, server, both, absent}
 use Rattle.serving.specs.Stages.{nobody, noVotes, isNew, stagesOf}

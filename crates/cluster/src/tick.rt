@@ -19,9 +19,6 @@ use super::Reader;
 use calendar::READERS;
 use calendar::SERVERS;
 use serving::Server;
-use serving::servers;
-use serving::stages;
-use serving::store;
 
 // Is b in the set.
 fn has(set: u16, b: usize) -> bool
@@ -115,7 +112,7 @@ fn is_called(
     if pending & live != pending {
         return true;
     }
-    servers::is_cured_at(status, t, delta)
+    serving::servers::is_cured_at(status, t, delta)
 }
 
 // Is server b called, or does a vote reach it for a pair that is new to its store: other votes never come to anything, and a faulty server loses all.
@@ -138,12 +135,12 @@ pub fn is_reached(s: Server, work: &[u8], b: usize, feed: Feed, due: u16) -> boo
     ) {
         return true;
     }
-    if servers::is_faulty(status) {
+    if serving::servers::is_faulty(status) {
         return false;
     }
     let row = calendar::row(t as usize, b);
     let kept = s.kept;
-    store::is_any_new(kept, calendar::low(work, row), calendar::high(work, row))
+    serving::store::is_any_new(kept, calendar::low(work, row), calendar::high(work, row))
 }
 
 // What arrives at server b is taken, to no effect.
@@ -179,21 +176,21 @@ pub fn turn(
     // 1. Deliveries.
     let mut x = s.vote(work, at);
     let status = x.status;
-    let mut sent = stages::quiet();
-    if !servers::is_faulty(status) {
+    let mut sent = serving::stages::quiet();
+    if !serving::servers::is_faulty(status) {
         let requests = arrivals.requests;
         let wrote = wrote_at(requests, arrivals.number, b);
         let asks = asks_at(requests, b);
         let live = arrivals.live;
         let m = feed.known.m;
-        let delivery = stages::deliver(x, wrote, asks, live, low, high, m, rules);
+        let delivery = serving::stages::deliver(x, wrote, asks, live, low, high, m, rules);
         sent = delivery.sent;
         let kept = sent.kept;
         x.kept = kept;
         x.pending = delivery.pending;
     }
     // 2. Cures end.
-    if servers::is_cured_at(status, t, rules.delta) {
+    if serving::servers::is_cured_at(status, t, rules.delta) {
         x = x.cure_end(t, rules.delta);
         sent.readers = x.pending;
     }
@@ -201,7 +198,7 @@ pub fn turn(
     if movement.moving {
         x = x.moved(rules.two, has(movement.faulty, SERVERS - 1 - b), t);
         let now = x.status;
-        sent.echoed = servers::is_correct(now);
+        sent.echoed = serving::servers::is_correct(now);
     }
     calendar::clear(work, at);
     serving::sending::send(work, plan, feed.links, rules.n, t as usize, b, sent, ends);
@@ -228,7 +225,7 @@ pub fn start() -> Cluster
         kept: true,
         number: 0,
     };
-    let kept = store::insert(store::none(), first);
+    let kept = serving::store::insert(serving::store::none(), first);
     let nobody = serving::Voters::none();
     let correct = serving::Status::Correct;
     let s = Server {

@@ -17,9 +17,8 @@ use Rattle.bits.proofs.Laws.{field-byte, bytes-more, field-cut, field-first, fi
 use Rattle.bits.specs.Field.{fieldOf}
 use Rattle.register.specs.Lists.{one-if, allUpTo}
 use Rattle.register.proofs.Counting.{one-if-le}
-use Rattle.plan.specs.Header.{Header, parties}
+use Rattle.plan.specs.{Header.Header, Header.parties, Parts.isLink}
 use Rattle.plan.proofs.Laws.{all-same}
-use Rattle.plan.specs.Parts.{isLink}
 use Rattle.delays.specs.Steps.{allowed, linkStands, rowStands, tickStands, linkBit, needOf, Needed, bitStands, orderStands, firstStand}
 
 -- a delay by its link's bit

@@ -4,8 +4,7 @@ use mathlib.Core.Path.{_≡_, refl, sym, ap, _∙_}
 use mathlib.Core.Bool.{Bool, true, false, cond}
 use mathlib.Core.List.{List, [], _∷_, _++_, append-assoc, append-nil}
 use Prim.Native.Nat.{ℕ, zero, suc, _*_, _/_, _≤_, _<_}
-use native.Mathlib.Nat.{le-refl}
-use native.Mathlib.Omega.{arith}
+use native.Mathlib.{Nat.le-refl, Omega.arith}
 use lib.Dec.{ltb}
 use lib.ListN.{length, take}
 use lib.Seq.{take-suc, take-all}
@@ -20,8 +19,7 @@ use Rattle.simulator.specs.Judge.{readOf}
 use Rattle.simulator.proofs as simulator-laws
 use Rattle.fields.specs.Fields.{answerFields, answerField}
 use Rattle.lines.specs.declared.Answer.{Answer as Fields}
-use Rattle.lines.specs.Text.{lineOf, linesFor}
-use Rattle.lines.specs.Lines.{answerIn, lineFor, linesIn}
+use Rattle.lines.specs.{Text.lineOf, Text.linesFor, Lines.answerIn, Lines.lineFor, Lines.linesIn}
 
 -- what the fields of a read's answer have to be
 abbrev fieldsOf : register-specs.Plan.Read → register-specs.Reading.Answer → Fields

@@ -3,11 +3,8 @@
 use mathlib.Core.Path.{_≡_, refl, ap, _∙_}
 use mathlib.Core.Bool.{Bool, true, false, not, _&&_, _||_, cond, or-true}
 use Prim.Native.Nat.{ℕ, _+_, _*_, _-_, _/_, _%_, _≤_, _<_}
-use native.Mathlib.Nat.{add-zero, div-one, mul-one}
-use native.Mathlib.Omega.{arith}
-use lib.Arith.{digits-div, digits-mod}
-use lib.Dec.{leb, ltb, eqb}
-use lib.ListN.{length}
+use native.Mathlib.{Nat.add-zero, Nat.div-one, Nat.mul-one, Omega.arith}
+use lib.{Arith.digits-div, Arith.digits-mod, Dec.leb, Dec.ltb, Dec.eqb, ListN.length}
 use borrow.Author.Tests.{lt-ltb, eqb-true, ne-eqb}
 use Rattle.bits.specs.Field.{fieldOf}
 use Rattle.bits.proofs.Laws.{field-zero, field-split}

@@ -11,8 +11,7 @@ use native.Mathlib.Decide.{decLe}
 use lib.Dec.{T, ltb, leb→le, ltb→lt, T-not}
 use lib.ListN.{length, getD}
 use Rattle.bits.proofs.Laws.{field-lt}
-use Rattle.register.specs.Lists.{In, count, allUpTo}
-use Rattle.register.specs.Plan.{Write}
+use Rattle.register.specs.{Lists.In, Lists.count, Lists.allUpTo, Plan.Write}
 use Rattle.register.proofs.Logic.{and-l, and-r, test, cond-e, T-eq}
 use Rattle.register.proofs as register-laws
 use Rattle.plan.specs.Header.{Header, headerOf, moves, parties}

@@ -4,14 +4,11 @@ use mathlib.Core.List.{List}
 use Prim.Native.Nat.{ℕ, _*_, _-_, _≤_}
 use lib.ListN.{length, getD}
 use Rattle.register.specs.Reading.{answerOf}
-use Rattle.plan.specs.Packed.{planOf}
-use Rattle.plan.specs.Playable.{Playable}
-use Rattle.calendar.specs.Layout.{mostServers}
-use Rattle.calendar.specs.View.{Empty}
+use Rattle.plan.specs.{Packed.planOf, Playable.Playable}
+use Rattle.calendar.specs.{Layout.mostServers, View.Empty}
 use Rattle.requests.specs.Requests.{SameBehind, Unasked}
 use Rattle.cluster.specs.declared.Feed.{Feed}
-use Rattle.cluster.specs.Inputs.{pairAt}
-use Rattle.cluster.specs.Tick.{Started}
+use Rattle.cluster.specs.{Inputs.pairAt, Tick.Started}
 use Rattle.states.specs.State.{State}
 use Rattle.states.specs.Requests.{Requested}
 use Rattle.script.specs.declared.Script.{Script}

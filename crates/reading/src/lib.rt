@@ -16,11 +16,9 @@ ghost use Rattle.reading.specs.Reading.{Until, There, chosenBytes, place
 use calendar::READERS;
 use cluster::Known;
 use cluster::Reader;
-use cluster::tick;
 use plan::header::Shape;
 use script::Script;
 use script::operations::TABLE_READS;
-use serving::Voters;
 
 // The readers, the ticks in which their last reads end, and how many reads have begun and been answered.
 pub struct Reading {
@@ -41,7 +39,7 @@ pub fn size_of(x: u8) -> usize
 pub fn of(readers: [Reader; READERS], begun: usize, answered: usize) -> Reading
     ensures { λ r. ⌜ r ≡ record { readers = readers; ends = endsOf readers; begun = begun; answered = answered } ⌝ }
 {
-    let ends = tick::ends_of(readers);
+    let ends = cluster::tick::ends_of(readers);
     Reading {
         readers,
         ends,
@@ -66,7 +64,7 @@ pub fn first_from(begun: &[u8; TABLE_READS], m: usize, k: usize, u: usize) -> us
 }
 
 // Writes the answer of a read at the start of its part of the answer buffer: its reader chooses of what it has noted.
-fn answer(out: &mut [u8], names: Voters, known: Known, reply: u32, begun: u8, reader: u8)
+fn answer(out: &mut [u8], names: serving::Voters, known: Known, reply: u32, begun: u8, reader: u8)
     requires { ⌜ (answerSize 16 ≤ length (now out)) × (known .m ≤ places) × Narrow known ⌝ }
     ensures { λ _. ⌜ now (out .exit) ≡ answerBytes 16 (record { begun = begun; reader = reader }) (answerBy (pairAt known) (highestOf (sets names) reply (known .m))) ++ drop (answerSize 16) (now (out .entry)) ⌝ }
 {
@@ -130,7 +128,7 @@ pub fn begin_all(
     requires { ⌜ There (now by) from to ⌝ }
     ensures { λ r. ⌜ r ≡ begunBy (now (by .entry)) end from (to - from) readers ⌝ }
 {
-    let named = Voters::none();
+    let named = serving::Voters::none();
     let fresh = Reader { end, named };
     let mut rs = readers;
     let mut i = from;
@@ -214,7 +212,7 @@ pub fn go_on(
         from,
         began,
     );
-    let ends = tick::ends_of(after);
+    let ends = cluster::tick::ends_of(after);
     Reading {
         readers: after,
         ends,

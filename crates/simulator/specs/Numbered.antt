@@ -8,12 +8,10 @@ use Rattle.plan.specs.Check.{Outcome, refused, result}
 use Rattle.plan.specs.Numbered.{refusalNumber}
 use lib.ListN.{getD}
 use Rattle.calendar.specs.declared.Stamped.{Stamped as Kept}
-use Rattle.simulator.specs.declared.look.Place.{Place}
+use Rattle.simulator.specs.declared.look.{Place.Place, Seen.Seen, Looked.Looked}
 use Rattle.simulator.specs.declared.play.Played.{Played}
 use Rattle.simulator.specs.declared.play.Played.the-variants as P
-use Rattle.simulator.specs.declared.look.Seen.{Seen}
 use Rattle.simulator.specs.declared.look.Seen.the-variants as S
-use Rattle.simulator.specs.declared.look.Looked.{Looked}
 use Rattle.simulator.specs.declared.judge.Judged.{Judged}
 use Rattle.simulator.specs.declared.judge.Judged.the-variants as J
 use Rattle.simulator.specs.declared.rehearse.Rehearsed.{Rehearsed}

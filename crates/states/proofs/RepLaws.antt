@@ -75,9 +75,9 @@ module _ (P : Plan) (G : register-laws.Good.Good P) (g : ℕ → ℕ) (m : ℕ) 
     unlisted : (r : Read) → In r (P .reads) → t ≤ r .begun → Unread r (x .pending ++ rs)
     unlisted r i a = any-append (sameRead r) (x .pending) rs ∙ rw (R .unheard r i (omega arith)) (I .later r i a)
 
-    held : isFaulty (s .status) ≡ true → states-laws.Told.Mid P g m t (record { server = x; sent = nothing }) (record { server = s; said = silent })
+    lost : isFaulty (s .status) ≡ true → states-laws.Told.Mid P g m t (record { server = x; sent = nothing }) (record { server = s; said = silent })
     unfolding any
-    held h =
+    lost h =
         let z = R .empty (rw (R .status, h) tt) in
         record {
           server = record {
@@ -176,7 +176,7 @@ module _ (P : Plan) (G : register-laws.Good.Good P) (g : ℕ → ℕ) (m : ℕ) 
 
       pub one-rep : states-laws.Told.Mid P g m t (stage1 P x ws vs rs) (stageOne m (echoQuorum P) (replyQuorum P) w votes asks live s)
       unfolding stage1 stageOne
-      one-rep = rw (ap isFaulty (R .status)) (states-laws.Told.both-cond (states-laws.Told.Mid P g m t) (isFaulty (s .status)) _ _ _ _ held taken-in)
+      one-rep = rw (ap isFaulty (R .status)) (states-laws.Told.both-cond (states-laws.Told.Mid P g m t) (isFaulty (s .status)) _ _ _ _ lost taken-in)
 
   -- ---- stage 2
 

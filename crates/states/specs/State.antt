@@ -14,8 +14,7 @@ use Rattle.register.specs.Cluster.{Log, serverOf, cluster}
 use Rattle.register.specs.Reading.{sameRead}
 use Rattle.calendar.specs.Layout.{mostReaders, slots, readersAt, places, depth, rowOf, sender}
 use Rattle.calendar.specs.View.{Spanned}
-use Rattle.cluster.specs.declared.Cluster.{Cluster}
-use Rattle.cluster.specs.declared.Reader.{Reader}
+use Rattle.cluster.specs.declared.{Cluster.Cluster, Reader.Reader}
 use Rattle.serving.specs.Bits.{sets}
 use Rattle.serving.specs.Stored.{Plain, server, absent}
 use Rattle.serving.specs.Stages.{nobody, isNew}
