@@ -5,7 +5,7 @@ ghost use Prim.Native.Nat.{_≤_};
 ghost use lib.Dec.{leb};
 ghost use Rattle.register.specs.Lists.{count};
 ghost use Rattle.calendar.specs.Bits.{bit};
-ghost use Rattle.calendar.specs.Layout.{places};
+ghost use Rattle.calendar.specs.Layout.{mostServers, places};
 ghost use Rattle.serving.specs.Bits.{sets};
 ghost use Rattle.answers.specs.Choosing.{highestOf};
 use super::Choice;
@@ -14,7 +14,7 @@ use serving::sets;
 
 // Pair j, if this set of at least `reply` servers named it.
 fn better(best: Choice, j: u8, set: u16, reply: u32) -> Choice
-    ensures { λ r. ⌜ r ≡ cond (leb reply (count (λ i. bit i set) 16)) (record { found = true; number = j; count = count (λ i. bit i set) 16 }) best ⌝ }
+    ensures { λ r. ⌜ r ≡ cond (leb reply (count (λ i. bit i set) mostServers)) (record { found = true; number = j; count = count (λ i. bit i set) mostServers }) best ⌝ }
 {
     let count = u16::count_ones(set);
     if reply <= count {

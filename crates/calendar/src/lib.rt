@@ -4,7 +4,7 @@ ghost use Prim.Native.Nat.{_+_, _*_, _^_, _≤_, _<_};
 ghost use lib.Dec.{eqb};
 ghost use lib.ListN.{length};
 ghost use Rattle.bits.specs.Field.{fieldOf};
-ghost use Rattle.calendar.specs.Layout.{receivers, rows, places, calendarSize, rowOf, cellWord, lowOf, highOf, sendersOf};
+ghost use Rattle.calendar.specs.Layout.{mostServers, receivers, rows, places, calendarSize, rowOf, cellWord, lowOf, highOf, sendersOf};
 ghost use Rattle.calendar.specs.View.{Posted, Cleared, Empty, SamePast};
 ghost use Rattle.calendar.specs.Posts.{inRow, among, toOthers, Sendable, Sent, arrivalOf, widened};
 
@@ -59,7 +59,7 @@ pub struct Sending {
 
 // The n nibbles from bit `at` on as one number.
 fn nibbles(plan: &[u8], at: usize, n: usize) -> u64
-    requires { ⌜ (n ≤ 16) × (at + 4 * n ≤ 8 * length (now plan)) × (at < 2 ^ 59) ⌝ }
+    requires { ⌜ (n ≤ mostServers) × (at + 4 * n ≤ 8 * length (now plan)) × (at < 2 ^ 59) ⌝ }
     ensures { λ r. ⌜ r ≡ fieldOf (now (plan .entry)) at (4 * n) ⌝ }
 {
     if n <= 14 {
@@ -74,7 +74,7 @@ fn nibbles(plan: &[u8], at: usize, n: usize) -> u64
 impl Sending {
     // What a party sends in a tick: its delays to the n servers stand in the plan from bit `at` on.
     pub fn of(plan: &[u8], at: usize, n: usize, tick: usize, sender: usize) -> Sending
-        requires { ⌜ (n ≤ 16) × (at + 4 * n ≤ 8 * length (now plan)) × (at < 2 ^ 59) ⌝ }
+        requires { ⌜ (n ≤ mostServers) × (at + 4 * n ≤ 8 * length (now plan)) × (at < 2 ^ 59) ⌝ }
         ensures { λ s. ⌜ Sent (now (plan .entry)) at n tick sender s ⌝ }
     {
         let delays = nibbles(plan, at, n);
@@ -174,7 +174,7 @@ fn widen(work: &mut [u8], row: usize, j: u8)
 
 // Server i's message with pair j is under way, if the pair is a known one.
 pub fn post(work: &mut [u8], row: usize, j: u8, i: usize)
-    requires { ⌜ (row < rows) × (i < 16) × (calendarSize ≤ length (now work)) ⌝ }
+    requires { ⌜ (row < rows) × (i < mostServers) × (calendarSize ≤ length (now work)) ⌝ }
     ensures { λ _. ⌜ Posted (now (work .entry)) (now (work .exit)) (inRow row i (λ y. eqb y j)) ⌝ }
 {
     if PLACES <= j as usize {
@@ -186,7 +186,7 @@ pub fn post(work: &mut [u8], row: usize, j: u8, i: usize)
 
 // Server i's messages with the pairs that it keeps are under way.
 pub fn post_kept(work: &mut [u8], row: usize, kept: [Stamped; DEPTH], i: usize)
-    requires { ⌜ (row < rows) × (i < 16) × (calendarSize ≤ length (now work)) ⌝ }
+    requires { ⌜ (row < rows) × (i < mostServers) × (calendarSize ≤ length (now work)) ⌝ }
     ensures { λ _. ⌜ Posted (now (work .entry)) (now (work .exit)) (inRow row i (among kept)) ⌝ }
 {
     let mut q: usize = 0;
@@ -202,7 +202,7 @@ pub fn post_kept(work: &mut [u8], row: usize, kept: [Stamped; DEPTH], i: usize)
 
 // A server's vote for pair j is under way to all others.
 pub fn post_vote(work: &mut [u8], sending: Sending, j: u8)
-    requires { ⌜ Sendable sending × (sending .sender < 16) × (calendarSize ≤ length (now work)) ⌝ }
+    requires { ⌜ Sendable sending × (sending .sender < mostServers) × (calendarSize ≤ length (now work)) ⌝ }
     ensures { λ _. ⌜ Posted (now (work .entry)) (now (work .exit)) (toOthers sending (λ y. eqb y j)) ⌝ }
 {
     let n = sending.n;
@@ -218,7 +218,7 @@ pub fn post_vote(work: &mut [u8], sending: Sending, j: u8)
 
 // A server's votes for the pairs that it keeps are under way to all others.
 pub fn post_votes(work: &mut [u8], sending: Sending, kept: [Stamped; DEPTH])
-    requires { ⌜ Sendable sending × (sending .sender < 16) × (calendarSize ≤ length (now work)) ⌝ }
+    requires { ⌜ Sendable sending × (sending .sender < mostServers) × (calendarSize ≤ length (now work)) ⌝ }
     ensures { λ _. ⌜ Posted (now (work .entry)) (now (work .exit)) (toOthers sending (among kept)) ⌝ }
 {
     let n = sending.n;
