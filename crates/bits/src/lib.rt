@@ -2,6 +2,7 @@ ghost use mathlib.Core.Path.{_≡_};
 ghost use Prim.Native.Nat.{_+_, _*_, _^_, _≤_, _<_};
 ghost use lib.ListN.{length};
 ghost use Rattle.bits.specs.Field.{fieldOf};
+ghost use Rattle.bits.specs.Fill.{fill};
 
 fn wide(x: u8) -> u64
     ensures { λ r. ⌜ r ≡ x ⌝ }
@@ -46,4 +47,11 @@ pub fn nibble(s: &[u8], at: usize) -> u8
     }
     let both = wide(s[b]) * 256 + wide(s[b + 1]);
     ((both >> (12 - off)) % 16) as u8
+}
+
+// How many bits fill the last byte behind so many; with a wider unit in place of 8 the line is the same.
+pub fn fill(bits: usize) -> usize
+    ensures { λ r. ⌜ r ≡ fill 8 bits ⌝ }
+{
+    (8 - bits % 8) % 8
 }
