@@ -22,7 +22,7 @@ pub fn check(plan: &[u8]) -> Checked
     if !h.has_enough_servers() {
         return Checked::Refused(Refusal::TooFewServers);
     }
-    if plan.len() != (h.bits() + 7) / 8 {
+    if plan.len() != h.bytes() {
         return Checked::Refused(Refusal::Length);
     }
     if !placements::all_stand(plan, h) {

@@ -173,5 +173,5 @@ pub fn are_final_bits_zero(plan: &[u8], h: Shape) -> bool
     ensures { λ r. ⌜ r ≡ finalBitsZero 16 (now (plan .entry)) (shape h) ⌝ }
 {
     let end = h.bits();
-    bits::field(plan, end, 8 * plan.len() - end) == 0
+    bits::field(plan, end, bits::fill(end)) == 0
 }

@@ -145,7 +145,7 @@ delays-stand =
 
 final-bits-zero : finalBitsZero 16 longestPlan header ≡ true
 unfolding finalBitsZero moves
-final-bits-zero = rw (parts.length-longest, field-zero) refl
+final-bits-zero = rw field-zero refl
 
 reads-are : length (plan-specs.Packed.planOf 16 longestPlan .reads) ≡ plan-specs.Limits.mostReads
 unfolding plan-specs.Packed.planOf operationsOf

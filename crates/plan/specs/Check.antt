@@ -5,6 +5,7 @@ use Prim.Native.Nat.{ℕ, _+_, _*_, _-_, _/_}
 use lib.Dec.{leb, ltb, eqb}
 use lib.ListN.{length}
 use Rattle.bits.specs.Field.{fieldOf}
+use Rattle.bits.specs.Fill.{fill}
 use Rattle.register.specs.Lists.{count, any, allUpTo}
 use Rattle.register.specs.Plan.{Plan, Read, Forgery, readEnd}
 use Rattle.plan.specs.Header.{Header, headerOf, headerBits, forgeryBits, moves, parties, placementAt, operationAt, forgeryAt, bitLength, kIn}
@@ -34,9 +35,9 @@ headerInRange h =
 unfoldable pub enoughServers : Header → Bool
 enoughServers h = leb ((kIn h + 3) * h .f + 1) (h .n)
 
--- the bytes that hold so many bits
+-- the bytes that hold so many bits, and those that fill the last byte (document 02, 'Three')
 abbrev pub bytesFor : ℕ → ℕ
-bytesFor bits = (bits + 7) / 8
+bytesFor bits = (bits + fill 8 bits) / 8
 
 -- when an operation ends
 unfoldable pub endOf : Header → Operation → ℕ
@@ -90,9 +91,9 @@ module _ (w : ℕ) (s : List ℕ) (h : Header) where
   unfoldable pub delayStands : ℕ → ℕ → ℕ → Bool
   delayStands t i j = cond (isLink (h .n) i j) (within 1 (h .delta) (delayOf w s h t i j)) (eqb (delayOf w s h t i j) 0)
 
-  -- 'zero bits to the byte's end'
+  -- 'zero bits to the byte's end', as many as fill it
   unfoldable pub finalBitsZero : Bool
-  finalBitsZero = eqb (fieldOf s (bitLength w h) (8 * length s - bitLength w h)) 0
+  finalBitsZero = eqb (fieldOf s (bitLength w h) (fill 8 (bitLength w h))) 0
 
   unfoldable pub placementsStand : Bool
   placementsStand = allUpTo (moves h) placementStands

@@ -6,7 +6,7 @@ ghost use Prim.Native.Nat.{_+_, _*_, _≤_, _<_};
 ghost use lib.ListN.{length};
 ghost use Rattle.plan.specs.Header.{headerOf, kIn, moves, parties, operationAt, forgeryAt, bitLength};
 ghost use Rattle.plan.specs.Limits.{mostBytes, impliedBytes, mostReads};
-ghost use Rattle.plan.specs.Check.{headerInRange, enoughServers};
+ghost use Rattle.plan.specs.Check.{headerInRange, enoughServers, bytesFor};
 ghost use Rattle.plan.specs.Shape.{shape, Ranged};
 
 // The shape of a cluster and of its plan (document 01: of the hall).
@@ -188,5 +188,14 @@ impl Shape {
     {
         let parties = self.parties();
         self.delays_at() + 4 * (self.ticks as usize * (parties * parties))
+    }
+
+    // The bytes of a plan with this header: the final bits fill the last one.
+    pub fn bytes(self) -> usize
+        requires { ⌜ Ranged (shape self) ⌝ }
+        ensures { λ r. ⌜ r ≡ bytesFor (bitLength 16 (shape self)) ⌝ }
+    {
+        let end = self.bits();
+        (end + bits::fill(end)) / 8
     }
 }

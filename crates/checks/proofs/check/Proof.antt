@@ -117,7 +117,7 @@ ranged2 : (c : tie.Else2) → Ranged (shape (read2 c))
 ranged2 c = rw (same2 c) (ranged-header (plan2 c) (in-range c))
 
 sized4 : (c : tie.Else4) → Sized (plan4 c) (shape (read4 c))
-sized4 c = sizes (plan4 c) (shape (read4 c)) (ranged2 (c .before .before .before .before)) (rw (← c .before .bits .ensures .0) (c .if4 .left))
+sized4 c = sizes (plan4 c) (shape (read4 c)) (ranged2 (c .before .before .before .before)) (rw (← c .before .bytes .ensures) (c .if4 .left))
 
 passed4 : (c : tie.Else4) → checkOf 16 (plan4 c) ≡ from5 (plan4 c)
 passed4 c = passed3 (c .before .before) ∙ passes _ 4 _ (found (λ (h : Header). fits (plan4 c) h) (same4 c) (sym (eq-eqb _ _ (sized4 c .size))))
@@ -163,16 +163,13 @@ returns-3 : tie.Need-returns-3
 returns-3 c =
     sym (passed2 (c .before .before) ∙ fails _ 3 _ (found enoughServers (same2 (c .before .before)) (c .before .has-enough-servers .ensures) ∙ not-true _ (c .if3 .taken)))
 
-bits-requires : tie.Need-bits-requires
-bits-requires c κs = ranged2 (c .before .before)
-
-add-if4 : tie.Need-add-if4
-add-if4 c = omega arith
+bytes-requires : tie.Need-bytes-requires
+bytes-requires c κs = ranged2 (c .before .before)
 
 returns-4 : tie.Need-returns-4
 returns-4 c =
     let q = c .before .before in
-    let e : fits (plan3 q) (shape (read3 q)) ≡ false = rw (← c .before .bits .ensures .0) (ne-eqb _ _ (c .if4 .taken)) in
+    let e : fits (plan3 q) (shape (read3 q)) ≡ false = rw (← c .before .bytes .ensures) (ne-eqb _ _ (c .if4 .taken)) in
     sym (passed3 q ∙ fails _ 4 _ (found (λ (h : Header). fits (plan3 q) h) (same3 q) (sym e)))
 
 all-stand-requires : tie.Need-all-stand-requires
@@ -234,8 +231,7 @@ check-spec =
     returns-2
     has-enough-servers-requires
     returns-3
-    bits-requires
-    add-if4
+    bytes-requires
     returns-4
     all-stand-requires
     returns-5
