@@ -80,6 +80,18 @@ def generated(generate, rehearsal):
             return
 
 
+def at_the_last_byte(builder):
+    """Plans with 0, 2, 4 and 6 final bits: whole, with each final bit set, a byte short, a byte long."""
+    for ticks, operations in ((4, []), (3, [(0, 1, 0)]), (3, []), (4, [(0, 1, 0)])):
+        plan = builder.build(H=ticks, ops=operations)
+        whole = builder.pack_plan(plan)
+        yield whole
+        for bit in range(8 * len(whole) - plan.header.bits):
+            yield whole[:-1] + bytes([whole[-1] | 1 << bit])
+        yield whole[:-1]
+        yield whole + bytes(1)
+
+
 class Asked:
     """What is asked about one plan, and what the oracle answers."""
 
@@ -233,6 +245,7 @@ def main(argv):
     largest = rehearsal.pack_plan(builder.largest())
     plans = [*given_plans(oracle), *limits(largest), *damaged_at_the_end(largest)]
     plans += generated(generate, rehearsal)
+    plans += at_the_last_byte(builder)
     rng = random.Random(1)
     packed, printed, counts = [], [], {}
     for index, plan in enumerate(plans):
