@@ -36,7 +36,7 @@ def packed(n, f, delta, period, readers, ticks, start, placements, operations, f
                 link = receiver not in (sender, n) if sender < n else receiver < n
                 put(4, delay(tick, sender, receiver) if link else 0)
     whole = "".join(bits)
-    whole += "0" * (-len(whole) % 8)
+    whole += "0" * ((8 - len(whole) % 8) % 8)
     return int(whole, 2).to_bytes(len(whole) // 8, "big")
 
 
