@@ -66,6 +66,7 @@ def main(argv):
     if len(argv) != 1:
         sys.stderr.write(__doc__ + "\n")
         return 2
+    os.makedirs(argv[0], exist_ok=True)
     for name, plan in plans():
         with open(os.path.join(argv[0], name + ".plan"), "wb") as file:
             file.write(plan)
