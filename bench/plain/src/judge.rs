@@ -25,9 +25,9 @@ pub fn belongs(read: &Read, answer: &[u8]) -> bool {
 pub fn is_regular(plan: &Plan, read: &Read, answer: &[u8]) -> bool {
     let given = Stamped::new(field(answer, 10, 16) as u16, field(answer, 26, 8) as u8);
     let initial = Stamped::new(plan.header.initial, 0);
-    let finished = plan.writes.iter().rev().find(|write| write.end < read.begin);
+    let finished = plan.writes.iter().rev().find(|write| write.end <= read.begin);
     let last_finished = finished.map_or(initial, |write| write.stamped);
     let mut concurrent =
-        plan.writes.iter().filter(|write| write.end >= read.begin && write.begin <= read.end);
+        plan.writes.iter().filter(|write| write.end > read.begin && write.begin <= read.end);
     given == last_finished || concurrent.any(|write| write.stamped == given)
 }

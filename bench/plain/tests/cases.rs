@@ -81,6 +81,18 @@ fn write_then_read() {
     assert_eq!(answers, packed.to_be_bytes()[3..]);
 }
 
+/// By document 01 the start value would have been regular in the second of these.
+#[test]
+fn read_as_a_write_ends() {
+    let start_value = |begin: u64| (begin << 33 | 1 << 30 | 7 << 14).to_be_bytes();
+    for (begin, is_regular) in [(0, true), (1, false), (2, false)] {
+        let mut parts = parts(1, 0, 1, 2, 5);
+        parts.operations = vec![write(0, 9), read(begin)];
+        let [_, _, _, answer @ ..] = start_value(begin as u64);
+        assert_eq!(judge(&parts.pack(), &answer), Ok(is_regular));
+    }
+}
+
 #[test]
 fn a_server_recovers() {
     let mut parts = parts(5, 1, 1, 2, 4);

@@ -23,3 +23,4 @@ pub mod Replies
 pub mod Named
 pub mod Regular
 pub mod Theorem
+pub mod JustSet

@@ -7,7 +7,7 @@ use mathlib.Core.List.{List, [], _∷_, map}
 use Prim.Native.Nat.{ℕ, _+_, _≤_, _<_}
 use native.Mathlib.Omega.{arith}
 use native.Mathlib.Decide.{ℕ-discrete}
-use lib.Dec.{T, eqb, eqb-refl, ltb→lt, le→leb, nltb→le, not-T}
+use lib.Dec.{T, eqb, eqb-refl, leb→le, le→leb, nleb→lt, not-T}
 use lib.ListN.{length}
 use Rattle.register.specs.Lists.{any, filter, In}
 use Rattle.register.specs.Plan.{Write, Read, Plan, readEnd, writeEnd}
@@ -23,11 +23,11 @@ module _ (P : Plan) (r : Read) where
   -- the two laws of 'finished before'
   pub finished-by : (w : Write) → T (finished P r w) → w .begun + P .delta ≤ r .begun
   unfolding finished
-  finished-by w h = let l = ltb→lt (writeEnd P w) (r .begun) h in omega arith
+  finished-by w h = leb→le (writeEnd P w) (r .begun) h
 
-  pub unfinished-from : (w : Write) → T (not (finished P r w)) → r .begun ≤ w .begun + P .delta
+  pub unfinished-from : (w : Write) → T (not (finished P r w)) → r .begun < w .begun + P .delta
   unfolding finished
-  unfinished-from w h = nltb→le (writeEnd P w) (r .begun) h
+  unfinished-from w h = nleb→lt (writeEnd P w) (r .begun) h
 
   pub last-cases : (lastFinished P r ≡ P .initial) ⊎ ((w : Write) × In w (P .writes) × (lastFinished P r ≡ w .pair) × T (finished P r w))
   unfolding lastFinished
@@ -74,7 +74,7 @@ module _ (P : Plan) (r : Read) where
   last-recent G l d g = short l d (λ q i. above q (g q i .0) (g q i .1))
     where
       By : ℕ → Type 0
-      By q = (w : Write) × In w (P .writes) × (w .pair ≡ q) × (w .begun < r .begun + P .delta) × (r .begun ≤ w .begun + P .delta)
+      By q = (w : Write) × In w (P .writes) × (w .pair ≡ q) × (w .begun < r .begun + P .delta) × (r .begun < w .begun + P .delta)
 
       above : (q : ℕ) → Genuine P (r .begun + P .delta) q → lastFinished P r < q → By q
       above q g h =

@@ -1,8 +1,8 @@
--- What point 3 promises of one read.
+-- What point 3 promises of one read, and what request Four adds to it.
 use mathlib.Core.Path.{_≡_}
 use mathlib.Core.Bool.{true, false}
-use Prim.Native.Nat.{ℕ, _+_, _*_, _≤_}
-use Rattle.register.specs.Plan.{Plan, Read, kk, readEnd, replyQuorum}
+use Prim.Native.Nat.{ℕ, _+_, _*_, _≤_, _<_}
+use Rattle.register.specs.Plan.{Plan, Write, Read, kk, readEnd, replyQuorum}
 use Rattle.register.specs.Reading.{countOf, answerOf}
 use Rattle.register.specs.Regular.{lastFinished, allowed, hasBegun}
 
@@ -16,3 +16,11 @@ pub record Served (P : Plan) (r : Read) : Type 0 where
   pub answered : replyQuorum P ≤ answerOf P r .count
   -- the regular register allows the answer
   pub regular : allowed P r (answerOf P r .pair) ≡ true
+
+-- What a read that begins in the tick in which write w ends is owed.
+pub record OwedJustSet (P : Plan) (r : Read) (w : Write) : Type 0 where
+  pub last : lastFinished P r ≡ w .pair
+  -- Four: 'A screen that reads in that very tick is owed the cue just set, with the same count of boxes behind it.'
+  pub owed : replyQuorum P ≤ countOf P r (w .pair)
+  -- Four: 'Judge becomes stricter'
+  pub older : (p : ℕ) → p < w .pair → allowed P r p ≡ false

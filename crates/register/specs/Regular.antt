@@ -1,4 +1,4 @@
--- The regular register (document 01, after the stages, and 'Words of point 3').
+-- The regular register (document 01, after the stages, and 'Words of point 3'; document 02, 'Four').
 use mathlib.Core.Bool.{Bool, not, _&&_, _||_}
 use mathlib.Core.List.{map}
 use Prim.Native.Nat.{ℕ}
@@ -8,9 +8,9 @@ use Rattle.register.specs.Lists.{any, filter, highest}
 use Rattle.register.specs.Plan.{Plan, Write, Read, readEnd, writeEnd}
 
 module _ (P : Plan) where
-  -- 'A write finished before a read if its end is a smaller tick than the read's begin.'
+  -- Four: 'a write finished before a read if its end is at or below the read's begin'
   unfoldable pub finished : Read → Write → Bool
-  finished r w = ltb (writeEnd P w) (r .begun)
+  finished r w = leb (writeEnd P w) (r .begun)
 
   -- 'It is concurrent if it neither finished before the read nor began after the read's end.'
   unfoldable pub concurrent : Read → Write → Bool

@@ -12,7 +12,7 @@ use calendar::PLACES;
 fn is_finished(begun: u8, delta: u8, read: u8) -> bool
     ensures { λ r. ⌜ ((P : Plan) (x : Read) (w : Write) → P .delta ≡ delta → x .begun ≡ read → w .begun ≡ begun → r ≡ finished P x w) ⌝ }
 {
-    (begun as u16) + (delta as u16) < (read as u16)
+    (begun as u16) + (delta as u16) <= (read as u16)
 }
 
 // Did a write begun in tick `begun` begin by the end of a read begun in tick `read`?
