@@ -1,6 +1,6 @@
--- The starred cases hold: one test that is computed over the whole table, and a law that turns it into each row.
+-- The starred cases hold, and those of document 02: one test that is computed over a whole table, and a law that turns it into each row.
 use mathlib.Core.Path.{_≡_, refl, ap, ap₂}
-use mathlib.Core.Bool.{Bool, true, false, _&&_}
+use mathlib.Core.Bool.{Bool, true, false, _&&_, Bool·beq}
 use mathlib.Core.Logic.{inl, inr}
 use mathlib.Core.List.{List, [], _∷_}
 use Prim.Native.Nat.{ℕ, suc}
@@ -13,6 +13,7 @@ use Rattle.register.specs.Plan
 use Rattle.register.specs.Server
 use Rattle.register.specs.Cluster
 use Rattle.register.specs.Reading
+use Rattle.register.specs.Regular
 use Rattle.register.proofs.Logic.{and-l, and-r}
 use Rattle.register.proofs.Lists.{sameList-eq}
 use Rattle.plan.specs.Header
@@ -28,22 +29,29 @@ use Rattle.cases.specs.Starred as S
 
 -- every definition that a row computes with, opened under one name
 unfoldable pub opened : List ℕ → Check.Outcome ℕ
-unfolding bitOf fieldOf Lists.count Lists.anyUpTo Lists.allUpTo Lists.tabFrom Lists.flat Lists.any Lists.filter Lists.distinct Lists.highest Lists.sameList Plan.stamped Plan.valueOf Plan.numberOf Plan.kOf Plan.isMove Server.claimOf Server.has Server.pairsOf Server.insert Server.insertAll Server.takeIn Server.quorum Server.votedIn Server.deliver Server.stage1 Server.stage2 Server.moved Server.stage3 Server.stage4 Cluster.sentIn Cluster.writesIn Cluster.readsIn Cluster.votesFrom Cluster.forgedIn Cluster.votesIn Cluster.step Cluster.serverOf Cluster.tick Cluster.cluster Reading.sameRead Reading.replyFrom Reading.forgedTo Reading.noted Reading.notedBy Reading.countIn Reading.best Reading.answerFrom Header.headerOf Header.moves Parts.inPlacement Parts.operationOf Parts.forgeryOf Parts.delayOf Parts.operationsOf Parts.isLink Parts.writesFrom Parts.readsFrom Packed.planOf Check.headerInRange Check.enoughServers Check.endOf Check.placementStands Check.operationRises Check.operationWaits Check.operationStands Check.readOpen Check.forgeryRises Check.forgeryStands Check.delayStands Check.finalBitsZero Check.placementsStand Check.operationsStand Check.forgeriesStand Check.delaysStand Check.checkOf Answers.bytesOf Answers.packed Answers.answerBytes Answers.answersFor Answers.answersOf Look.conditionOf Look.shownBy Decimal.digitsWithin Decimal.decimalOf Text.lineWith Text.lineOf Text.linesFor Text.textAfter Text.textOf S.k-one S.k-two S.period-short S.five S.four S.six S.five-two S.no-reads S.one-read S.written S.takeover S.reads-one S.starred
+unfolding bitOf fieldOf Lists.count Lists.anyUpTo Lists.allUpTo Lists.tabFrom Lists.flat Lists.any Lists.filter Lists.distinct Lists.highest Lists.sameList Plan.stamped Plan.valueOf Plan.numberOf Plan.kOf Plan.isMove Server.claimOf Server.has Server.pairsOf Server.insert Server.insertAll Server.takeIn Server.quorum Server.votedIn Server.deliver Server.stage1 Server.stage2 Server.moved Server.stage3 Server.stage4 Cluster.sentIn Cluster.writesIn Cluster.readsIn Cluster.votesFrom Cluster.forgedIn Cluster.votesIn Cluster.step Cluster.serverOf Cluster.tick Cluster.cluster Reading.sameRead Reading.replyFrom Reading.forgedTo Reading.noted Reading.notedBy Reading.countIn Reading.best Reading.answerFrom Regular.finished Regular.concurrent Regular.lastFinished Regular.allowed Header.headerOf Header.moves Parts.inPlacement Parts.operationOf Parts.forgeryOf Parts.delayOf Parts.operationsOf Parts.isLink Parts.writesFrom Parts.readsFrom Packed.planOf Check.headerInRange Check.enoughServers Check.endOf Check.placementStands Check.operationRises Check.operationWaits Check.operationStands Check.readOpen Check.forgeryRises Check.forgeryStands Check.delayStands Check.finalBitsZero Check.placementsStand Check.operationsStand Check.forgeriesStand Check.delaysStand Check.checkOf Answers.bytesOf Answers.packed Answers.answerBytes Answers.answersFor Answers.answersOf Answers.beginIn Answers.readerIn Answers.pairIn Answers.zeroIn Look.conditionOf Look.shownBy Judge.answerFits Judge.answerAllowed Judge.judgeAfter Judge.judgeOf Decimal.digitsWithin Decimal.decimalOf Text.lineWith Text.lineOf Text.linesFor Text.textAfter Text.textOf S.k-one S.k-two S.period-short S.five S.four S.six S.five-two S.no-reads S.one-read S.written S.takeover S.just-set S.just-written S.from-the-start S.reads-one S.starred S.ended-as-begun
 opened s = Check.checkOf 16 s
 
 -- Tests for equality, each with the law that it is one.
-same-outcome : Check.Outcome ℕ → Check.Outcome ℕ → Bool
-same-outcome (Check.refused i) (Check.refused j) = eqb i j
-same-outcome (Check.refused i) (Check.result n) = false
-same-outcome (Check.result m) (Check.refused j) = false
-same-outcome (Check.result m) (Check.result n) = eqb m n
+verdict-same : (x y : Bool) → T (Bool·beq x y) → x ≡ y
+verdict-same true true h = refl
+verdict-same true false h = absurd h
+verdict-same false true h = absurd h
+verdict-same false false h = refl
 
-outcome-same : (x y : Check.Outcome ℕ) → T (same-outcome x y) → x ≡ y
-unfolding same-outcome
-outcome-same (Check.refused i) (Check.refused j) h = ap Check.refused (eqb→eq i j h)
-outcome-same (Check.refused i) (Check.result n) h = absurd h
-outcome-same (Check.result m) (Check.refused j) h = absurd h
-outcome-same (Check.result m) (Check.result n) h = ap Check.result (eqb→eq m n h)
+module _ {A : Type 0} (same : A → A → Bool) (by : (x y : A) → T (same x y) → x ≡ y) where
+  same-outcome : Check.Outcome A → Check.Outcome A → Bool
+  same-outcome (Check.refused i) (Check.refused j) = eqb i j
+  same-outcome (Check.refused i) (Check.result n) = false
+  same-outcome (Check.result m) (Check.refused j) = false
+  same-outcome (Check.result m) (Check.result n) = same m n
+
+  outcome-same : (x y : Check.Outcome A) → T (same-outcome x y) → x ≡ y
+  unfolding same-outcome
+  outcome-same (Check.refused i) (Check.refused j) h = ap Check.refused (eqb→eq i j h)
+  outcome-same (Check.refused i) (Check.result n) h = absurd h
+  outcome-same (Check.result m) (Check.refused j) h = absurd h
+  outcome-same (Check.result m) (Check.result n) h = ap Check.result (by m n h)
 
 condition-number : Look.Condition → ℕ
 condition-number Look.is-faulty = 0
@@ -89,7 +97,7 @@ shown-same x y h =
 -- the test of a row
 passes : S.Row → Bool
 passes (S.has-length s n) = eqb (length s) n
-passes (S.checks s o) = same-outcome (Check.checkOf 16 s) o
+passes (S.checks s o) = same-outcome eqb eqb→eq (Check.checkOf 16 s) o
 passes (S.has-k s k) = eqb (Header.kIn (Header.headerOf 16 s)) k
 passes (S.writes-bytes s bytes) = Lists.sameList (Answers.answersOf 16 s) bytes
 passes (S.prints s text) = Lists.sameList (Text.textOf 16 s) text
@@ -100,12 +108,13 @@ passes (S.answers s value number count) =
 passes (S.shows s b t shown) =
     let x : Look.Shown = Look.shownBy 16 (Cluster.serverOf (Cluster.cluster (Packed.planOf 16 s) (suc t)) b) in
     eqb (condition-number (x .condition)) (condition-number (shown .condition)) && same-pairs (x .pairs) (shown .pairs)
+passes (S.judges s a o) = same-outcome Bool·beq verdict-same (Judge.judgeOf 16 s a) o
 
 -- a row that passes holds
 row-holds : (r : S.Row) → T (passes r) → S.Holds r
 unfolding passes S.Holds
 row-holds (S.has-length s n) h = eqb→eq _ n h
-row-holds (S.checks s o) h = outcome-same _ o h
+row-holds (S.checks s o) h = outcome-same eqb eqb→eq _ o h
 row-holds (S.has-k s k) h = eqb→eq _ k h
 row-holds (S.writes-bytes s bytes) h = sameList-eq _ bytes h
 row-holds (S.prints s text) h = sameList-eq _ text h
@@ -115,15 +124,16 @@ row-holds (S.answers s value number count) h =
     let k = and-r (eqb (Plan.valueOf 16 (a .pair)) value) _ h in
     (eqb→eq _ value (and-l (eqb (Plan.valueOf 16 (a .pair)) value) _ h), eqb→eq _ number (and-l (eqb (Plan.numberOf 16 (a .pair)) number) _ k), eqb→eq _ count (and-r (eqb (Plan.numberOf 16 (a .pair)) number) _ k))
 row-holds (S.shows s b t shown) h = shown-same (Look.shownBy 16 (Cluster.serverOf (Cluster.cluster (Packed.planOf 16 s) (suc t)) b)) shown h
+row-holds (S.judges s a o) h = outcome-same Bool·beq verdict-same _ o h
 
 -- all rows pass, by computation
 all-pass : List S.Row → Bool
 all-pass [] = true
 all-pass (r ∷ rs) = passes r && all-pass rs
 
-table-passes : T (all-pass S.starred)
+tables-pass : T (all-pass S.starred && all-pass S.ended-as-begun)
 unfolding opened same-outcome condition-number same-pairs passes all-pass
-table-passes = tt
+tables-pass = tt
 
 each : (rs : List S.Row) → T (all-pass rs) → (r : S.Row) → Lists.In r rs → S.Holds r
 unfolding all-pass
@@ -133,4 +143,8 @@ each (x ∷ rs) h r (inr i) = each rs (and-r (passes x) (all-pass rs) h) r i
 
 -- every starred case holds
 pub starred-holds : (r : S.Row) → Lists.In r S.starred → S.Holds r
-starred-holds = each S.starred table-passes
+starred-holds = each S.starred (and-l (all-pass S.starred) (all-pass S.ended-as-begun) tables-pass)
+
+-- so do those of a read that begins as a write ends
+pub ended-as-begun-holds : (r : S.Row) → Lists.In r S.ended-as-begun → S.Holds r
+ended-as-begun-holds = each S.ended-as-begun (and-r (all-pass S.starred) (all-pass S.ended-as-begun) tables-pass)

@@ -1,6 +1,7 @@
--- The starred cases of document 01 ('Rehearsed cases'), from the bytes: the plans, each as the number that its bytes are, and one table of what
--- holds of them.
+-- The starred cases of document 01 ('Rehearsed cases') and a case of document 02, from the bytes: the plans, each as the number that its bytes
+-- are, and tables of what holds of them.
 use mathlib.Core.Path.{_≡_}
+use mathlib.Core.Bool.{Bool, true, false}
 use mathlib.Core.List.{List, [], _∷_, _++_}
 use Prim.Native.Nat.{ℕ, suc}
 use lib.ListN.{length}
@@ -12,7 +13,7 @@ use Rattle.plan.specs.Packed.{planOf}
 use Rattle.plan.specs.Check.{Outcome, refused, result, checkOf}
 use Rattle.answers.specs.Answers.{bytesOf, answersOf}
 use Rattle.simulator.specs.Look.{is-cured, is-correct, Shown, shownBy}
-use Rattle.simulator.specs.Judge.{readOf}
+use Rattle.simulator.specs.Judge.{readOf, judgeOf}
 use Rattle.lines.specs.Text.{textOf}
 
 -- n = 1, δ = 2, Δ = 4
@@ -61,6 +62,23 @@ takeover =
     bytesOf 60 0x2a2110400070100080004000000002404444044044404440440444404044444004444440044444000444404404440444044044440404444400444444
     ++ (bytesOf 54 0x004444400044440440444044404404444040444440044444400444440004444044044404440440444404044444004444440044444000)
 
+-- n = 6, f = 1, δ = 2, Δ = 3: k is 2; start value 7, value 100 written at 0, which ends at 2, read at 2; server 0 faulty at 0, server 1 at 3, all
+-- delays 2
+unfoldable pub just-set : List ℕ
+just-set =
+    bytesOf 60 0x324190700070200080004000000000001901100000222220220222202220222022220220222220202222220022222220022222200022222022022220
+    ++ (bytesOf 60 0x222022202222022022222020222222002222222002222220002222202202222022202220222202202222202022222200222222200222222000222220
+    ++ (bytesOf 60 0x220222202220222022220220222220202222220022222220022222200022222022022220222022202222022022222020222222002222222002222220
+    ++ (bytesOf 60 0x002222202202222022202220222202202222202022222200222222200222222000222220220222202220222022220220222220202222220022222220
+    ++ (bytesOf 5 0x0222222000))))
+
+-- the answers (100, 1) and (7, 0) to its read, each with a count of 4
+unfoldable pub just-written : List ℕ
+just-written = bytesOf 5 0x0440190048
+
+unfoldable pub from-the-start : List ℕ
+from-the-start = bytesOf 5 0x044001c008
+
 -- "reads 1", then "0 1 2 7 0 1", each ended by a line feed
 unfoldable pub reads-one : List ℕ
 reads-one = bytesOf 8 0x726561647320310a ++ bytesOf 12 0x30203120322037203020310a
@@ -74,9 +92,10 @@ pub data Row : Type 0 where
   prints : List ℕ → List ℕ → Row
   answers : List ℕ → ℕ → ℕ → ℕ → Row
   shows : List ℕ → ℕ → ℕ → Shown → Row
+  judges : List ℕ → List ℕ → Outcome Bool → Row
 
 -- its bytes; what Check returns; k; the answer bytes; the text that is printed, whole; value, number and count of the first read's answer;
--- server b after tick t
+-- server b after tick t; what Judge says of answers
 unfoldable pub Holds : Row → Type 0
 Holds (has-length s n) = length s ≡ n
 Holds (checks s o) = checkOf 16 s ≡ o
@@ -88,6 +107,7 @@ Holds (answers s value number count) =
     let a : Answer = answerOf P (readOf P 0) in
     (valueOf 16 (a .pair) ≡ value) × (numberOf 16 (a .pair) ≡ number) × (a .count ≡ count)
 Holds (shows s b t shown) = shownBy 16 (serverOf (cluster (planOf 16 s) (suc t)) b) ≡ shown
+Holds (judges s a o) = judgeOf 16 s a ≡ o
 
 unfoldable pub starred : List Row
 starred =
@@ -112,4 +132,14 @@ starred =
     checks takeover (result 0) ∷
     shows takeover 0 2 (record { condition = is-cured; pairs = [] }) ∷
     shows takeover 0 3 (record { condition = is-correct; pairs = record { value = 9; number = 1 } ∷ record { value = 7; number = 0 } ∷ [] }) ∷
+    []
+
+-- Four: 'A screen that reads in that very tick is owed the cue just set'. The last row was yes by document 01.
+unfoldable pub ended-as-begun : List Row
+ended-as-begun =
+    has-k just-set 2 ∷
+    checks just-set (result 1) ∷
+    writes-bytes just-set just-written ∷
+    judges just-set just-written (result true) ∷
+    judges just-set from-the-start (result false) ∷
     []
