@@ -3,7 +3,8 @@
 
 Compares the proved library, through its Rust wrapper (tests/requests), and the program `simulate` with
 the rehearsal program of other authorship in FOLDER: on its vectors and on N plans that it generates
-(2,000 if not said), four for each seed from S on (0 if not said): small or not, damaged or not.
+(2,000 if not said), six for each seed from S on (0 if not said): small or not, damaged or not, and two
+whose reads begin around the ends of writes.
 
 For each plan: Check and the header's numbers; the text that the program prints, also as the wrapper
 decodes the answers; Play with lent bytes of several lengths; Looks in and out of range, with pair
@@ -22,6 +23,8 @@ import subprocess
 import sys
 
 sys.dont_write_bytecode = True
+
+from oracle import Oracle
 
 TOP = os.path.dirname(os.path.dirname(os.path.abspath(__file__)))
 REQUESTS = os.path.join(TOP, "tests", "requests")
@@ -82,16 +85,13 @@ class Comparison:
             self.refusals[int(wanted.split()[1])] += 1
         self.waiting.append((f"{name}, {what}", record, wanted))
 
-    def said(self, result, say):
-        return f"refused {result.number}" if isinstance(result, self.oracle.Refused) else say(result)
-
     def check(self, name, plan):
-        header = [] if len(plan) < 8 else list(vars(self.oracle.unpack_header(plan)).values())[:-1]
-        said = self.said(self.oracle.check(plan), lambda reads: " ".join(map(str, ["reads", reads, *header])))
+        said = self.oracle.said(self.oracle.check(plan),
+                                lambda reads: " ".join(map(str, ["reads", reads, *self.oracle.header_numbers(plan)])))
         self.ask(name, "Check", b"c" + string(plan), said)
 
     def text(self, name, plan):
-        wanted = self.oracle.program_output(plan)
+        wanted = self.oracle.text(plan)
         self.ask(name, "text decoded", b"p" + string(plan), wanted.rstrip("\n").replace("\n", "|"))
         self.counts["text printed"] += 1
         printed = subprocess.run([SIMULATE], input=plan, capture_output=True).stdout
@@ -99,8 +99,7 @@ class Comparison:
 
     def play(self, name, plan, buffer, workspace):
         answers, lent_workspace = lent(buffer), bytearray(LENT[workspace])
-        result = self.oracle.play(plan, answers, lent_workspace)
-        said = self.said(result, lambda reads: f"reads {reads}")
+        said = self.oracle.said(self.oracle.play(plan, answers, lent_workspace), lambda reads: f"reads {reads}")
         self.ask(name, "Play", b"b" + string(plan) + numbers(buffer, workspace),
                  f"{said} {hexed(answers)} {state(lent_workspace)}")
         return bytes(answers)
@@ -109,31 +108,25 @@ class Comparison:
         """As many whole pairs as fit stand at the start of a pair buffer; all else of it is as before."""
         lent_workspace = bytearray(LENT[workspace])
         result = self.oracle.look(plan, lent_workspace, server, tick)
-        kept = [] if isinstance(result, self.oracle.Refused) else result[1]
+        kept = [] if self.oracle.is_refused(result) else result[1]
         packed = b"".join(struct.pack(">HB", *pair) for pair in kept)
-        said = self.said(result, lambda seen: f"seen {self.condition(seen)} {len(kept)}")
+        said = self.oracle.said(result, lambda seen: f"seen {seen[0]} {len(kept)}")
         for length in pair_buffers:
             fit = packed[:length // 3 * 3]
             pairs = fit + lent(length)[len(fit):]
             self.ask(name, "Look", b"l" + string(plan) + numbers(workspace, server, tick, length),
                      f"{said} {hexed(pairs)} {state(lent_workspace)}")
 
-    def condition(self, seen):
-        return [self.oracle.HELD, self.oracle.CURING, self.oracle.SOUND].index(seen[0])
-
     def every_look(self, name, plan, header):
         self.counts["looked at everywhere"] += 1
-        cluster, text = self.oracle.Hall(self.oracle.unpack(plan)), ""
-        for tick in range(header.H):
-            cluster.tick(tick)
-            for server in range(header.n):
-                seen = cluster.look(server)
-                shown = [tick, server, self.condition(seen), *(x for pair in seen[1] for x in pair)]
-                text += " ".join(map(str, shown)) + "|"
+        text = ""
+        for tick, server, condition, kept in self.oracle.every_look(plan):
+            shown = [tick, server, condition, *(x for pair in kept for x in pair)]
+            text += " ".join(map(str, shown)) + "|"
         self.ask(name, "Look", b"t" + string(plan), text, count=header.H * header.n)
 
     def judge(self, name, plan, answers):
-        said = self.said(self.oracle.judge(plan, answers), lambda good: "yes" if good else "no")
+        said = self.oracle.said(self.oracle.judge(plan, answers), lambda good: "yes" if good else "no")
         self.counts[f"Judge {said}"] += said in ("yes", "no")
         self.ask(name, "Judge", b"j" + string(plan) + string(answers), said)
 
@@ -144,8 +137,9 @@ class Comparison:
         begin, reader, value, number, named, zero = self.oracle.unpack_answer(answers[at:at + ANSWER])
         what = rng.randrange(8)
         if what < 4:
-            taken_apart = self.oracle.unpack(plan)
-            number, value = rng.choice([(0, taken_apart.header.start), *(pair for _, _, pair in taken_apart.writes)])
+            pairs = self.oracle.pairs(plan)
+            near = pairs[max(0, number - 1):number + 2]
+            number, value = rng.choice(pairs if what < 2 else near)
         elif what == 4:
             value = rng.choice([value ^ 1, rng.randrange(65536)])
         elif what == 5:
@@ -160,7 +154,7 @@ class Comparison:
         self.check(name, plan)
         self.text(name, plan)
         reads = self.oracle.check(plan)
-        accepted = not isinstance(reads, self.oracle.Refused)
+        accepted = not self.oracle.is_refused(reads)
         self.counts["accepted" if accepted else "refused"] += 1
         if accepted:
             self.about_accepted(name, plan, reads)
@@ -176,7 +170,7 @@ class Comparison:
         self.judge(name, plan, bytes(rng.randrange(256) for _ in range(rng.randrange(12))))
 
     def about_accepted(self, name, plan, reads):
-        rng, exact, header = self.rng, ANSWER * reads, self.oracle.unpack_header(plan)
+        rng, exact, header = self.rng, ANSWER * reads, self.oracle.header(plan)
         answers = self.play(name, plan, exact, WORKSPACE)
         self.play(name, plan, rng.choice([exact, exact + 7, max(0, exact - 1), 0]), rng.choice(WORKSPACES))
         self.look(name, plan, WORKSPACE, rng.randrange(header.n), rng.randrange(header.H), PAIR_BUFFERS)
@@ -217,16 +211,17 @@ class Comparison:
                 f"{self.different} different")
 
 
-def plans(folder, generate, count, seed):
-    vectors = os.path.join(folder, "vectors")
-    for name in sorted(os.listdir(vectors)):
-        if name.endswith(".plan"):
-            with open(os.path.join(vectors, name), "rb") as file:
-                yield name, file.read()
+def plans(oracle, count, seed):
+    yield from oracle.vectors()
     for i in range(count):
-        own, small, damage = seed + i // 4, i % 4 < 2, i % 2 == 1
-        name = f"seed {own}{' small' if small else ''}{' damaged' if damage else ''}"
-        yield name, generate.generate(own, damage=damage, small=small)
+        own, which = seed + i // 6, i % 6
+        if which < 4:
+            small, damage = which < 2, which % 2 == 1
+            name = f"seed {own}{' small' if small else ''}{' damaged' if damage else ''}"
+            yield name, oracle.generate.generate(own, damage=damage, small=small)
+        else:
+            _, plan = oracle.generate02.generate(own, "one", which)
+            yield f"seed {own} around the ends of writes, {which}", plan
 
 
 def build():
@@ -244,18 +239,16 @@ def build():
 def main():
     first, rest = __doc__.split("\n\n", 1)
     parser = argparse.ArgumentParser(usage=first, description=rest, formatter_class=argparse.RawDescriptionHelpFormatter)
-    parser.add_argument("folder", help="the other program's folder, with rehearsal.py, generate.py and vectors/")
+    parser.add_argument("folder", help="the other program's folder, with oracle02.py, generate02.py and vectors/")
     parser.add_argument("--plans", type=int, default=2_000)
     parser.add_argument("--seed", type=int, default=0)
     arguments = parser.parse_args()
-    if not os.path.isfile(os.path.join(arguments.folder, "rehearsal.py")):
-        parser.error(f"{arguments.folder} has no rehearsal.py")
-    sys.path.insert(0, arguments.folder)
-    import generate
-    import rehearsal
+    if not os.path.isfile(os.path.join(arguments.folder, "oracle02.py")):
+        parser.error(f"{arguments.folder} has no oracle02.py")
+    oracle = Oracle(arguments.folder)
     build()
-    comparison = Comparison(rehearsal, arguments.seed)
-    for name, plan in plans(arguments.folder, generate, arguments.plans, arguments.seed):
+    comparison = Comparison(oracle, arguments.seed)
+    for name, plan in plans(oracle, arguments.plans, arguments.seed):
         comparison.all_about(name, plan)
     comparison.settle()
     print(comparison.summary())

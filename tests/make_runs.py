@@ -16,6 +16,8 @@ import sys
 
 sys.dont_write_bytecode = True
 
+from oracle import Oracle, read
+
 HELP = """\
 usage: simulate [PLAN]
 
@@ -48,25 +50,18 @@ UNKNOWN = ("-", "--", "-h", "--helping", "--versio")
 FAILED = {"missing.plan": "No such file or directory", "examples": "Is a directory", "": "No such file or directory"}
 
 
-def read(*path):
-    with open(os.path.join(*path), "rb") as file:
-        return file.read()
-
-
 def write(data, *path):
     with open(os.path.join(*path), "wb") as file:
         file.write(data)
 
 
-def refused(rehearsal, oracle):
+def refused(oracle):
     """Of the oracle's vectors, the first with a byte in it for each refusal of Check."""
-    found, vectors = {}, os.path.join(oracle, "vectors")
-    for name in sorted(os.listdir(vectors)):
-        if name.endswith(".plan"):
-            plan = read(vectors, name)
-            result = rehearsal.check(plan)
-            if plan and isinstance(result, rehearsal.Refused):
-                found.setdefault(result.number, plan)
+    found = {}
+    for _, plan in oracle.vectors():
+        result = oracle.check(plan)
+        if plan and oracle.is_refused(result):
+            found.setdefault(result.number, plan)
     return {f"refused-{number}.plan": found[number] for number in range(1, 9)}
 
 
@@ -77,10 +72,10 @@ def longest_implied(rehearsal):
                           [0] * (header.H * header.parties ** 2))
 
 
-def inputs(rehearsal, oracle, longest):
+def inputs(oracle, longest):
     """Files by name: a plan for each refusal, and lengths at the ends."""
-    implied = longest_implied(rehearsal)
-    return {**refused(rehearsal, oracle),
+    implied = longest_implied(oracle.rehearsal)
+    return {**refused(oracle),
             "empty.plan": b"",
             "longest.plan": longest,
             "longest-but-one.plan": longest[:-1],
@@ -98,23 +93,20 @@ def main(argv):
     if len(argv) != 2:
         sys.stderr.write(__doc__)
         return 2
-    oracle, crates = argv
-    sys.path.insert(0, oracle)
-    import builder
-    import rehearsal
-    longest = rehearsal.pack_plan(builder.largest())
+    oracle, crates = Oracle(argv[0]), argv[1]
+    longest = oracle.builder.pack_plan(oracle.builder.largest())
     write(longest, crates, "simulate", "stdin")
-    write(rehearsal.program_output(longest).encode(), crates, "simulate", "stdout")
+    write(oracle.text(longest).encode(), crates, "simulate", "stdout")
     runs = os.path.join(crates, "runs")
     data, examples = os.path.join(runs, "data"), os.path.join(runs, "data", "examples")
     files = {f"examples/{name}": read(examples, name) for name in sorted(os.listdir(examples))}
-    made = inputs(rehearsal, oracle, longest)
+    made = inputs(oracle, longest)
     for name, plan in made.items():
         write(plan, data, name)
     files.update(made)
     first = next(iter(files))
     write(files[first], runs, "stdin")
-    args = {name: rehearsal.program_output(plan) for name, plan in files.items()}
+    args = {name: oracle.text(plan) for name, plan in files.items()}
     args.update(ASKED)
     args.update({word: said(f"unknown option {word} (see simulate --help)") for word in UNKNOWN})
     args.update({name: said(f"{name}: {reason}") for name, reason in FAILED.items()})

@@ -29,20 +29,13 @@ import sys
 
 sys.dont_write_bytecode = True
 
+from oracle import Oracle
+
 LOOKED_AT = 120
 SMALL_BYTES = 2_500
 ROOM_FOR_SMALL = 500_000
 FILLER = 165
 BEYOND = 2 ** 24 - 1        # an answer that is not there: nothing is replaced
-
-
-def given_plans(folder):
-    """The oracle's own vectors: the rehearsed cases, a plan for every refusal and wrong turn, large plans."""
-    vectors = os.path.join(folder, "vectors")
-    for name in sorted(os.listdir(vectors)):
-        if name.endswith(".plan"):
-            with open(os.path.join(vectors, name), "rb") as file:
-                yield file.read()
 
 
 def limits(largest):
@@ -62,14 +55,14 @@ def damaged_at_the_end(largest):
         yield bytes(plan)
 
 
-def generated(generate, rehearsal):
+def generated(oracle):
     """Small plans, so many for each refusal, until there is no more room."""
     seen, total, seed = {}, 0, 0
     while total < ROOM_FOR_SMALL:
         for damage in (False, True):
-            plan = generate.generate(700_000 + seed, damage=damage, small=True)
-            result = rehearsal.check(plan)
-            number = result.number if isinstance(result, rehearsal.Refused) else 0
+            plan = oracle.generate.generate(700_000 + seed, damage=damage, small=True)
+            result = oracle.check(plan)
+            number = result.number if oracle.is_refused(result) else 0
             if len(plan) > SMALL_BYTES or seen.get(number, 0) == (250 if number == 0 else 35):
                 continue
             seen[number] = seen.get(number, 0) + 1
@@ -92,11 +85,25 @@ def at_the_last_byte(builder):
         yield whole + bytes(1)
 
 
+def around_a_write_end(builder):
+    """Reads that begin a tick before a write ends, in that tick and a tick after it, for both k; all delays
+    are the longest, the values differ or are all one, and the faulty server forges an older pair."""
+    for delta, period, n in ((2, 4, 5), (2, 3, 6), (1, 2, 5), (1, 1, 6)):
+        writes = [i * (delta + 1) for i in range(3)]
+        for values in ((9, 8, 6), (9, 9, 9)):
+            for begin in range(writes[1] + delta - 1, writes[1] + delta + 2):
+                operations = sorted([*((tick, 0, value) for tick, value in zip(writes, values)), (begin, 1, 0)])
+                ticks, sender = begin + 2 * delta + 2, begin // period % n
+                yield builder.packed(n=n, f=1, delta=delta, Delta=period, H=ticks, start=7, delay=delta,
+                                     held=[[i % n] for i in range(ticks)], ops=operations,
+                                     forge=[(begin, sender, n + 1, values[0], 1)])
+
+
 class Asked:
     """What is asked about one plan, and what the oracle answers."""
 
-    def __init__(self, rehearsal, plan, answers, rng):
-        self.rehearsal, self.plan, self.answers, self.rng = rehearsal, plan, answers, rng
+    def __init__(self, oracle, plan, answers, rng):
+        self.oracle, self.plan, self.answers, self.rng = oracle, plan, answers, rng
         self.requests, self.lines = [], []
 
     def add(self, request, line):
@@ -104,31 +111,23 @@ class Asked:
         self.requests.append(request)
         self.lines.append(line)
 
-    def said(self, result, say):
-        return f"refused {result.number}" if isinstance(result, self.rehearsal.Refused) else say(result)
-
-    def seen(self, result):
-        condition, kept = result
-        conditions = {self.rehearsal.HELD: 0, self.rehearsal.CURING: 1, self.rehearsal.SOUND: 2}
-        return " ".join(map(str, [conditions[condition], *(x for pair in kept for x in pair)]))
-
     def play(self, room, space):
         answers, workspace = lent(room), lent(space)
-        said = self.said(self.rehearsal.play(self.plan, answers, workspace), lambda reads: f"reads {reads}")
+        said = self.oracle.said(self.oracle.play(self.plan, answers, workspace), lambda reads: f"reads {reads}")
         self.add(struct.pack(">c3I", b"p", room, space, 0), f"play {said} {kept(answers)} {kept(workspace)}")
 
     def look(self, space, server, tick):
         workspace = lent(space)
-        result = self.rehearsal.look(self.plan, workspace, server, tick)
-        is_shown = not isinstance(result, self.rehearsal.Refused) and result[1]
+        result = self.oracle.look(self.plan, workspace, server, tick)
+        is_shown = not self.oracle.is_refused(result) and result[1]
         self.add(struct.pack(">c3I", b"l", space, server, tick),
-                 f"look {self.said(result, self.seen)} {kept(workspace)} {'changed' if is_shown else 'kept'}")
+                 f"look {self.oracle.said(result, shown)} {kept(workspace)} {'changed' if is_shown else 'kept'}")
 
     def judge(self, length, index=BEYOND, replaced=bytes(5)):
         given = self.answers + bytes(length)
         if index != BEYOND:
             given = given[:5 * index] + replaced + given[5 * index + 5:]
-        said = self.said(self.rehearsal.judge(self.plan, given[:length]), lambda good: "yes" if good else "no")
+        said = self.oracle.said(self.oracle.judge(self.plan, given[:length]), lambda good: "yes" if good else "no")
         self.add(b"j" + length.to_bytes(4, "big") + index.to_bytes(3, "big") + replaced, f"judge {said}")
 
     def refused(self):
@@ -139,8 +138,8 @@ class Asked:
 
     def short_or_long(self):
         """Lent bytes, servers, ticks and answers at the ends of what is asked for, and behind them."""
-        size, space = len(self.answers), self.rehearsal.WORKSPACE_BYTES
-        header = self.rehearsal.unpack_header(self.plan)
+        size, space = len(self.answers), self.oracle.workspace_bytes
+        header = self.oracle.header(self.plan)
         self.play(size, space - 1)
         self.look(space - 1, header.n, header.H)
         self.look(space, header.n, 0)
@@ -157,11 +156,10 @@ class Asked:
         size, rng = len(self.answers), self.rng
         if not size:
             return
-        plan = self.rehearsal.unpack(self.plan)
-        pairs = [(0, plan.header.start)] + [pair for _, _, pair in plan.writes]
+        pairs = self.oracle.pairs(self.plan)
         for what in ("begin", "reader", "zero", "count", "value", "number", "value and zero", *["pair"] * times):
             index = rng.choice([0, size // 5 - 1, rng.randrange(size // 5)])
-            begin, reader, value, number, count, zero = self.rehearsal.unpack_answer(self.answers[5 * index:5 * index + 5])
+            begin, reader, value, number, count, zero = self.oracle.unpack_answer(self.answers[5 * index:5 * index + 5])
             if what == "begin":
                 begin ^= 1 << rng.randrange(7)
             elif what == "reader":
@@ -176,11 +174,18 @@ class Asked:
                 value ^= 1 << rng.randrange(16)
             if what.endswith("zero"):
                 zero = 1
-            self.judge(size, index, self.rehearsal.pack_answer(begin, reader, value, number, count, zero))
+            self.judge(size, index, self.oracle.pack_answer(begin, reader, value, number, count, zero))
+
+    def each_pair(self):
+        """Every answer replaced by each pair of the plan."""
+        for index in range(len(self.answers) // 5):
+            answer = self.oracle.unpack_answer(self.answers[5 * index:5 * index + 5])
+            for number, value in self.oracle.pairs(self.plan):
+                self.judge(len(self.answers), index, self.oracle.pack_answer(*answer._replace(cue=value, number=number)))
 
     def in_range(self):
         """More lent than is asked for, and the last server after the last tick."""
-        space, header = self.rehearsal.WORKSPACE_BYTES, self.rehearsal.unpack_header(self.plan)
+        space, header = self.oracle.workspace_bytes, self.oracle.header(self.plan)
         self.play(len(self.answers) + 7, space + 9)
         self.look(space, header.n - 1, header.H - 1)
         self.look(space + 9, 2 ** 32 - 1, 0)
@@ -195,37 +200,38 @@ def kept(data):
     return "kept" if data == lent(len(data)) else "changed"
 
 
-def looks(rehearsal, plan, asked):
+def shown(look):
+    condition, kept = look
+    return " ".join(map(str, [condition, *(x for pair in kept for x in pair)]))
+
+
+def looks(oracle, plan):
     """Every look of an accepted plan, if there are not too many."""
-    header = rehearsal.unpack_header(plan)
+    header = oracle.header(plan)
     if header.n * header.H > LOOKED_AT:
         return []
-    cluster, lines = rehearsal.Hall(rehearsal.unpack(plan)), []
-    for tick in range(header.H):
-        cluster.tick(tick)
-        for server in range(header.n):
-            lines.append(f"look {tick} {server} {asked.seen(cluster.look(server))}")
-    return lines
+    return [f"look {tick} {server} {shown(look)}" for tick, server, *look in oracle.every_look(plan)]
 
 
-def about(rehearsal, index, plan, rng):
+def about(oracle, index, plan, rng, each_pair):
     """The requests about a plan, and what the program has to print of it."""
-    text = rehearsal.program_output(plan)
-    first, *reads = text.splitlines()
+    first, *reads = oracle.text(plan).splitlines()
     lines = [f"plan {index}", f"check {first}", first, *reads]
     if first.startswith("refused"):
-        asked = Asked(rehearsal, plan, b"", rng)
+        asked = Asked(oracle, plan, b"", rng)
         asked.refused()
         return asked, lines + asked.lines
     answers = bytearray(5 * len(reads))
-    rehearsal.play(plan, answers, bytearray(rehearsal.WORKSPACE_BYTES))
-    asked = Asked(rehearsal, plan, bytes(answers), rng)
+    oracle.play(plan, answers, bytearray(oracle.workspace_bytes))
+    asked = Asked(oracle, plan, bytes(answers), rng)
     asked.short_or_long()
     asked.altered(3)
     if len(plan) <= SMALL_BYTES:
         asked.in_range()
+    if each_pair:
+        asked.each_pair()
     numbers = [int.from_bytes(answers[i:i + 5], "big") for i in range(0, len(answers), 5)]
-    return asked, [*lines, " ".join(["answers", *map(str, numbers)]), *looks(rehearsal, plan, asked), *asked.lines]
+    return asked, [*lines, " ".join(["answers", *map(str, numbers)]), *looks(oracle, plan), *asked.lines]
 
 
 def write(name, data):
@@ -237,19 +243,18 @@ def main(argv):
     if len(argv) != 2:
         sys.stderr.write(__doc__)
         return 2
-    oracle, folder = argv
-    sys.path.insert(0, oracle)
-    import builder
-    import generate
-    import rehearsal
-    largest = rehearsal.pack_plan(builder.largest())
-    plans = [*given_plans(oracle), *limits(largest), *damaged_at_the_end(largest)]
-    plans += generated(generate, rehearsal)
+    oracle, folder = Oracle(argv[0]), argv[1]
+    builder = oracle.builder
+    largest = builder.pack_plan(builder.largest())
+    plans = [*(plan for _, plan in oracle.vectors()), *limits(largest), *damaged_at_the_end(largest)]
+    plans += generated(oracle)
     plans += at_the_last_byte(builder)
+    first_at_an_end = len(plans)
+    plans += around_a_write_end(builder)
     rng = random.Random(1)
     packed, printed, counts = [], [], {}
     for index, plan in enumerate(plans):
-        asked, lines = about(rehearsal, index, plan, rng)
+        asked, lines = about(oracle, index, plan, rng, each_pair=index >= first_at_an_end)
         packed += [struct.pack(">IH", len(plan), len(asked.requests)), plan, *asked.requests]
         printed += lines
         for line in [lines[1], *asked.lines]:
