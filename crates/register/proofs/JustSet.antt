@@ -3,7 +3,7 @@
 use mathlib.Core.Path.{_≡_}
 use mathlib.Core.Bool.{Bool, false, not, _&&_}
 use mathlib.Core.Logic.{_⊎_, inl, inr}
-use Prim.Native.Nat.{ℕ, _+_, _≤_, _<_}
+use Prim.Native.Nat.{ℕ, _≤_, _<_}
 use native.Mathlib.Omega.{arith}
 use native.Mathlib.Decide.{decLe}
 use lib.Dec.{T, eqb, leb, eqb→eq, not-T}
@@ -18,10 +18,10 @@ use Rattle.register.proofs.Regular.{finished-by, unfinished-from, unfin
 use Rattle.register.proofs.Theorem.{served}
 
 module _ (P : Plan) (G : Good P) (r : Read) where
-  -- a write of a pair below the last finished one has finished too
-  not-below : (w : Write) → In w (P .writes) → w .pair < lastFinished P r → r .begun < w .begun + P .delta → ⊥
-  not-below w i h u = elim (last-cases P r) [
-    | inl e ↦ omega (arith, G .initial-least w i)
+  -- the write of a pair below the last finished one ended before the read's begin
+  ended-earlier : (w : Write) → In w (P .writes) → w .pair < lastFinished P r → writeEnd P w < r .begun
+  ended-earlier w i h = elim (last-cases P r) [
+    | inl e ↦ absurd (omega (arith, G .initial-least w i))
     | inr (v, j, e, f) ↦ omega (arith, G .rising w v i j (omega arith), finished-by P r v f)
   ]
 
@@ -38,11 +38,11 @@ module _ (P : Plan) (G : Good P) (r : Read) where
           let (w, i, t) = any-in meant (P .writes) h in
           let e = eqb→eq (w .pair) p (and-l (eqb (w .pair) p) (concurrent P r w) t) in
           let n = and-l (not (finished P r w)) (leb (w .begun) (readEnd P r)) (and-r (eqb (w .pair) p) (concurrent P r w) t) in
-          not-below w i (omega arith) (unfinished-from P r w n)
+          omega (arith, ended-earlier w i (omega arith), unfinished-from P r w n)
 
   -- the write has finished, and no later one has
   pub last-just-set : (w : Write) → In w (P .writes) → writeEnd P w ≡ r .begun → lastFinished P r ≡ w .pair
-  last-just-set w i e = omega (arith, no-lower, no-higher (last-cases P r))
+  last-just-set w i e = omega (arith, no-lower, no-higher)
     where
       no-lower : w .pair ≤ lastFinished P r
       no-lower = elim (decLe (w .pair) (lastFinished P r)) [
@@ -50,13 +50,8 @@ module _ (P : Plan) (G : Good P) (r : Read) where
         | no h ↦ absurd (omega (arith, unfinished-from P r w (unfinished-above P r w i (omega arith))))
       ]
 
-      no-higher : (lastFinished P r ≡ P .initial) ⊎ ((v : Write) × In v (P .writes) × (lastFinished P r ≡ v .pair) × T (finished P r v))
-          → lastFinished P r ≤ w .pair
-      no-higher (inl q) = omega (arith, G .initial-least w i)
-      no-higher (inr (v, j, q, f)) = elim (decLe (v .pair) (w .pair)) [
-        | yes h ↦ omega arith
-        | no h ↦ absurd (omega (arith, G .rising w v i j (omega arith), finished-by P r v f))
-      ]
+      no-higher : lastFinished P r ≤ w .pair
+      no-higher = elim (decLe (lastFinished P r) (w .pair)) [ yes h ↦ h | no h ↦ absurd (omega (arith, ended-earlier w i (omega arith))) ]
 
 pub just-set-owed : (P : Plan) → Good P → Enough P → (r : Read) → In r (P .reads) → (w : Write) → In w (P .writes) → writeEnd P w ≡ r .begun
     → OwedJustSet P r w
