@@ -92,7 +92,9 @@ size_t register_look(const uint8_t *plan, size_t plan_length,
                      size_t server, size_t tick,
                      uint8_t *pairs, size_t pairs_length);
 
-/* Judges answers.  Returns 1 if each is one that a regular register may give, else 0. */
+/* Judges answers.  Returns 1 if each is one that a regular register may give, else 0.  It may give
+ * the value of the last write that ended at or below the read's begin (the initial value if none
+ * did), and that of a write that ended after it and began by the read's end. */
 size_t register_judge(const uint8_t *plan, size_t plan_length,
                       const uint8_t *answers, size_t answers_length);
 

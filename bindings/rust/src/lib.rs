@@ -77,7 +77,9 @@ pub fn look_into(
     refusal::number_or_refusal(result).map(seen::condition_and_count)
 }
 
-/// Judges answers to a plan's reads: whether each is one that a regular register may give.
+/// Judges answers to a plan's reads: whether each is one that a regular register may give. It may
+/// give the value of the last write that ended at or below the read's begin (the initial value if
+/// none did), and that of a write that ended after it and began by the read's end.
 pub fn judge(plan: &[u8], answers: &[u8]) -> Result<bool, Refusal> {
     refusal::number_or_refusal(raw::judge(plan, answers)).map(|yes| yes == 1)
 }

@@ -9,6 +9,7 @@ const FIRST: &[u8] = include_bytes!("../../../examples/first.plan");
 const TAKEOVER: &[u8] = include_bytes!("../../../examples/takeover.plan");
 const RECOVERY: &[u8] = include_bytes!("../../../examples/recovery.plan");
 const CONCURRENT: &[u8] = include_bytes!("../../../examples/concurrent.plan");
+const JUST_SET: &[u8] = include_bytes!("../../../examples/just-set.plan");
 const TOO_FEW: &[u8] = include_bytes!("../../../examples/too-few.plan");
 
 /// What lent bytes hold before a call.
@@ -63,6 +64,7 @@ fn answers_of_the_examples() {
         (TAKEOVER, vec![answer(3, 1, 100, 1, 4)]),
         (RECOVERY, vec![answer(9, 1, 100, 1, 4)]),
         (CONCURRENT, vec![answer(5, 1, 101, 2, 4), answer(5, 2, 101, 2, 4)]),
+        (JUST_SET, vec![answer(2, 1, 100, 1, 4)]),
     ];
     for (plan, wanted) in wanted {
         let lent = played(plan);
@@ -152,6 +154,8 @@ fn judge_says_no() {
     assert_eq!(judge(TAKEOVER, &flipped(&right, 10)), Ok(false));
     assert_eq!(judge(TAKEOVER, &flipped(&right, 33)), Ok(false));
     assert_eq!(judge(TAKEOVER, &flipped(&right, 34)), Ok(true));
+    // Value 7, number 0, to a read that begins in the tick in which 100 is set.
+    assert_eq!(judge(JUST_SET, &[0x04, 0x40, 0x01, 0xc0, 0x08]), Ok(false));
 }
 
 #[test]
