@@ -1,2 +1,3 @@
 pub mod Starred
 pub mod NotEmpty
+pub mod JustSet

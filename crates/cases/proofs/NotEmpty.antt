@@ -1,9 +1,7 @@
--- Point 3 is not empty: two accepted plans, one for each k, with a takeover in each period, forged votes and forged replies; and a third for what
--- request Four adds.
+-- Point 3 is not empty: two accepted plans, one for each k, with a takeover in each period, forged votes and forged replies.
 -- What the plans hold and what their reads answer is computed from the bytes; the rest is the theorem.
 use mathlib.Core.Path.{_≡_, refl, ap}
 use mathlib.Core.Bool.{Bool, true}
-use mathlib.Core.Logic.{inl, inr}
 use mathlib.Core.List.{List, _++_}
 use Prim.Native.Nat.{ℕ, _≤_}
 use lib.Dec.{ltb}
@@ -11,7 +9,6 @@ use lib.ListN.{length, take}
 use Rattle.register.specs.Lists.{allUpTo, filter}
 use Rattle.register.specs.Plan.{Plan, Forgery, stamped, kk}
 use Rattle.register.specs.Reading.{countOf}
-use Rattle.register.specs.Promise.{OwedJustSet}
 use Rattle.plan.specs.Header.{headerOf, moves}
 use Rattle.plan.specs.Packed.{planOf}
 use Rattle.plan.specs.Check.{Outcome, result, checkOf}
@@ -19,10 +16,9 @@ use Rattle.answers.specs.Answers.{bytesOf, answersOf}
 use Rattle.simulator.specs.Play.{playOf}
 use Rattle.simulator.specs.Judge.{readOf, judgeOf}
 use Rattle.simulator.specs.PointThree.{PointThree}
-use Rattle.cases.specs.Starred.{just-set, checks, Holds}
-use Rattle.cases.proofs.Starred.{opened, ended-as-begun-holds}
+use Rattle.cases.proofs.Starred.{opened}
 use Rattle.simulator.proofs.Played.{play-plays}
-use Rattle.simulator.proofs.PointThree.{pointThree, justSetOwed}
+use Rattle.simulator.proofs.PointThree.{pointThree}
 
 -- n = 5, f = 1, δ = 1, Δ = 2, H = 8: value 9 written at 0, 8 at 4, reads at 2 and 5
 unfoldable pub four-periods : List ℕ
@@ -110,9 +106,3 @@ pub six-judged : (answers workspace : List ℕ) → 5 ≤ length answers → 600
 unfolding factsOf
 six-judged answers workspace a b =
     six-point .judged answers workspace 1 (play-plays 16 six-periods 1 (ap (λ (x : Facts). x .outcome) six-facts) answers workspace a b)
-
--- A read that begins as a write ends: the case of request Four is one that its law speaks of.
-pub just-set-case : OwedJustSet (planOf 16 just-set) (record { begun = 2; reader = 1 }) (record { begun = 0; pair = stamped 16 100 1 })
-unfolding opened Holds
-just-set-case = justSetOwed 16 just-set 1 (ended-as-begun-holds (checks just-set (result 1)) (inr (inl refl))) (record { begun = 2; reader = 1 }) (inl refl)
-    (record { begun = 0; pair = stamped 16 100 1 }) (inl refl) refl
