@@ -1,2 +1,4 @@
 pub mod Field
 pub mod Fill
+pub mod Layout
+pub mod Writing

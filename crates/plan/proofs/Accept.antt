@@ -8,11 +8,12 @@ use native.Mathlib.Omega.{arith}
 use lib.Dec.{T, leb, eqb, leb→le, eqb→eq}
 use lib.ListN.{length}
 use Rattle.bits.proofs.Laws.{field-lt}
+use Rattle.bits.specs.Fill.{bytesFor}
 use Rattle.register.proofs.Logic.{T-eq}
 use Rattle.register.proofs.Good.{Enough}
 use Rattle.plan.specs.Header.{Header, headerOf, headerBits, bitLength, kIn}
 use Rattle.plan.specs.Packed.{planOf}
-use Rattle.plan.specs.Check.{Outcome, result, unless, checkOf, bytesFor, headerInRange, enoughServers, placementsStand, operationsStand, forgeriesStand, delaysStand, finalBitsZero}
+use Rattle.plan.specs.Check.{Outcome, result, unless, checkOf, headerInRange, enoughServers, placementsStand, operationsStand, forgeriesStand, delaysStand, finalBitsZero}
 use Rattle.plan.specs.Playable.{Playable}
 use Rattle.plan.specs.Shape.{Ranged}
 use Rattle.plan.proofs.Tests.{passed}

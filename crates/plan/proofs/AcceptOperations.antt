@@ -111,4 +111,4 @@ module _ (w : ℕ) (s : List ℕ) (A : Playable w s) where
 
   pub value-lt : (i : ℕ) → operationOf w s (headerOf w s) i .value < 2 ^ w
   unfolding operationOf
-  value-lt i = field-lt s (operationAt w (headerOf w s) i + 10) w
+  value-lt i = field-lt s (operationAt w (headerOf w s) i + 7 + 3) w

@@ -6,9 +6,10 @@ use mathlib.Core.List.{List}
 use Prim.Native.Nat.{ℕ}
 use lib.Dec.{leb, eqb}
 use lib.ListN.{length}
+use Rattle.bits.specs.Fill.{bytesFor}
 use Rattle.plan.specs.Header.{Header, headerOf, bitLength}
 use Rattle.plan.specs.Packed.{planOf}
-use Rattle.plan.specs.Check.{Outcome, refused, result, unless, bytesFor, headerInRange, enoughServers, placementsStand, operationsStand, forgeriesStand, delaysStand, finalBitsZero, checkOf}
+use Rattle.plan.specs.Check.{Outcome, refused, result, unless, headerInRange, enoughServers, placementsStand, operationsStand, forgeriesStand, delaysStand, finalBitsZero, checkOf}
 
 -- from test 8 on, from test 7 on ..
 module _ (s : List ℕ) where

@@ -7,10 +7,10 @@ use native.Mathlib.Omega.{arith}
 use lib.Dec.{eqb, lit≤}
 use lib.ListN.{length}
 use Rattle.bits.specs.Field.{fieldOf}
-use Rattle.bits.specs.Fill.{fill}
+use Rattle.bits.specs.Fill.{fill, bytesFor}
 use Rattle.bits.proofs.Filling.{fill-rounds, fill-units}
 use Rattle.plan.specs.Header.{Header, bitLength}
-use Rattle.plan.specs.Check.{bytesFor, finalBitsZero}
+use Rattle.plan.specs.Check.{finalBitsZero}
 
 -- a plan's bytes are its bits by eight, rounded up
 pub bytes-rounded : (bits : ℕ) → bytesFor bits ≡ (bits + 7) / 8

@@ -5,10 +5,11 @@ use mathlib.Core.List.{List}
 use Prim.Native.Nat.{ℕ, _≤_}
 use native.Mathlib.Omega.{arith}
 use lib.ListN.{length}
+use Rattle.bits.specs.Fill.{bytesFor}
 use Rattle.register.proofs.Logic.{T-eq}
 use Rattle.plan.specs.Header.{Header, headerOf, moves, parties, bitLength}
 use Rattle.plan.specs.Limits.{impliedBytes}
-use Rattle.plan.specs.Check.{bytesFor, headerInRange}
+use Rattle.plan.specs.Check.{headerInRange}
 use Rattle.plan.specs.Playable.{Playable}
 use Rattle.plan.specs.Shape.{Ranged, Sized}
 use Rattle.plan.proofs.Laws.{moves-few, table-few}

@@ -10,9 +10,10 @@ use lib.Seq.{length-take-le}
 use borrow.Author.Tests.{le-leb, ne-eqb}
 use Rattle.bits.specs.Field.{fieldOf}
 use Rattle.bits.proofs.Joined.{field-left}
+use Rattle.bits.specs.Fill.{bytesFor}
 use Rattle.plan.specs.Header.{Header, headerOf, bitLength}
 use Rattle.plan.specs.Limits.{impliedBytes}
-use Rattle.plan.specs.Check.{Outcome, refused, unless, checkOf, headerInRange, enoughServers, bytesFor}
+use Rattle.plan.specs.Check.{Outcome, refused, unless, checkOf, headerInRange, enoughServers}
 use Rattle.plan.proofs.Ranges.{ranged-header}
 use Rattle.plan.proofs.Sizes.{implied-few}
 

@@ -5,10 +5,10 @@ use Prim.Native.Nat.{ℕ, _+_, _*_, _-_, _/_}
 use lib.Dec.{leb, ltb, eqb}
 use lib.ListN.{length}
 use Rattle.bits.specs.Field.{fieldOf}
-use Rattle.bits.specs.Fill.{fill}
+use Rattle.bits.specs.Fill.{fill, bytesFor}
 use Rattle.register.specs.Lists.{count, any, allUpTo}
 use Rattle.register.specs.Plan.{Plan, Read, Forgery, readEnd}
-use Rattle.plan.specs.Header.{Header, headerOf, headerBits, forgeryBits, moves, parties, placementAt, operationAt, forgeryAt, bitLength, kIn}
+use Rattle.plan.specs.Header.{Header, headerOf, headerBits, placementBits, keyBits, forgeryBits, moves, parties, placementAt, operationAt, forgeryAt, bitLength, kIn}
 use Rattle.plan.specs.Parts.{Operation, inPlacement, operationOf, forgeryOf, delayOf, isLink}
 use Rattle.plan.specs.Packed.{planOf}
 
@@ -35,10 +35,6 @@ headerInRange h =
 unfoldable pub enoughServers : Header → Bool
 enoughServers h = leb ((kIn h + 3) * h .f + 1) (h .n)
 
--- the bytes that hold so many bits, and those that fill the last byte (document 02, 'Three')
-abbrev pub bytesFor : ℕ → ℕ
-bytesFor bits = (bits + fill 8 bits) / 8
-
 -- when an operation ends
 unfoldable pub endOf : Header → Operation → ℕ
 endOf h o = o .at + cond (eqb (o .party) 0) (h .delta) (2 * h .delta)
@@ -46,11 +42,11 @@ endOf h o = o .at + cond (eqb (o .party) 0) (h .delta) (2 * h .delta)
 module _ (w : ℕ) (s : List ℕ) (h : Header) where
   -- 'at most f ones, none past box n−1'
   unfoldable pub placementStands : ℕ → Bool
-  placementStands i = leb (count (inPlacement w s h i) (h .n)) (h .f) && eqb (fieldOf s (placementAt w h i + h .n) (16 - h .n)) 0
+  placementStands i = leb (count (inPlacement w s h i) (h .n)) (h .f) && eqb (fieldOf s (placementAt w h i + h .n) (placementBits - h .n)) 0
 
   -- 'Operations strictly rise by tick, then party': the first ten bits, as a number
   unfoldable pub operationRises : ℕ → Bool
-  operationRises i = eqb i 0 || ltb (fieldOf s (operationAt w h (i - 1)) 10) (fieldOf s (operationAt w h i) 10)
+  operationRises i = eqb i 0 || ltb (fieldOf s (operationAt w h (i - 1)) (keyBits w)) (fieldOf s (operationAt w h i) (keyBits w))
 
   -- 'A party's next operation begins later than its last one ended'
   unfoldable pub operationWaits : ℕ → Bool

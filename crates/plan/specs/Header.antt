@@ -1,12 +1,11 @@
 -- The header of a packed plan and where the parts behind it stand (document 01, 'The plan, packed').
--- w is the width of a value (document 01: a cue), 16 in form one.
 use mathlib.Core.List.{List}
 use Prim.Native.Nat.{ℕ, _+_, _*_, _-_, _/_}
-use Rattle.bits.specs.Field.{fieldOf}
+use lib.ListN.{getD, take}
+use Rattle.bits.specs.Layout.{total, numbersAt}
 use Rattle.register.specs.Plan.{kOf}
+use Rattle.plan.specs.Widths.{headerWidths, placementWidths, operationWidths, forgeryWidths, delayWidths}
 
--- 'n 5 bits (1–16), f 2 bits, δ 4 (1–15), Δ 6 (δ–63), s 3 (1–4), ticks H 8 (1–128), start cue 16, operations 8, forgeries 11 (at most
--- 1,024), one zero bit'
 pub record Header : Type 0 where
   pub n : ℕ
   pub f : ℕ
@@ -19,28 +18,42 @@ pub record Header : Type 0 where
   pub forgeries : ℕ
   pub zero-bit : ℕ
 
-unfoldable pub headerOf : ℕ → List ℕ → Header
-headerOf w s = record {
-  n = fieldOf s 0 5;
-  f = fieldOf s 5 2;
-  delta = fieldOf s 7 4;
-  period = fieldOf s 11 6;
-  readers = fieldOf s 17 3;
-  ticks = fieldOf s 20 8;
-  initial = fieldOf s 28 w;
-  operations = fieldOf s (28 + w) 8;
-  forgeries = fieldOf s (36 + w) 11;
-  zero-bit = fieldOf s (47 + w) 1;
+-- the header whose fields, in packed order, are these numbers
+abbrev pub headerFrom : List ℕ → Header
+headerFrom xs = record {
+  n = getD xs 0 0;
+  f = getD xs 1 0;
+  delta = getD xs 2 0;
+  period = getD xs 3 0;
+  readers = getD xs 4 0;
+  ticks = getD xs 5 0;
+  initial = getD xs 6 0;
+  operations = getD xs 7 0;
+  forgeries = getD xs 8 0;
+  zero-bit = getD xs 9 0;
 }
 
+unfoldable pub headerOf : ℕ → List ℕ → Header
+headerOf w s = headerFrom (numbersAt (headerWidths w) s 0)
+
 abbrev pub headerBits : ℕ → ℕ
-headerBits w = 48 + w
+headerBits w = total (headerWidths w)
+
+abbrev pub placementBits : ℕ
+placementBits = total placementWidths
 
 abbrev pub operationBits : ℕ → ℕ
-operationBits w = 10 + w
+operationBits w = total (operationWidths w)
+
+-- the tick and the party of an operation, by which operations rise
+abbrev pub keyBits : ℕ → ℕ
+keyBits w = total (take 2 (operationWidths w))
 
 abbrev pub forgeryBits : ℕ → ℕ
-forgeryBits w = 24 + w
+forgeryBits w = total (forgeryWidths w)
+
+abbrev pub delayBits : ℕ
+delayBits = total delayWidths
 
 -- 'for each move below H': ticks 0, Δ, 2Δ ..
 unfoldable pub moves : Header → ℕ
@@ -53,7 +66,7 @@ parties h = h .n + 1 + h .readers
 module _ (w : ℕ) (h : Header) where
   -- the first bit of placement i, operation i, forgery i
   abbrev pub placementAt : ℕ → ℕ
-  placementAt i = headerBits w + 16 * i
+  placementAt i = headerBits w + placementBits * i
 
   abbrev pub operationAt : ℕ → ℕ
   operationAt i = placementAt (moves h) + operationBits w * i
@@ -63,11 +76,11 @@ module _ (w : ℕ) (h : Header) where
 
   -- of the delay of tick t from party i to party j: 'for each tick, sender and receiver in that order'
   abbrev pub delayAt : ℕ → ℕ → ℕ → ℕ
-  delayAt t i j = forgeryAt (h .forgeries) + 4 * ((t * parties h + i) * parties h + j)
+  delayAt t i j = forgeryAt (h .forgeries) + delayBits * ((t * parties h + i) * parties h + j)
 
   -- all bits before the final zero bits
   abbrev pub bitLength : ℕ
-  bitLength = forgeryAt (h .forgeries) + 4 * (h .ticks * (parties h * parties h))
+  bitLength = forgeryAt (h .forgeries) + delayBits * (h .ticks * (parties h * parties h))
 
 -- k of a header
 abbrev pub kIn : Header → ℕ

@@ -3,16 +3,32 @@ use mathlib.Core.Bool.{Bool, not, _&&_, cond}
 use mathlib.Core.List.{List, [], _∷_, map}
 use Prim.Native.Nat.{ℕ, _+_}
 use lib.Dec.{ltb, eqb}
+use lib.ListN.{getD}
 use Rattle.bits.specs.Field.{fieldOf}
+use Rattle.bits.specs.Layout.{numbersAt}
 use Rattle.register.specs.Lists.{tab, filter}
 use Rattle.register.specs.Plan.{Write, Read, Forgery, stamped}
-use Rattle.plan.specs.Header.{Header, placementAt, operationAt, forgeryAt, delayAt}
+use Rattle.plan.specs.Widths.{operationWidths, forgeryWidths}
+use Rattle.plan.specs.Header.{Header, placementAt, operationAt, forgeryAt, delayAt, delayBits}
 
--- 'operations, 26 bits: tick 7, party 3 (0 desk, else a screen), cue 16 (0 for a read)'
 pub record Operation : Type 0 where
   pub at : ℕ
   pub party : ℕ
   pub value : ℕ
+
+-- the operation, and the forgery, whose fields in packed order are these numbers
+abbrev pub operationFrom : List ℕ → Operation
+operationFrom xs = record { at = getD xs 0 0; party = getD xs 1 0; value = getD xs 2 0 }
+
+abbrev pub forgeryFrom : ℕ → List ℕ → Forgery
+forgeryFrom w xs = record { at = getD xs 0 0; from = getD xs 1 0; to = getD xs 2 0; pair = stamped w (getD xs 3 0) (getD xs 4 0) }
+
+-- those from bit `at` on
+abbrev pub operationIn : ℕ → List ℕ → ℕ → Operation
+operationIn w s at = operationFrom (numbersAt (operationWidths w) s at)
+
+abbrev pub forgeryIn : ℕ → List ℕ → ℕ → Forgery
+forgeryIn w s at = forgeryFrom w (numbersAt (forgeryWidths w) s at)
 
 module _ (w : ℕ) (s : List ℕ) (h : Header) where
   -- 'box 0 is the top bit': is server b in placement i
@@ -20,24 +36,13 @@ module _ (w : ℕ) (s : List ℕ) (h : Header) where
   inPlacement i b = eqb (fieldOf s (placementAt w h i + b) 1) 1
 
   unfoldable pub operationOf : ℕ → Operation
-  operationOf i = record {
-    at = fieldOf s (operationAt w h i) 7;
-    party = fieldOf s (operationAt w h i + 7) 3;
-    value = fieldOf s (operationAt w h i + 10) w;
-  }
+  operationOf i = operationIn w s (operationAt w h i)
 
-  -- 'forgeries, 40 bits: tick 7, sender 4, receiver 5, cue 16, number 8'
   unfoldable pub forgeryOf : ℕ → Forgery
-  forgeryOf i = record {
-    at = fieldOf s (forgeryAt w h i) 7;
-    from = fieldOf s (forgeryAt w h i + 7) 4;
-    to = fieldOf s (forgeryAt w h i + 11) 5;
-    pair = stamped w (fieldOf s (forgeryAt w h i + 16) w) (fieldOf s (forgeryAt w h i + 16 + w) 8);
-  }
+  forgeryOf i = forgeryIn w s (forgeryAt w h i)
 
-  -- 'delays, 4 bits for each tick, sender and receiver in that order'
   unfoldable pub delayOf : ℕ → ℕ → ℕ → ℕ
-  delayOf t i j = fieldOf s (delayAt w h t i j) 4
+  delayOf t i j = fieldOf s (delayAt w h t i j) delayBits
 
   unfoldable pub operationsOf : List Operation
   operationsOf = tab (h .operations) operationOf

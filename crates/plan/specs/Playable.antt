@@ -4,8 +4,9 @@ use mathlib.Core.List.{List}
 use Prim.Native.Nat.{ℕ}
 use lib.Dec.{T, leb, eqb}
 use lib.ListN.{length}
+use Rattle.bits.specs.Fill.{bytesFor}
 use Rattle.plan.specs.Header.{headerOf, headerBits, bitLength}
-use Rattle.plan.specs.Check.{bytesFor, headerInRange, placementsStand, operationsStand, forgeriesStand, delaysStand, finalBitsZero}
+use Rattle.plan.specs.Check.{headerInRange, placementsStand, operationsStand, forgeriesStand, delaysStand, finalBitsZero}
 
 -- the tests 1, 2 and 4 to 8 of Check, in order
 pub record Playable (w : ℕ) (s : List ℕ) : Type 0 where

@@ -3,9 +3,9 @@ use mathlib.Core.Path.{_≡_}
 use mathlib.Core.List.{List}
 use Prim.Native.Nat.{ℕ, _≤_}
 use lib.ListN.{length}
+use Rattle.bits.specs.Fill.{bytesFor}
 use Rattle.plan.specs.declared.header.Shape.{Shape}
 use Rattle.plan.specs.Header.{Header, moves, bitLength}
-use Rattle.plan.specs.Check.{bytesFor}
 
 abbrev pub shape : Shape → Header
 shape x = record {

@@ -4,9 +4,10 @@ use crate::logic::is_within;
 ghost use mathlib.Core.Path.{_≡_};
 ghost use Prim.Native.Nat.{_+_, _*_, _≤_, _<_};
 ghost use lib.ListN.{length};
+ghost use Rattle.bits.specs.Fill.{bytesFor};
 ghost use Rattle.plan.specs.Header.{headerOf, kIn, moves, parties, operationAt, forgeryAt, bitLength};
 ghost use Rattle.plan.specs.Limits.{mostBytes, impliedBytes, mostReads};
-ghost use Rattle.plan.specs.Check.{headerInRange, enoughServers, bytesFor};
+ghost use Rattle.plan.specs.Check.{headerInRange, enoughServers};
 ghost use Rattle.plan.specs.Shape.{shape, Ranged};
 
 // The shape of a cluster and of its plan (document 01: of the hall).
