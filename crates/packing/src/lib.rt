@@ -1,0 +1,47 @@
+// Numbers packed by lists of widths: whether they fit their fields, and their bits written.
+ghost use mathlib.Core.Path.{_≡_};
+ghost use Prim.Native.Nat.{_*_, _^_, _≤_};
+ghost use lib.Dec.{T, ltb};
+ghost use lib.ListN.{length, take};
+ghost use Rattle.bits.specs.Layout.{records, fits};
+ghost use Rattle.records.specs.Records.{noWider};
+
+// Has the number no more bits than this.
+fn is_narrow(number: u32, width: u8) -> bool
+    requires { ⌜ width ≤ 32 ⌝ }
+    ensures { λ r. ⌜ r ≡ ltb number (2 ^ width) ⌝ }
+{
+    (number as u64) < (1u64 << width)
+}
+
+// Do the first numbers fit the fields of one record.
+pub fn fits_one(widths: &[u8], numbers: &[u32]) -> bool
+    requires { ⌜ T (noWider 32 (now widths)) × (length (now widths) ≤ length (now numbers)) ⌝ }
+    ensures { λ r. ⌜ r ≡ fits (now (widths .entry)) (take (length (now (widths .entry))) (now (numbers .entry))) ⌝ }
+{
+    let mut j = 0;
+    while j < widths.len() {
+        if !is_narrow(numbers[j], widths[j]) {
+            return false;
+        }
+        j += 1;
+    }
+    true
+}
+
+// Do the numbers fit the fields of so many records, one behind the other.
+pub fn fits_all(widths: &[u8], numbers: &[u32], count: usize) -> bool
+    requires { ⌜ T (noWider 32 (now widths)) × (length (now numbers) ≡ length (now widths) * count) ⌝ }
+    ensures { λ r. ⌜ r ≡ fits (records count (now (widths .entry))) (now (numbers .entry)) ⌝ }
+{
+    let fields = widths.len();
+    let mut i = 0;
+    while i < count {
+        let from = fields * i;
+        if !fits_one(widths, &numbers[from..]) {
+            return false;
+        }
+        i += 1;
+    }
+    true
+}
