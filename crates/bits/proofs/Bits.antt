@@ -14,7 +14,7 @@ use Rattle.bits.specs.Field.{bitOf, fieldOf}
 use Rattle.bits.specs.Layout.{bitsOf, wordOf}
 use Rattle.bits.proofs.Laws.{bit-lt, field-zero, field-suc, field-byte}
 
-bits-zero : (x : ℕ) → bitsOf 0 x ≡ []
+pub bits-zero : (x : ℕ) → bitsOf 0 x ≡ []
 unfolding bitsOf
 bits-zero x = refl
 
@@ -56,6 +56,12 @@ bits-small (suc w) x i = elim (decLt i w) [
 pub bits-cut : (a b x : ℕ) → bitsOf (a + b) x ≡ bitsOf a (x / 2 ^ b) ++ bitsOf b x
 bits-cut a zero x = rw (add-zero, pow-zero, div-one, bits-zero x, append-nil)
 bits-cut a (suc b) x = rw (add-suc, bits-suc (a + b) x, bits-suc b x, bits-cut a b (x / 2), div-div-eq-div-mul, pow-succ', append-assoc)
+
+-- the bit with r bits behind it
+pub bits-at : (i r x : ℕ) → getD (bitsOf (suc i + r) x) i 0 ≡ x / 2 ^ r % 2
+bits-at i r x =
+    rw (bits-cut (suc i) r x, List·getD-append (bitsOf (suc i) (x / 2 ^ r)) (bitsOf r x) 0 i (rw length-bitsOf (omega arith)))
+    (bits-last i (x / 2 ^ r))
 
 -- only the lowest bits count
 pub bits-low : (w x : ℕ) → bitsOf w (x % 2 ^ w) ≡ bitsOf w x

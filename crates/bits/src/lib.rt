@@ -1,8 +1,10 @@
 ghost use mathlib.Core.Path.{_≡_};
-ghost use Prim.Native.Nat.{_+_, _*_, _^_, _≤_, _<_};
+ghost use Prim.Native.Nat.{_+_, _*_, _-_, _%_, _^_, _≤_, _<_};
 ghost use lib.ListN.{length};
 ghost use Rattle.bits.specs.Field.{fieldOf};
 ghost use Rattle.bits.specs.Fill.{fill};
+ghost use Rattle.bits.specs.Layout.{bitsOf};
+ghost use Rattle.bits.specs.Writing.{Wrote};
 
 fn wide(x: u8) -> u64
     ensures { λ r. ⌜ r ≡ x ⌝ }
@@ -54,4 +56,38 @@ pub fn fill(bits: usize) -> usize
     ensures { λ r. ⌜ r ≡ fill 8 bits ⌝ }
 {
     (8 - bits % 8) % 8
+}
+
+// The n bytes from byte b on get the lowest bits of this number.
+fn put_bytes(out: &mut [u8], b: usize, n: usize, value: u64)
+    requires { ⌜ (n ≤ 8) × (b + n ≤ length (now out)) ⌝ }
+    ensures { λ _. ⌜ Wrote (now (out .entry)) (now (out .exit)) (8 * b) (bitsOf (8 * n) value) ⌝ }
+{
+    let mut k = 0;
+    while k < n {
+        out[b + k] = ((value >> (8 * (n - 1 - k))) % 256) as u8;
+        k += 1;
+    }
+}
+
+// The bits of x, and behind them the lowest `width` bits of y.
+pub fn behind(x: u64, width: usize, y: u64) -> u64
+    requires { ⌜ (width < 64) × (x < 2 ^ (64 - width)) ⌝ }
+    ensures { λ r. ⌜ r ≡ x * 2 ^ width + y % 2 ^ width ⌝ }
+{
+    (x << width) + y % (1 << width)
+}
+
+// Writes the lowest `width` bits of the number into those from bit `at` on; every other bit stays:
+// the bytes that hold them are put together anew, of the bits above, the field and the bits below.
+pub fn put(out: &mut [u8], at: usize, width: usize, value: u64)
+    requires { ⌜ (width ≤ 57) × (at + width ≤ 8 * length (now out)) × (at < 2 ^ 60) ⌝ }
+    ensures { λ _. ⌜ Wrote (now (out .entry)) (now (out .exit)) at (bitsOf width value) ⌝ }
+{
+    let off = at % 8;
+    let low = fill(off + width);
+    let n = (off + width + low) / 8;
+    let all = bytes_from(out, at / 8, n);
+    let above = behind(all >> low >> width, width, value);
+    put_bytes(out, at / 8, n, behind(above, low, all));
 }
