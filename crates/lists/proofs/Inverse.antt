@@ -1,0 +1,170 @@
+-- Lists packed and read back, and a plan read and packed again, for every width of a value.
+-- It stands on the laws of packing by lists of widths.
+use mathlib.Core.Path.{_≡_, _∙_, refl, ap, sym, subst}
+use mathlib.Core.Bool.{true}
+use mathlib.Core.List.{List, [], _++_, append-assoc, append-nil}
+use Prim.Native.Nat.{ℕ, zero, suc, _+_, _*_}
+use native.Mathlib.Omega.{arith}
+use lib.Dec.{lit<}
+use lib.ListN.{length, length-append}
+use Rattle.bits.specs.Field.{fieldOf}
+use Rattle.bits.specs.Fill.{fill, bytesFor}
+use Rattle.bits.specs.Layout.{total, records, numbersAt, fits, bitsOf, packedBits, inBytes}
+use Rattle.bits.proofs.Packing as packing
+use Rattle.bits.proofs.Packing.{Small, Bytes}
+use Rattle.bits.proofs.Records as record-laws
+use Rattle.plan.specs.Widths as widths
+use Rattle.plan.specs.Header as header
+use Rattle.plan.specs.Header.{Header, headerOf, bitLength, moves}
+use Rattle.lists.specs.Lists.{Lists, listed, listsOf, planBits, packedPlan, placementsWidths, operationsWidths, forgeriesWidths, delaysWidths, delayCount}
+
+-- every number fits its field, and there is one for each
+pub record Fit (w : ℕ) (l : Lists) : Type 0 where
+  pub header : fits (widths.headerWidths w) (l .header) ≡ true
+  pub placements : fits (placementsWidths w (listed w l)) (l .placements) ≡ true
+  pub operations : fits (operationsWidths w (listed w l)) (l .operations) ≡ true
+  pub forgeries : fits (forgeriesWidths w (listed w l)) (l .forgeries) ≡ true
+  pub delays : fits (delaysWidths w (listed w l)) (l .delays) ≡ true
+
+records-total : (m n : ℕ) (vs xs : List ℕ) → total vs ≡ n → fits (records m vs) xs ≡ true → length (packedBits (records m vs) xs) ≡ n * m
+records-total m n vs xs e f = packing.packed-length (records m vs) xs (packing.fits-length (records m vs) xs f) ∙ record-laws.total-records vs m ∙ ap (λ (k : ℕ). k * m) e
+
+module _ (w : ℕ) (l : Lists) where
+  -- the bits of each part
+  abbrev H : List ℕ
+  H = packedBits (widths.headerWidths w) (l .header)
+
+  abbrev P : List ℕ
+  P = packedBits (placementsWidths w (listed w l)) (l .placements)
+
+  abbrev O : List ℕ
+  O = packedBits (operationsWidths w (listed w l)) (l .operations)
+
+  abbrev F : List ℕ
+  F = packedBits (forgeriesWidths w (listed w l)) (l .forgeries)
+
+  abbrev D : List ℕ
+  D = packedBits (delaysWidths w (listed w l)) (l .delays)
+
+  small-H : Small H
+  small-H = packing.packed-small (widths.headerWidths w) (l .header)
+
+  small-P : Small P
+  small-P = packing.packed-small (placementsWidths w (listed w l)) (l .placements)
+
+  small-O : Small O
+  small-O = packing.packed-small (operationsWidths w (listed w l)) (l .operations)
+
+  small-F : Small F
+  small-F = packing.packed-small (forgeriesWidths w (listed w l)) (l .forgeries)
+
+  small-D : Small D
+  small-D = packing.packed-small (delaysWidths w (listed w l)) (l .delays)
+
+  -- what stands behind the operations, the placements, the header; what stands before the operations, the forgeries, the delays
+  small-FD : Small (F ++ D)
+  small-FD = packing.small-append F D small-F small-D
+
+  small-OFD : Small (O ++ (F ++ D))
+  small-OFD = packing.small-append O (F ++ D) small-O small-FD
+
+  small-POFD : Small (P ++ (O ++ (F ++ D)))
+  small-POFD = packing.small-append P (O ++ (F ++ D)) small-P small-OFD
+
+  small-HP : Small (H ++ P)
+  small-HP = packing.small-append H P small-H small-P
+
+  small-HPO : Small ((H ++ P) ++ O)
+  small-HPO = packing.small-append (H ++ P) O small-HP small-O
+
+  small-HPOF : Small (((H ++ P) ++ O) ++ F)
+  small-HPOF = packing.small-append ((H ++ P) ++ O) F small-HPO small-F
+
+  pub plan-small : Small (planBits w l)
+  unfolding planBits
+  plan-small = packing.small-append H (P ++ (O ++ (F ++ D))) small-H small-POFD
+
+  -- the fields of one part, between those before and behind it
+  part-back : (vs xs before behind : List ℕ) (at : ℕ) → fits vs xs ≡ true → Small before → Small behind
+      → before ++ (packedBits vs xs ++ behind) ≡ planBits w l → length before ≡ at → numbersAt vs (packedPlan w l) at ≡ xs
+  unfolding packedPlan
+  part-back vs xs before behind at f a b e place = rw (← e, ← place) (packing.numbers-packed vs xs before behind f a b)
+
+  -- the header of a packed plan is the one listed, whatever the other lists are
+  pub header-back : fits (widths.headerWidths w) (l .header) ≡ true → numbersAt (widths.headerWidths w) (packedPlan w l) 0 ≡ l .header
+  unfolding planBits
+  header-back f =
+      part-back (widths.headerWidths w) (l .header) [] (P ++ (O ++ (F ++ D))) 0 f (λ i. lit< tt) small-POFD refl refl
+
+  pub header-same : fits (widths.headerWidths w) (l .header) ≡ true → headerOf w (packedPlan w l) ≡ listed w l
+  unfolding headerOf
+  header-same f = ap header.headerFrom (header-back f)
+
+  module _ (fit : Fit w l) where
+    h : Header
+    h = listed w l
+
+    -- where each part ends
+    end-H : length H ≡ header.headerBits w
+    end-H = packing.packed-length (widths.headerWidths w) (l .header) (packing.fits-length (widths.headerWidths w) (l .header) (fit .header))
+
+    end-P : length (H ++ P) ≡ header.placementAt w h (moves h)
+    unfolding h
+    end-P = length-append H P ∙ rw (end-H, records-total (moves h) 16 widths.placementWidths (l .placements) refl (fit .placements))
+
+    end-O : length ((H ++ P) ++ O) ≡ header.operationAt w h (h .operations)
+    unfolding h
+    end-O =
+        length-append (H ++ P) O ∙ rw (end-P, records-total (h .operations) (header.operationBits w) (widths.operationWidths w) (l .operations) refl (fit .operations))
+
+    end-F : length (((H ++ P) ++ O) ++ F) ≡ header.forgeryAt w h (h .forgeries)
+    unfolding h
+    end-F =
+        length-append ((H ++ P) ++ O) F ∙ rw (end-O, records-total (h .forgeries) (header.forgeryBits w) (widths.forgeryWidths w) (l .forgeries) refl (fit .forgeries))
+
+    end-D : length ((((H ++ P) ++ O) ++ F) ++ D) ≡ bitLength w h
+    unfolding h
+    end-D =
+        length-append (((H ++ P) ++ O) ++ F) D ∙ rw (end-F, records-total (delayCount h) 4 widths.delayWidths (l .delays) refl (fit .delays))
+
+    -- the same bits, joined from the left
+    three : (X : List ℕ) → ((H ++ P) ++ O) ++ X ≡ H ++ (P ++ (O ++ X))
+    three X = append-assoc (H ++ P) O X ∙ append-assoc H P (O ++ X)
+
+    pub plan-length : length (planBits w l) ≡ bitLength w (listed w l)
+    unfolding planBits h
+    plan-length = ap length (sym (append-assoc ((H ++ P) ++ O) F D ∙ three (F ++ D))) ∙ end-D
+
+    pub plan-bytes : length (packedPlan w l) ≡ bytesFor (bitLength w (listed w l))
+    unfolding packedPlan
+    plan-bytes = packing.in-length (planBits w l) plan-small ∙ ap bytesFor plan-length
+
+    placements-back : numbersAt (placementsWidths w h) (packedPlan w l) (header.placementAt w h 0) ≡ l .placements
+    unfolding planBits h
+    placements-back =
+        part-back (placementsWidths w h) (l .placements) H (O ++ (F ++ D)) (header.placementAt w h 0) (fit .placements) small-H small-OFD refl (omega (arith, end-H))
+
+    operations-back : numbersAt (operationsWidths w h) (packedPlan w l) (header.operationAt w h 0) ≡ l .operations
+    unfolding planBits h
+    operations-back =
+        part-back (operationsWidths w h) (l .operations) (H ++ P) (F ++ D) (header.operationAt w h 0) (fit .operations) small-HP small-FD
+        (append-assoc H P (O ++ (F ++ D))) (omega (arith, end-P))
+
+    forgeries-back : numbersAt (forgeriesWidths w h) (packedPlan w l) (header.forgeryAt w h 0) ≡ l .forgeries
+    unfolding planBits h
+    forgeries-back =
+        part-back (forgeriesWidths w h) (l .forgeries) ((H ++ P) ++ O) D (header.forgeryAt w h 0) (fit .forgeries) small-HPO small-D
+        (three (F ++ D)) (omega (arith, end-O))
+
+    delays-back : numbersAt (delaysWidths w h) (packedPlan w l) (header.delayAt w h 0 0 0) ≡ l .delays
+    unfolding planBits h
+    delays-back =
+        let last : (((H ++ P) ++ O) ++ F) ++ (D ++ []) ≡ H ++ (P ++ (O ++ (F ++ D))) =
+        rw append-nil (append-assoc ((H ++ P) ++ O) F D ∙ three (F ++ D)) in
+        part-back (delaysWidths w h) (l .delays) (((H ++ P) ++ O) ++ F) [] (header.delayAt w h 0 0 0) (fit .delays) small-HPOF (λ i. lit< tt)
+        last (omega (arith, end-F))
+
+    -- 'A packed plan, read field by field, gives the lists it came from'
+    pub lists-back : listsOf w (packedPlan w l) ≡ l
+    unfolding listsOf h
+    lists-back = rw (header-same (fit .header), header-back (fit .header), placements-back, operations-back, forgeries-back, delays-back)

@@ -1,0 +1,70 @@
+-- The lists of a plan, and the plan packed from them (document 02, 'One').
+use mathlib.Core.Bool.{not}
+use mathlib.Core.List.{List, _++_}
+use Prim.Native.Nat.{ℕ, _+_, _*_}
+use lib.Dec.{eqb}
+use lib.ListN.{length, getD}
+use Rattle.bits.specs.Layout.{records, numbersAt, packedBits, inBytes}
+use Rattle.register.specs.Lists.{count}
+use Rattle.plan.specs.Widths.{headerWidths, placementWidths, operationWidths, forgeryWidths, delayWidths}
+use Rattle.plan.specs.Header.{Header, headerFrom, headerOf, moves, parties, placementAt, operationAt, forgeryAt, delayAt}
+
+-- 'header, placements, operations, forgeries and delays come as separate lists of numbers, one number for each field in packed order'
+pub record Lists : Type 0 where
+  pub header : List ℕ
+  pub placements : List ℕ
+  pub operations : List ℕ
+  pub forgeries : List ℕ
+  pub delays : List ℕ
+
+-- the delays that a header implies
+abbrev pub delayCount : Header → ℕ
+delayCount h = h .ticks * (parties h * parties h)
+
+-- the widths of the fields of a part, for as many records as the header implies
+module _ (w : ℕ) (h : Header) where
+  abbrev pub placementsWidths : List ℕ
+  placementsWidths = records (moves h) placementWidths
+
+  abbrev pub operationsWidths : List ℕ
+  operationsWidths = records (h .operations) (operationWidths w)
+
+  abbrev pub forgeriesWidths : List ℕ
+  forgeriesWidths = records (h .forgeries) (forgeryWidths w)
+
+  abbrev pub delaysWidths : List ℕ
+  delaysWidths = records (delayCount h) delayWidths
+
+-- a plan 'read field by field'
+unfoldable pub listsOf : ℕ → List ℕ → Lists
+listsOf w s =
+    let h : Header = headerOf w s in
+    record {
+      header = numbersAt (headerWidths w) s 0;
+      placements = numbersAt (placementsWidths w h) s (placementAt w h 0);
+      operations = numbersAt (operationsWidths w h) s (operationAt w h 0);
+      forgeries = numbersAt (forgeriesWidths w h) s (forgeryAt w h 0);
+      delays = numbersAt (delaysWidths w h) s (delayAt w h 0 0 0);
+    }
+
+module _ (w : ℕ) (l : Lists) where
+  -- the header that a list says
+  abbrev pub listed : Header
+  listed = headerFrom (l .header)
+
+  -- all bits before the final ones; of a number too wide the lowest bits
+  unfoldable pub planBits : List ℕ
+  planBits =
+      packedBits (headerWidths w) (l .header)
+      ++ (packedBits (placementsWidths w listed) (l .placements)
+      ++ (packedBits (operationsWidths w listed) (l .operations)
+      ++ (packedBits (forgeriesWidths w listed) (l .forgeries)
+      ++ packedBits (delaysWidths w listed) (l .delays))))
+
+  -- 'the packed plan'
+  unfoldable pub packedPlan : List ℕ
+  packedPlan = inBytes planBits
+
+-- the operations that are reads: their second number, the party, is not 0
+abbrev pub readsListed : Lists → ℕ
+readsListed l = count (λ i. not (eqb (getD (l .operations) (length (operationWidths 0) * i + 1) 0) 0)) (headerFrom (l .header) .operations)

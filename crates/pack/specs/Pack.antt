@@ -1,0 +1,53 @@
+-- Pack (document 02, 'One'): its result and the lent buffer, for all lists of numbers.
+use mathlib.Core.Bool.{Bool, _&&_}
+use mathlib.Core.List.{List, _++_}
+use Prim.Native.Nat.{ℕ, _*_}
+use lib.Dec.{eqb, leb}
+use lib.ListN.{length, drop}
+use Rattle.bits.specs.Layout.{fits}
+use Rattle.plan.specs.Widths.{headerWidths, placementWidths, operationWidths, forgeryWidths, delayWidths}
+use Rattle.plan.specs.Header.{Header, moves}
+use Rattle.plan.specs.Check as check
+use Rattle.plan.specs.Check.{Outcome, refused, result, unless}
+use Rattle.lists.specs.Lists as lists
+use Rattle.lists.specs.Lists.{Lists, listed, packedPlan, delayCount}
+
+-- What Pack returns, and the lent bytes afterwards.
+pub record Packed : Type 0 where
+  pub outcome : Outcome ℕ
+  pub out : List ℕ
+
+module _ (w : ℕ) (l : Lists) where
+  -- '4 is a list whose length isn't what the header implies'
+  unfoldable pub lengthsImplied : Bool
+  lengthsImplied =
+      let h : Header = listed w l in
+      eqb (length (l .placements)) (length placementWidths * moves h)
+      && (eqb (length (l .operations)) (length (operationWidths w) * h .operations)
+      && (eqb (length (l .forgeries)) (length (forgeryWidths w) * h .forgeries)
+      && eqb (length (l .delays)) (length delayWidths * delayCount h)))
+
+  -- 'The lists must meet the same checks as a plan, under the same numbers': those of the plan that they are packed to. 'A header list of
+  -- other than ten numbers is 2', and 'a number too wide for its field takes the number of its part'. '14: the buffer is shorter than the
+  -- plan; last check'
+  unfoldable pub packTests : ℕ → Outcome ℕ
+  packTests room =
+      let h : Header = listed w l in
+      let s : List ℕ = packedPlan w l in
+      unless (fits (headerWidths w) (l .header) && check.headerInRange h) 2
+      (unless (check.enoughServers h) 3
+      (unless lengthsImplied 4
+      (unless (fits (lists.placementsWidths w h) (l .placements) && check.placementsStand w s h) 5
+      (unless (fits (lists.operationsWidths w h) (l .operations) && check.operationsStand w s h) 6
+      (unless (fits (lists.forgeriesWidths w h) (l .forgeries) && check.forgeriesStand w s h) 7
+      (unless (fits (lists.delaysWidths w h) (l .delays) && check.delaysStand w s h) 8
+      (unless (leb (length s) room) 14
+      (result (length s)))))))))
+
+  -- 'returns the number of bytes written .. and leaves those past them unchanged'; a refusal writes nothing
+  unfoldable pub packInto : List ℕ → Outcome ℕ → Packed
+  packInto out (refused number) = record { outcome = refused number; out = out }
+  packInto out (result m) = record { outcome = result m; out = packedPlan w l ++ drop m out }
+
+  unfoldable pub packOf : List ℕ → Packed
+  packOf out = packInto out (packTests (length out))
