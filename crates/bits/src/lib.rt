@@ -32,9 +32,10 @@ pub fn field(s: &[u8], at: usize, width: usize) -> u64
     ensures { λ r. ⌜ (r ≡ fieldOf (now (s .entry)) at width) × (r < 2 ^ width) ⌝ }
 {
     let off = at % 8;
-    let n = (off + width + 7) / 8;
+    let low = fill(off + width);
+    let n = (off + width + low) / 8;
     let all = bytes_from(s, at / 8, n);
-    (all >> (8 * n - off - width)) % (1 << width)
+    (all >> low) % (1 << width)
 }
 
 // The number in the four bits from bit `at` on: of one byte, or of two where they straddle.
