@@ -8,7 +8,7 @@ use native.Mathlib.Nat as nat
 use native.Mathlib.Decide.{decLt}
 use native.Mathlib.Omega.{arith}
 use lib.ListN.{length, getD, drop, length-append, List·getD-append, List·getD-eq-default}
-use lib.Seq.{getD-drop, getD-append-add, drop-append-seam}
+use lib.Seq.{getD-drop, getD-append-add, drop-append-seam, drop-length}
 use lib.Dec.{ltb, lit<, lit≤}
 use borrow.Author.Tests.{lt-ltb, ltb-true}
 use Rattle.bits.specs.Field.{bitOf, fieldOf}
@@ -43,6 +43,11 @@ word-lt : (w : ℕ) (bits : List ℕ) → Small bits → wordOf w bits < 2 ^ w
 unfolding wordOf
 word-lt zero bits h = lit< tt
 word-lt (suc w) bits h = rw nat.pow-suc (omega (arith, word-lt w bits h, h w))
+
+word-none : (w : ℕ) → wordOf w [] ≡ 0
+unfolding wordOf
+word-none zero = refl
+word-none (suc w) = rw (word-none w)
 
 -- bit i of a word, j bits before its last
 word-bit : (bits : List ℕ) → Small bits → (i j : ℕ) → wordOf (i + suc j) bits / 2 ^ j % 2 ≡ getD bits i 0
@@ -117,6 +122,10 @@ module _ (bits : List ℕ) (small : Small bits) where
 
   pub in-field : (at w : ℕ) → fieldOf (inBytes bits) at w ≡ wordOf w (drop at bits)
   in-field at w = bits-laws.field-bits (inBytes bits) at w (drop at bits) (λ i l. in-bit (at + i) ∙ sym (getD-drop at bits i 0))
+
+  -- behind them stand zero bits
+  pub in-final : (w : ℕ) → fieldOf (inBytes bits) (length bits) w ≡ 0
+  in-final w = in-field (length bits) w ∙ rw drop-length (word-none w)
 
 packed-cons : (v x : ℕ) (vs xs : List ℕ) → packedBits (v ∷ vs) (x ∷ xs) ≡ bitsOf v x ++ packedBits vs xs
 unfolding packedBits

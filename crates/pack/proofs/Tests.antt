@@ -1,0 +1,103 @@
+-- The tests of Pack as facts, both ways.
+-- It stands on the definition of Pack.
+use mathlib.Core.Path.{_≡_, _∙_, refl, ap, sym}
+use mathlib.Core.Bool.{Bool, true, _&&_, and-eq-true-iff}
+use mathlib.Core.List.{List}
+use Prim.Native.Nat.{ℕ, _*_, _≤_}
+use lib.Dec.{T, leb, eqb, leb→le}
+use lib.ListN.{length}
+use Rattle.bits.specs.Layout.{fits}
+use Rattle.register.proofs.Logic.{T-eq}
+use Rattle.plan.specs.Widths as widths
+use Rattle.plan.specs.Header.{Header, moves}
+use Rattle.plan.specs.Check as check
+use Rattle.plan.specs.Check.{Outcome, refused, result, unless}
+use Rattle.plan.proofs.Tests.{passed}
+use Rattle.lists.specs.Lists as lists
+use Rattle.lists.specs.Lists.{Lists, listed, packedPlan}
+use Rattle.lists.proofs.Inverse.{Fit}
+use Rattle.pack.specs.Pack.{Packed, lengthsImplied, packTests, packInto, packOf}
+
+-- what all tests say together
+pub record Passed (w : ℕ) (l : Lists) (room : ℕ) : Type 0 where
+  pub fit : Fit w l
+  pub in-range : check.headerInRange (listed w l) ≡ true
+  pub enough : check.enoughServers (listed w l) ≡ true
+  pub lengths : lengthsImplied w l ≡ true
+  pub placements : check.placementsStand w (packedPlan w l) (listed w l) ≡ true
+  pub operations : check.operationsStand w (packedPlan w l) (listed w l) ≡ true
+  pub forgeries : check.forgeriesStand w (packedPlan w l) (listed w l) ≡ true
+  pub delays : check.delaysStand w (packedPlan w l) (listed w l) ≡ true
+  pub long : leb (length (packedPlan w l)) room ≡ true
+
+-- a chain with a result passed both parts of its first test
+passed-both : (a b : Bool) (number : ℕ) (rest : Outcome ℕ) (m : ℕ) → unless (a && b) number rest ≡ result m → (a ≡ true) × (b ≡ true) × (rest ≡ result m)
+passed-both a b number rest m e =
+    let r = passed (a && b) number rest m e in
+    let q = and-eq-true-iff a b .0 (T-eq (a && b) (r .0)) in
+    (q .0, q .1, r .1)
+
+module _ (w : ℕ) (l : Lists) where
+  pub tests-passed : (room m : ℕ) → packTests w l room ≡ result m → Passed w l room × (m ≡ length (packedPlan w l))
+  unfolding packTests
+  tests-passed room m e =
+      let h = listed w l in
+      let s = packedPlan w l in
+      let r2 = passed-both (fits (widths.headerWidths w) (l .header)) (check.headerInRange h) 2 _ m e in
+      let r3 = passed (check.enoughServers h) 3 _ m (r2 .2) in
+      let r4 = passed (lengthsImplied w l) 4 _ m (r3 .1) in
+      let r5 = passed-both (fits (lists.placementsWidths w h) (l .placements)) (check.placementsStand w s h) 5 _ m (r4 .1) in
+      let r6 = passed-both (fits (lists.operationsWidths w h) (l .operations)) (check.operationsStand w s h) 6 _ m (r5 .2) in
+      let r7 = passed-both (fits (lists.forgeriesWidths w h) (l .forgeries)) (check.forgeriesStand w s h) 7 _ m (r6 .2) in
+      let r8 = passed-both (fits (lists.delaysWidths w h) (l .delays)) (check.delaysStand w s h) 8 _ m (r7 .2) in
+      let r14 = passed (leb (length s) room) 14 (result (length s)) m (r8 .2) in
+      let last : result (length s) ≡ result m = r14 .1 in
+      (
+        record {
+          fit = record {
+            header = r2 .0;
+            placements = r5 .0;
+            operations = r6 .0;
+            forgeries = r7 .0;
+            delays = r8 .0;
+          };
+          in-range = r2 .1;
+          enough = T-eq (check.enoughServers h) (r3 .0);
+          lengths = T-eq (lengthsImplied w l) (r4 .0);
+          placements = r5 .1;
+          operations = r6 .1;
+          forgeries = r7 .1;
+          delays = r8 .1;
+          long = T-eq (leb (length s) room) (r14 .0);
+        },
+        cc,
+      )
+
+  pub passes-tests : (room : ℕ) → Passed w l room → packTests w l room ≡ result (length (packedPlan w l))
+  unfolding packTests
+  passes-tests room p =
+      rw (
+        p .fit .header,
+        p .in-range,
+        p .enough,
+        p .lengths,
+        p .fit .placements,
+        p .placements,
+        p .fit .operations,
+        p .operations,
+        p .fit .forgeries,
+        p .forgeries,
+        p .fit .delays,
+        p .delays,
+        p .long,
+      )
+
+  -- the outcome is that of the tests
+  into-outcome : (out : List ℕ) (x : Outcome ℕ) → packInto w l out x .outcome ≡ x
+  unfolding packInto
+  into-outcome out (refused number) = refl
+  into-outcome out (result m) = refl
+
+  pub outcome-tests : (out : List ℕ) → packOf w l out .outcome ≡ packTests w l (length out)
+  unfolding packOf
+  outcome-tests out = into-outcome out (packTests w l (length out))
