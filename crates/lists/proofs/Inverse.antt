@@ -18,7 +18,15 @@ use Rattle.plan.specs.Header as header
 use Rattle.plan.specs.Header.{Header, headerOf, bitLength, moves}
 use Rattle.lists.specs.Lists.{Lists, listed, listsOf, planBits, packedPlan, placementsWidths, operationsWidths, forgeriesWidths, delaysWidths, delayCount}
 
--- every number fits its field, and there is one for each
+-- there is a number for each field
+pub record Full (w : ℕ) (l : Lists) : Type 0 where
+  pub header : length (l .header) ≡ length (widths.headerWidths w)
+  pub placements : length (l .placements) ≡ length widths.placementWidths * moves (listed w l)
+  pub operations : length (l .operations) ≡ length (widths.operationWidths w) * listed w l .operations
+  pub forgeries : length (l .forgeries) ≡ length (widths.forgeryWidths w) * listed w l .forgeries
+  pub delays : length (l .delays) ≡ length widths.delayWidths * delayCount (listed w l)
+
+-- and it fits
 pub record Fit (w : ℕ) (l : Lists) : Type 0 where
   pub header : fits (widths.headerWidths w) (l .header) ≡ true
   pub placements : fits (placementsWidths w (listed w l)) (l .placements) ≡ true
@@ -26,24 +34,37 @@ pub record Fit (w : ℕ) (l : Lists) : Type 0 where
   pub forgeries : fits (forgeriesWidths w (listed w l)) (l .forgeries) ≡ true
   pub delays : fits (delaysWidths w (listed w l)) (l .delays) ≡ true
 
-records-total : (m n : ℕ) (vs xs : List ℕ) → total vs ≡ n → fits (records m vs) xs ≡ true → length (packedBits (records m vs) xs) ≡ n * m
-records-total m n vs xs e f = packing.packed-length (records m vs) xs (packing.fits-length (records m vs) xs f) ∙ record-laws.total-records vs m ∙ ap (λ (k : ℕ). k * m) e
+-- so many records that fit have a number for each field, and so many bits
+records-full : (m : ℕ) (vs xs : List ℕ) → fits (records m vs) xs ≡ true → length xs ≡ length vs * m
+records-full m vs xs f = packing.fits-length (records m vs) xs f ∙ record-laws.length-records vs m
+
+pub fit-full : (w : ℕ) (l : Lists) → Fit w l → Full w l
+fit-full w l f = record {
+  header = packing.fits-length (widths.headerWidths w) (l .header) (f .header);
+  placements = records-full (moves (listed w l)) widths.placementWidths (l .placements) (f .placements);
+  operations = records-full (listed w l .operations) (widths.operationWidths w) (l .operations) (f .operations);
+  forgeries = records-full (listed w l .forgeries) (widths.forgeryWidths w) (l .forgeries) (f .forgeries);
+  delays = records-full (delayCount (listed w l)) widths.delayWidths (l .delays) (f .delays);
+}
+
+records-total : (m : ℕ) (vs xs : List ℕ) → length xs ≡ length vs * m → length (packedBits (records m vs) xs) ≡ total vs * m
+records-total m vs xs e = packing.packed-length (records m vs) xs (e ∙ sym (record-laws.length-records vs m)) ∙ record-laws.total-records vs m
 
 module _ (w : ℕ) (l : Lists) where
   -- the bits of each part
-  abbrev H : List ℕ
+  abbrev pub H : List ℕ
   H = packedBits (widths.headerWidths w) (l .header)
 
-  abbrev P : List ℕ
+  abbrev pub P : List ℕ
   P = packedBits (placementsWidths w (listed w l)) (l .placements)
 
-  abbrev O : List ℕ
+  abbrev pub O : List ℕ
   O = packedBits (operationsWidths w (listed w l)) (l .operations)
 
-  abbrev F : List ℕ
+  abbrev pub F : List ℕ
   F = packedBits (forgeriesWidths w (listed w l)) (l .forgeries)
 
-  abbrev D : List ℕ
+  abbrev pub D : List ℕ
   D = packedBits (delaysWidths w (listed w l)) (l .delays)
 
   small-H : Small H
@@ -100,61 +121,61 @@ module _ (w : ℕ) (l : Lists) where
   unfolding headerOf
   header-same f = ap header.headerFrom (header-back f)
 
-  module _ (fit : Fit w l) where
-    h : Header
-    h = listed w l
+  h : Header
+  h = listed w l
 
+  -- the same bits, joined from the left
+  three : (X : List ℕ) → ((H ++ P) ++ O) ++ X ≡ H ++ (P ++ (O ++ X))
+  three X = append-assoc (H ++ P) O X ∙ append-assoc H P (O ++ X)
+
+  module _ (full : Full w l) where
     -- where each part ends
-    end-H : length H ≡ header.headerBits w
-    end-H = packing.packed-length (widths.headerWidths w) (l .header) (packing.fits-length (widths.headerWidths w) (l .header) (fit .header))
+    pub end-H : length H ≡ header.headerBits w
+    end-H = packing.packed-length (widths.headerWidths w) (l .header) (full .header)
 
-    end-P : length (H ++ P) ≡ header.placementAt w h (moves h)
-    unfolding h
-    end-P = length-append H P ∙ rw (end-H, records-total (moves h) 16 widths.placementWidths (l .placements) refl (fit .placements))
+    pub end-P : length (H ++ P) ≡ header.placementAt w (listed w l) (moves (listed w l))
+    end-P = length-append H P ∙ rw (end-H, records-total (moves (listed w l)) widths.placementWidths (l .placements) (full .placements))
 
-    end-O : length ((H ++ P) ++ O) ≡ header.operationAt w h (h .operations)
-    unfolding h
-    end-O =
-        length-append (H ++ P) O ∙ rw (end-P, records-total (h .operations) (header.operationBits w) (widths.operationWidths w) (l .operations) refl (fit .operations))
+    pub end-O : length ((H ++ P) ++ O) ≡ header.operationAt w (listed w l) (listed w l .operations)
+    end-O = length-append (H ++ P) O ∙ rw (end-P, records-total (listed w l .operations) (widths.operationWidths w) (l .operations) (full .operations))
 
-    end-F : length (((H ++ P) ++ O) ++ F) ≡ header.forgeryAt w h (h .forgeries)
-    unfolding h
-    end-F =
-        length-append ((H ++ P) ++ O) F ∙ rw (end-O, records-total (h .forgeries) (header.forgeryBits w) (widths.forgeryWidths w) (l .forgeries) refl (fit .forgeries))
+    pub end-F : length (((H ++ P) ++ O) ++ F) ≡ header.forgeryAt w (listed w l) (listed w l .forgeries)
+    end-F = length-append ((H ++ P) ++ O) F ∙ rw (end-O, records-total (listed w l .forgeries) (widths.forgeryWidths w) (l .forgeries) (full .forgeries))
 
-    end-D : length ((((H ++ P) ++ O) ++ F) ++ D) ≡ bitLength w h
-    unfolding h
-    end-D =
-        length-append (((H ++ P) ++ O) ++ F) D ∙ rw (end-F, records-total (delayCount h) 4 widths.delayWidths (l .delays) refl (fit .delays))
+    end-D : length ((((H ++ P) ++ O) ++ F) ++ D) ≡ bitLength w (listed w l)
+    end-D = length-append (((H ++ P) ++ O) ++ F) D ∙ rw (end-F, records-total (delayCount (listed w l)) widths.delayWidths (l .delays) (full .delays))
 
-    -- the same bits, joined from the left
-    three : (X : List ℕ) → ((H ++ P) ++ O) ++ X ≡ H ++ (P ++ (O ++ X))
-    three X = append-assoc (H ++ P) O X ∙ append-assoc H P (O ++ X)
+    pub left-same : (((H ++ P) ++ O) ++ F) ++ D ≡ planBits w l
+    unfolding planBits
+    left-same = append-assoc ((H ++ P) ++ O) F D ∙ three (F ++ D)
 
     pub plan-length : length (planBits w l) ≡ bitLength w (listed w l)
-    unfolding planBits h
-    plan-length = ap length (sym (append-assoc ((H ++ P) ++ O) F D ∙ three (F ++ D))) ∙ end-D
+    plan-length = ap length (sym left-same) ∙ end-D
 
     pub plan-bytes : length (packedPlan w l) ≡ bytesFor (bitLength w (listed w l))
     unfolding packedPlan
     plan-bytes = packing.in-length (planBits w l) plan-small ∙ ap bytesFor plan-length
 
+  module _ (fit : Fit w l) where
+    full : Full w l
+    full = fit-full w l fit
+
     placements-back : numbersAt (placementsWidths w h) (packedPlan w l) (header.placementAt w h 0) ≡ l .placements
     unfolding planBits h
     placements-back =
-        part-back (placementsWidths w h) (l .placements) H (O ++ (F ++ D)) (header.placementAt w h 0) (fit .placements) small-H small-OFD refl (omega (arith, end-H))
+        part-back (placementsWidths w h) (l .placements) H (O ++ (F ++ D)) (header.placementAt w h 0) (fit .placements) small-H small-OFD refl (omega (arith, end-H full))
 
     operations-back : numbersAt (operationsWidths w h) (packedPlan w l) (header.operationAt w h 0) ≡ l .operations
     unfolding planBits h
     operations-back =
         part-back (operationsWidths w h) (l .operations) (H ++ P) (F ++ D) (header.operationAt w h 0) (fit .operations) small-HP small-FD
-        (append-assoc H P (O ++ (F ++ D))) (omega (arith, end-P))
+        (append-assoc H P (O ++ (F ++ D))) (omega (arith, end-P full))
 
     forgeries-back : numbersAt (forgeriesWidths w h) (packedPlan w l) (header.forgeryAt w h 0) ≡ l .forgeries
     unfolding planBits h
     forgeries-back =
         part-back (forgeriesWidths w h) (l .forgeries) ((H ++ P) ++ O) D (header.forgeryAt w h 0) (fit .forgeries) small-HPO small-D
-        (three (F ++ D)) (omega (arith, end-O))
+        (three (F ++ D)) (omega (arith, end-O full))
 
     delays-back : numbersAt (delaysWidths w h) (packedPlan w l) (header.delayAt w h 0 0 0) ≡ l .delays
     unfolding planBits h
@@ -162,7 +183,7 @@ module _ (w : ℕ) (l : Lists) where
         let last : (((H ++ P) ++ O) ++ F) ++ (D ++ []) ≡ H ++ (P ++ (O ++ (F ++ D))) =
         rw append-nil (append-assoc ((H ++ P) ++ O) F D ∙ three (F ++ D)) in
         part-back (delaysWidths w h) (l .delays) (((H ++ P) ++ O) ++ F) [] (header.delayAt w h 0 0 0) (fit .delays) small-HPOF (λ i. lit< tt)
-        last (omega (arith, end-F))
+        last (omega (arith, end-F full))
 
     -- 'A packed plan, read field by field, gives the lists it came from'
     pub lists-back : listsOf w (packedPlan w l) ≡ l

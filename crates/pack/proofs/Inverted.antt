@@ -10,12 +10,9 @@ use lib.ListN.{length, drop}
 use borrow.Author.Tests.{le-leb, eq-eqb, eqb-true}
 use Rattle.bits.specs.Field.{fieldOf}
 use Rattle.bits.specs.Fill.{fill, bytesFor}
-use Rattle.bits.specs.Layout.{records, fits}
-use Rattle.bits.proofs.Packing.{fits-length, in-final}
-use Rattle.bits.proofs.Records.{length-records}
+use Rattle.bits.proofs.Packing.{in-final}
 use Rattle.register.proofs.Logic.{T-eq}
-use Rattle.plan.specs.Widths as widths
-use Rattle.plan.specs.Header.{Header, headerOf, headerBits, bitLength, moves}
+use Rattle.plan.specs.Header.{Header, headerOf, headerBits, bitLength}
 use Rattle.plan.specs.Check as check
 use Rattle.plan.specs.Check.{result, checkOf}
 use Rattle.plan.proofs.Accept as accept
@@ -33,15 +30,8 @@ use Rattle.pack.proofs.Tests.{Passed, tests-passed, passes-tests, outco
 fit-lengths : (w : ℕ) (l : Lists) → inverse.Fit w l → lengthsImplied w l ≡ true
 unfolding lengthsImplied
 fit-lengths w l f =
-    let h = listed w l in
-    let one : (k : ℕ) (vs xs : List ℕ) → fits (records k vs) xs ≡ true → eqb (length xs) (length vs * k) ≡ true =
-    λ k vs xs g. eq-eqb (length xs) (length vs * k) (fits-length (records k vs) xs g ∙ length-records vs k) in
-    rw (
-      one (moves h) widths.placementWidths (l .placements) (f .placements),
-      one (h .operations) (widths.operationWidths w) (l .operations) (f .operations),
-      one (h .forgeries) (widths.forgeryWidths w) (l .forgeries) (f .forgeries),
-      one (lists.delayCount h) widths.delayWidths (l .delays) (f .delays),
-    )
+    let g = inverse.fit-full w l f in
+    rw (eq-eqb _ _ (g .placements), eq-eqb _ _ (g .operations), eq-eqb _ _ (g .forgeries), eq-eqb _ _ (g .delays))
 
 -- Lists whose numbers fit and whose tests pass.
 module _ (w : ℕ) (l : Lists) (room : ℕ) (p : Passed w l room) where
@@ -54,7 +44,7 @@ module _ (w : ℕ) (l : Lists) (room : ℕ) (p : Passed w l room) where
 
   size : length s ≡ bytesFor (bitLength w (listed w l))
   unfolding s
-  size = inverse.plan-bytes w l (p .fit)
+  size = inverse.plan-bytes w l (inverse.fit-full w l (p .fit))
 
   header-long : bytesFor (headerBits w) ≤ length s
   header-long = rw (size, bytes-rounded (headerBits w), bytes-rounded (bitLength w (listed w l))) (omega arith)
@@ -63,7 +53,7 @@ module _ (w : ℕ) (l : Lists) (room : ℕ) (p : Passed w l room) where
   unfolding check.finalBitsZero s packedPlan
   final-zero =
       let n = bitLength w (listed w l) in
-      let e = inverse.plan-length w l (p .fit) in
+      let e = inverse.plan-length w l (inverse.fit-full w l (p .fit)) in
       let z : fieldOf s n (fill 8 n) ≡ 0 = rw (← e) (in-final (planBits w l) (inverse.plan-small w l) (fill 8 (length (planBits w l)))) in
       eq-eqb (fieldOf s n (fill 8 n)) 0 z
 
