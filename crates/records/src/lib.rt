@@ -1,0 +1,28 @@
+// Records of a packed format: the fields by their widths, out of bytes or out of one number.
+ghost use mathlib.Core.Path.{_≡_};
+ghost use Prim.Native.Nat.{_/_, _%_, _^_, _<_};
+ghost use Rattle.bits.specs.Layout.{numbersAt};
+ghost use Rattle.records.specs.Records.{Readable};
+
+// The record from bit `at` on: a number for each width.
+pub fn read(s: &[u8], at: usize, widths: &[u8], out: &mut [u32])
+    requires { ⌜ Readable (now s) at (now widths) (now out) ⌝ }
+    ensures { λ _. ⌜ now (out .exit) ≡ numbersAt (now (widths .entry)) (now (s .entry)) at ⌝ }
+{
+    let mut from = at;
+    let mut i = 0;
+    while i < widths.len() {
+        let width = widths[i] as usize;
+        out[i] = bits::field(s, from, width) as u32;
+        from += width;
+        i += 1;
+    }
+}
+
+// The `width` bits of a number above its lowest `low`.
+pub fn part(all: u64, low: usize, width: usize) -> u64
+    requires { ⌜ (low < 64) × (width < 64) ⌝ }
+    ensures { λ r. ⌜ (r ≡ all / 2 ^ low % 2 ^ width) × (r < 2 ^ width) ⌝ }
+{
+    (all >> low) % (1 << width)
+}
