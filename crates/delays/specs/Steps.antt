@@ -7,7 +7,7 @@ use lib.Dec.{eqb}
 use lib.ListN.{getD}
 use Rattle.bits.specs.Field.{fieldOf}
 use Rattle.register.specs.Lists.{one-if, allUpTo}
-use Rattle.plan.specs.Header.{Header, parties}
+use Rattle.plan.specs.Header.{Header, delayBits, parties}
 use Rattle.plan.specs.Parts.{isLink}
 use Rattle.plan.specs.Check.{within}
 
@@ -17,7 +17,7 @@ allowed h i j d = cond (isLink (h .n) i j) (within 1 (h .delta) d) (eqb d 0)
 
 -- the delay from party i to party j, in the row that begins at bit `at`
 abbrev pub linkStands : List ℕ → Header → ℕ → ℕ → ℕ → Bool
-linkStands s h at i j = allowed h i j (fieldOf s (at + 4 * j) 4)
+linkStands s h at i j = allowed h i j (fieldOf s (at + delayBits * j) delayBits)
 
 -- the row of party i
 unfoldable pub rowStands : List ℕ → Header → ℕ → ℕ → Bool
@@ -25,7 +25,7 @@ rowStands s h at i = allUpTo (parties h) (linkStands s h at i)
 
 -- the row of party i, in the tick that begins at bit `at`
 abbrev pub senderStands : List ℕ → Header → ℕ → ℕ → Bool
-senderStands s h at i = rowStands s h (at + 4 * (i * parties h)) i
+senderStands s h at i = rowStands s h (at + delayBits * (i * parties h)) i
 
 -- the rows of a tick
 unfoldable pub tickStands : List ℕ → Header → ℕ → Bool
@@ -53,7 +53,7 @@ bitStands bit delta d = cond (eqb bit 1) (within 1 delta d) (eqb d 0)
 
 -- delay q of the tick that begins at bit `at`
 abbrev pub orderStands : List ℕ → Header → ℕ → ℕ → Bool
-orderStands s h at q = allowed h (q / parties h) (q % parties h) (fieldOf s (at + 4 * q) 4)
+orderStands s h at q = allowed h (q / parties h) (q % parties h) (fieldOf s (at + delayBits * q) delayBits)
 
 -- its first m delays
 unfoldable pub firstStand : List ℕ → Header → ℕ → ℕ → Bool

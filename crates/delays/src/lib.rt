@@ -6,7 +6,7 @@ ghost use mathlib.Core.Path.{_≡_};
 ghost use mathlib.Core.Bool.{_&&_};
 ghost use Prim.Native.Nat.{_+_, _*_, _/_, _%_, _^_, _≤_, _<_};
 ghost use lib.ListN.{length};
-ghost use Rattle.plan.specs.Header.{parties};
+ghost use Rattle.plan.specs.Header.{delayBits, parties};
 ghost use Rattle.plan.specs.Parts.{isLink};
 ghost use Rattle.plan.specs.Check.{delaysStand, finalBitsZero};
 ghost use Rattle.plan.specs.Shape.{shape, Sized};
@@ -106,7 +106,7 @@ fn pairs_stand(plan: &[u8], need: &[u8], h: Shape, at: usize, bytes: usize) -> b
 
 // The delays from `from` to all - 1 of a tick, one at a time; `before` says whether those before them stand.
 fn rest_stand(plan: &[u8], h: Shape, at: usize, from: usize, all: usize, before: bool) -> bool
-    requires { ⌜ (at + 4 * all ≤ 8 * length (now plan)) × (at < 2 ^ 59) × (all ≤ 441) × (from ≤ all)
+    requires { ⌜ (at + delayBits * all ≤ 8 * length (now plan)) × (at < 2 ^ 59) × (all ≤ 441) × (from ≤ all)
         × (before ≡ firstStand (now plan) (shape h) at from) ⌝ }
     ensures { λ r. ⌜ r ≡ firstStand (now (plan .entry)) (shape h) at all ⌝ }
 {
@@ -115,7 +115,12 @@ fn rest_stand(plan: &[u8], h: Shape, at: usize, from: usize, all: usize, before:
     let mut q = from;
     while q < all {
         stands = both(
-            is_allowed(h, q / parties, q % parties, bits::nibble(plan, at + 4 * q)),
+            is_allowed(
+                h,
+                q / parties,
+                q % parties,
+                bits::nibble(plan, at + Shape::DELAY_BITS * q),
+            ),
             stands,
         );
         q += 1;
@@ -137,7 +142,7 @@ fn followed(pairs: usize, at: usize, len: usize) -> usize
 
 // The delays of a tick: in pairs as far as a byte follows them, then the rest.
 fn tick_stands(plan: &[u8], need: &[u8], h: Shape, at: usize) -> bool
-    requires { ⌜ (at + 4 * (parties (shape h) * parties (shape h)) ≤ 8 * length (now plan)) × (at < 2 ^ 59)
+    requires { ⌜ (at + delayBits * (parties (shape h) * parties (shape h)) ≤ 8 * length (now plan)) × (at < 2 ^ 59)
         × (parties (shape h) * parties (shape h) ≤ 441) × (mostPairs ≤ length (now need))
         × Needed (h .n) (parties (shape h)) (parties (shape h) * parties (shape h) / 2) (now need) ⌝ }
     ensures { λ r. ⌜ r ≡ tickStands (now (plan .entry)) (shape h) at ⌝ }
@@ -159,7 +164,12 @@ pub fn all_stand(plan: &[u8], h: Shape) -> bool
     let need = needs(h.n as usize, parties, parties * parties / 2);
     let mut t = 0;
     while t < ticks {
-        if !tick_stands(plan, &need, h, first + 4 * (t * (parties * parties))) {
+        if !tick_stands(
+            plan,
+            &need,
+            h,
+            first + Shape::DELAY_BITS * (t * (parties * parties)),
+        ) {
             return false;
         }
         t += 1;

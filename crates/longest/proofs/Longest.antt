@@ -62,7 +62,8 @@ operation-is i l =
     let c = register-laws.Logic.and-both (eqb (fieldOf (operationBytes (i / 4)) (26 * (i % 4) + 7) 3) (partyOf i)) _ (b .1) in
     let t : fieldOf longestPlan (2112 + 26 * i) 7 ≡ begunAt i = rw (add-zero (2112 + 26 * i), add-zero (26 * (i % 4))) at (parts.in-operation i 0 7 l (omega arith)) ∙ eqb-true _ _ (b .0) in
     let p : fieldOf longestPlan (2112 + 26 * i + 7) 3 ≡ partyOf i = parts.in-operation i 7 3 l (omega arith) ∙ eqb-true _ _ (c .0) in
-    let v : fieldOf longestPlan (2112 + 26 * i + 10) 16 ≡ 0 = parts.in-operation i 10 16 l (omega arith) ∙ eqb-true _ _ (c .1) in
+    let e : 2112 + 26 * i + 7 + 3 ≡ 2112 + 26 * i + 10 = omega arith in
+    let v : fieldOf longestPlan (2112 + 26 * i + 7 + 3) 16 ≡ 0 = rw e (parts.in-operation i 10 16 l (omega arith) ∙ eqb-true _ _ (c .1)) in
     rw (t, p, v) refl
 
 key-is : (i : ℕ) → i < 232 → fieldOf longestPlan (operationAt 16 header i) 10 ≡ key i
@@ -111,7 +112,8 @@ forgeries-stand =
     let d = register-laws.Logic.and-both (eqb (fieldOf (forgeryBytes i) 11 5) (i % 8 + 1)) _ (c .1) in
     let t : fieldOf longestPlan (8144 + 40 * i) 7 ≡ i / 8 = rw add-zero at (parts.in-forgery i 0 7 l (omega arith)) ∙ eqb-true _ _ (b .0) in
     let x : fieldOf longestPlan (8144 + 40 * i + 7) 4 ≡ 0 = parts.in-forgery i 7 4 l (omega arith) ∙ eqb-true _ _ (c .0) in
-    let y : fieldOf longestPlan (8144 + 40 * i + 11) 5 ≡ i % 8 + 1 = parts.in-forgery i 11 5 l (omega arith) ∙ eqb-true _ _ (d .0) in
+    let e : 8144 + 40 * i + 7 + 4 ≡ 8144 + 40 * i + 11 = omega arith in
+    let y : fieldOf longestPlan (8144 + 40 * i + 7 + 4) 5 ≡ i % 8 + 1 = rw e (parts.in-forgery i 11 5 l (omega arith) ∙ eqb-true _ _ (d .0)) in
     rw (
       t,
       x,

@@ -10,7 +10,8 @@ use Rattle.register.specs.Plan.{kOf}
 use Rattle.plan.specs.Header.{Header, moves, bitLength}
 use Rattle.plan.specs.Limits.{impliedBytes}
 use Rattle.plan.specs.Parts.{Operation}
-use Rattle.plan.specs.Check.{headerInRange, enoughServers, bytesFor, endOf}
+use Rattle.bits.specs.Fill.{bytesFor}
+use Rattle.plan.specs.Check.{headerInRange, enoughServers, endOf}
 use Rattle.longest.specs.Longest.{headerBytes, placement, begunAt, partyOf, operationWord, operationsWord, operationBytes, forgeryBytes}
 
 abbrev pub header : Header

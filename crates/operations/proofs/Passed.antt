@@ -26,7 +26,7 @@ and-regroup a b c d = simp and-assoc
 
 module _ (s : List ℕ) (h : plan-specs.Header.Header) where
   unfoldable pub keyOf : ℕ → ℕ
-  keyOf j = fieldOf s (plan-specs.Header.operationAt 16 h j) 10
+  keyOf j = fieldOf s (plan-specs.Header.operationAt 16 h j) (plan-specs.Header.keyBits 16)
 
   unfoldable pub partyOf : ℕ → ℕ
   partyOf j = plan-specs.Parts.operationOf 16 s h j .party
@@ -47,7 +47,7 @@ module _ (s : List ℕ) (h : plan-specs.Header.Header) where
   module _ (i : ℕ) (o : Operation) (is : IsOperation s (plan-specs.Header.operationAt 16 h i) o) where
     pub operation-is : plan-specs.Parts.operationOf 16 s h i ≡ operation o
     unfolding plan-specs.Parts.operationOf
-    operation-is = let t = is .tick in let p = is .party in let v = is .value in cc
+    operation-is = sym (is .is)
 
     party-is : partyOf i ≡ o .party
     unfolding partyOf
@@ -59,7 +59,7 @@ module _ (s : List ℕ) (h : plan-specs.Header.Header) where
 
     key-is : keyOf i ≡ o .at * 8 + o .party
     unfolding keyOf
-    key-is = rw (is .tick, is .party) (field-split s (plan-specs.Header.operationAt 16 h i) 7 3)
+    key-is = rw (ap (λ (x : Parts.Operation). x .at) (is .is), ap (λ (x : Parts.Operation). x .party) (is .is)) (field-split s (plan-specs.Header.operationAt 16 h i) 7 3)
 
     module _ (next : ℕ) (free : List ℕ) (p : Passed i next free) where
       rises : operationRises 16 s h i ≡ leb next (o .at * 8 + o .party)

@@ -39,7 +39,7 @@ pub fn all_stand(plan: &[u8], h: Shape) -> bool
     let mut free = [0u8; 8];
     let mut i = 0;
     while i < n {
-        let o = Operation::read(plan, first + 26 * i);
+        let o = Operation::read(plan, first + Operation::BITS * i);
         if !stands_alone(o, h) {
             return false;
         }

@@ -1,4 +1,4 @@
--- One forgery: its fields out of 40 bits, the movement that decides on its sender, the open read that it may answer.
+-- One forgery: its fields out of one number, the movement that decides on its sender, the open read that it may answer.
 -- It stands on the laws of bit fields and of reads among operations.
 use mathlib.Core.Path.{_≡_, sym, ap, _∙_, fun-ext}
 use mathlib.Core.Bool.{Bool, false, not, _&&_, _||_, and-false, and-assoc}
@@ -10,11 +10,14 @@ use native.Mathlib.Omega.{arith}
 use lib.Dec.{leb, ltb, eqb}
 use borrow.Author.Tests.{lt-ltb, le-ltb, le-leb, lt-leb, eq-eqb, ne-eqb}
 use Rattle.bits.specs.Field.{fieldOf}
-use Rattle.bits.proofs.Laws.{field-first, field-inner, field-last, field-part}
+use Rattle.bits.specs.Layout.{numbersIn}
+use Rattle.bits.proofs.Laws.{field-part}
+use Rattle.bits.proofs.Numbers.{numbers-in}
 use Rattle.register.specs as register-specs
 use Rattle.register.proofs.Counting.{none-up}
-use Rattle.plan.specs.Header.{Header, headerOf, operationAt, forgeryAt}
-use Rattle.plan.specs.Parts.{inPlacement, operationOf, operationsOf, forgeryOf}
+use Rattle.plan.specs.Widths.{forgeryWidths}
+use Rattle.plan.specs.Header.{Header, headerOf, forgeryBits, operationAt, forgeryAt}
+use Rattle.plan.specs.Parts.{inPlacement, operationOf, operationsOf, forgeryFrom, forgeryOf}
 use Rattle.plan.specs as plan-specs
 use Rattle.plan.specs.Check.{readOpen, forgeryStands, forgeryRises}
 use Rattle.parts.specs.Steps.{ForgedPart, spans, openAmong, Opened, isReceived, forgedAlone}
@@ -29,23 +32,18 @@ movement-of t at p h l =
 module _ (s : List ℕ) (h : Header) where
   module _ (part : List ℕ) (offset : ℕ) (p : ForgedPart s h part offset) where
     -- a field of the forged part
-    pub in-part : (i w : ℕ) → fieldOf part (offset + 40 * i) w ≡ fieldOf s (forgeryAt 16 h i) w
+    pub in-part : (i w : ℕ) → fieldOf part (offset + forgeryBits 16 * i) w ≡ fieldOf s (forgeryAt 16 h i) w
     in-part i w =
         let first = operationAt 16 h (h .operations) in
-        let e : 8 * (first / 8) + (first % 8 + 40 * i) ≡ first + 40 * i = omega arith in
+        let e : 8 * (first / 8) + (first % 8 + forgeryBits 16 * i) ≡ first + forgeryBits 16 * i = omega arith in
         rw (p .bytes, p .first, field-part, e)
 
-  pub forged-is : (i all : ℕ) (g : plan-specs.declared.forgeries.Forged.Forged) → all ≡ fieldOf s (forgeryAt 16 h i) 40 → plan-specs.Steps.IsForged all g → forgeryOf 16 s h i ≡ plan-specs.Steps.forgery g
+  -- one taken out of the number that has all its bits
+  pub forged-is : (i all : ℕ) (g : plan-specs.declared.forgeries.Forged.Forged) → all ≡ fieldOf s (forgeryAt 16 h i) (forgeryBits 16) → plan-specs.Steps.IsForged all g → forgeryOf 16 s h i ≡ plan-specs.Steps.forgery g
   unfolding forgeryOf
   forged-is i all g e is =
-      let at = forgeryAt 16 h i in
-      let a : g .at ≡ fieldOf s at 7 = is .tick ∙ ap (λ x. x / 2 ^ 33) e ∙ sym (field-first s at 7 33) in
-      let b : g .from ≡ fieldOf s (at + 7) 4 = is .sender ∙ ap (λ x. x / 2 ^ 29 % 2 ^ 4) e ∙ sym (field-inner s at 7 4 29) in
-      let c : g .to ≡ fieldOf s (at + 11) 5 = is .receiver ∙ ap (λ x. x / 2 ^ 24 % 2 ^ 5) e ∙ sym (field-inner s at 11 5 24) in
-      let d : g .value ≡ fieldOf s (at + 16) 16 = is .value ∙ ap (λ x. x / 2 ^ 8 % 2 ^ 16) e ∙ sym (field-inner s at 16 16 8) in
-      let n : g .number ≡ fieldOf s (at + 32) 8 = is .number ∙ ap (λ x. x % 2 ^ 8) e ∙ sym (field-last s at 32 8) in
-      let q : at + 16 + 16 ≡ at + 32 = omega arith in
-      rw (q, a, b, c, d, n)
+      ap (forgeryFrom 16) (numbers-in (forgeryWidths 16) s (forgeryAt 16 h i) ∙ ap (numbersIn (forgeryWidths 16)) (sym e))
+      ∙ sym (is .is)
 
 eqb-add : (n p x : ℕ) → eqb (n + p) (n + x) ≡ eqb p x
 eqb-add n p x = elim (ℕ-discrete p x) [
@@ -109,11 +107,11 @@ and-regroup : (a b c d : Bool) → a && (b && (c && d)) ≡ ((a && b) && c) && d
 and-regroup a b c d = simp and-assoc
 
 -- a forgery's test: by itself, and its place in the order
-pub forgery-as : (s : List ℕ) (h : Header) (i all next : ℕ) (g : plan-specs.declared.forgeries.Forged.Forged) → all ≡ fieldOf s (forgeryAt 16 h i) 40 → plan-specs.Steps.IsForged all g
-    → next ≡ plan-laws.Waiting.follows (λ j. fieldOf s (forgeryAt 16 h j) 40) i → forgeryStands 16 s h i ≡ forgedAlone s h (plan-specs.Steps.forgery g) && leb next all
+pub forgery-as : (s : List ℕ) (h : Header) (i all next : ℕ) (g : plan-specs.declared.forgeries.Forged.Forged) → all ≡ fieldOf s (forgeryAt 16 h i) (forgeryBits 16) → plan-specs.Steps.IsForged all g
+    → next ≡ plan-laws.Waiting.follows (λ j. fieldOf s (forgeryAt 16 h j) (forgeryBits 16)) i → forgeryStands 16 s h i ≡ forgedAlone s h (plan-specs.Steps.forgery g) && leb next all
 unfolding forgeryStands forgeryRises
 forgery-as s h i all next g e is f =
-    let key : ℕ → ℕ = λ j. fieldOf s (forgeryAt 16 h j) 40 in
+    let key : ℕ → ℕ = λ j. fieldOf s (forgeryAt 16 h j) (forgeryBits 16) in
     rw (plan-laws.Waiting.follows-rises key i (key i), ← f, ← e, forged-is s h i all g e is)
     (and-regroup (ltb (g .at) (h .ticks)) (plan-specs.Packed.planOf 16 s .placed (g .at / h .period) (g .from))
     ((ltb (g .to) (h .n) && not (eqb (g .to) (g .from))) || readOpen 16 s h (plan-specs.Steps.forgery g)) (leb next all))

@@ -66,7 +66,7 @@ fn all_in(part: &[u8], offset: usize, plan: &[u8], h: Shape, table: &[bool; 1024
     let mut next: u64 = 0;
     let mut i = 0;
     while i < n {
-        let all = bits::field(part, offset + 40 * i, 40);
+        let all = bits::field(part, offset + Forged::BITS * i, Forged::BITS);
         if !stands_alone(plan, h, table, Forged::of(all)) {
             return false;
         }

@@ -12,13 +12,13 @@ fn stands(plan: &[u8], h: Shape, i: usize) -> bool
     requires { ⌜ Sized (now plan) (shape h) × (i < moves (shape h)) ⌝ }
     ensures { λ r. ⌜ r ≡ placementStands 16 (now (plan .entry)) (shape h) i ⌝ }
 {
-    let at = 64 + 16 * i;
+    let at = Shape::placement_at(i);
     let n = h.n as usize;
     let faulty = bits::field(plan, at, n) as u32;
     if (h.f as u32) < u32::count_ones(faulty) {
         return false;
     }
-    bits::field(plan, at + n, 16 - n) == 0
+    bits::field(plan, at + n, Shape::PLACEMENT_BITS - n) == 0
 }
 
 // Is server b faulty in placement i.
@@ -26,7 +26,7 @@ pub fn is_faulty(plan: &[u8], h: Shape, i: usize, b: usize) -> bool
     requires { ⌜ Sized (now plan) (shape h) × (i < moves (shape h)) × (b < 16) ⌝ }
     ensures { λ r. ⌜ r ≡ inPlacement 16 (now (plan .entry)) (shape h) i b ⌝ }
 {
-    bits::field(plan, 64 + 16 * i + b, 1) == 1
+    bits::field(plan, Shape::placement_at(i) + b, 1) == 1
 }
 
 pub fn all_stand(plan: &[u8], h: Shape) -> bool

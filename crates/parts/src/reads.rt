@@ -19,7 +19,7 @@ pub fn count(plan: &[u8], h: Shape) -> usize
     let mut reads = 0;
     let mut i = 0;
     while i < n {
-        let o = Operation::read(plan, first + 26 * i);
+        let o = Operation::read(plan, first + Operation::BITS * i);
         if o.party != 0 {
             reads += 1;
         }
@@ -50,7 +50,7 @@ pub fn opened(plan: &[u8], h: Shape) -> [bool; 1024]
     let mut table = [false; 1024];
     let mut i = 0;
     while i < n {
-        let o = Operation::read(plan, first + 26 * i);
+        let o = Operation::read(plan, first + Operation::BITS * i);
         if o.party != 0 {
             let from = o.at as usize;
             mark(

@@ -42,7 +42,7 @@ endOf h o = o .at + cond (eqb (o .party) 0) (h .delta) (2 * h .delta)
 module _ (w : ℕ) (s : List ℕ) (h : Header) where
   -- 'at most f ones, none past box n−1'
   unfoldable pub placementStands : ℕ → Bool
-  placementStands i = leb (count (inPlacement w s h i) (h .n)) (h .f) && eqb (fieldOf s (placementAt w h i + h .n) (placementBits - h .n)) 0
+  placementStands i = leb (count (inPlacement w s h i) (h .n)) (h .f) && eqb (fieldOf s (placementAt w i + h .n) (placementBits - h .n)) 0
 
   -- 'Operations strictly rise by tick, then party': the first ten bits, as a number
   unfoldable pub operationRises : ℕ → Bool

@@ -63,13 +63,13 @@ moves h = (h .ticks + (h .period - 1)) / h .period
 abbrev pub parties : Header → ℕ
 parties h = h .n + 1 + h .readers
 
-module _ (w : ℕ) (h : Header) where
-  -- the first bit of placement i, operation i, forgery i
-  abbrev pub placementAt : ℕ → ℕ
-  placementAt i = headerBits w + placementBits * i
+-- the first bit of placement i, operation i, forgery i
+abbrev pub placementAt : ℕ → ℕ → ℕ
+placementAt w i = headerBits w + placementBits * i
 
+module _ (w : ℕ) (h : Header) where
   abbrev pub operationAt : ℕ → ℕ
-  operationAt i = placementAt (moves h) + operationBits w * i
+  operationAt i = placementAt w (moves h) + operationBits w * i
 
   abbrev pub forgeryAt : ℕ → ℕ
   forgeryAt i = operationAt (h .operations) + forgeryBits w * i

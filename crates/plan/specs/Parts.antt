@@ -33,7 +33,7 @@ forgeryIn w s at = forgeryFrom w (numbersAt (forgeryWidths w) s at)
 module _ (w : ℕ) (s : List ℕ) (h : Header) where
   -- 'box 0 is the top bit': is server b in placement i
   unfoldable pub inPlacement : ℕ → ℕ → Bool
-  inPlacement i b = eqb (fieldOf s (placementAt w h i + b) 1) 1
+  inPlacement i b = eqb (fieldOf s (placementAt w i + b) 1) 1
 
   unfoldable pub operationOf : ℕ → Operation
   operationOf i = operationIn w s (operationAt w h i)

@@ -1,5 +1,7 @@
 // A forgery of a plan, as its bits say it.
+use crate::header::Shape;
 ghost use Prim.Native.Nat.{_^_, _<_};
+ghost use Rattle.plan.specs.Header.{forgeryBits};
 ghost use Rattle.plan.specs.Steps.{IsForged};
 
 // A forged message: a tick, its sender, its receiver, and the stamped value that it names.
@@ -12,17 +14,38 @@ pub struct Forged {
 }
 
 impl Forged {
-    // Out of its 40 bits.
+    const TICK_BITS: usize = 7;
+
+    const SENDER_BITS: usize = 4;
+
+    const RECEIVER_BITS: usize = 5;
+
+    const VALUE_BITS: usize = Shape::VALUE_BITS;
+
+    const NUMBER_BITS: usize = 8;
+
+    // The bits behind each field.
+    const VALUE_AT: usize = Self::NUMBER_BITS;
+
+    const RECEIVER_AT: usize = Self::VALUE_AT + Self::VALUE_BITS;
+
+    const SENDER_AT: usize = Self::RECEIVER_AT + Self::RECEIVER_BITS;
+
+    const TICK_AT: usize = Self::SENDER_AT + Self::SENDER_BITS;
+
+    pub const BITS: usize = Self::TICK_AT + Self::TICK_BITS;
+
+    // Out of the number that has all its bits.
     pub fn of(all: u64) -> Forged
-        requires { ⌜ all < 2 ^ 40 ⌝ }
+        requires { ⌜ all < 2 ^ forgeryBits 16 ⌝ }
         ensures { λ r. ⌜ IsForged all r ⌝ }
     {
         Forged {
-            at: (all >> 33) as u8,
-            from: ((all >> 29) % 16) as u8,
-            to: ((all >> 24) % 32) as u8,
-            value: ((all >> 8) % 65536) as u32,
-            number: (all % 256) as u8,
+            at: records::part(all, Self::TICK_AT, Self::TICK_BITS) as u8,
+            from: records::part(all, Self::SENDER_AT, Self::SENDER_BITS) as u8,
+            to: records::part(all, Self::RECEIVER_AT, Self::RECEIVER_BITS) as u8,
+            value: records::part(all, Self::VALUE_AT, Self::VALUE_BITS) as u32,
+            number: records::part(all, 0, Self::NUMBER_BITS) as u8,
         }
     }
 }

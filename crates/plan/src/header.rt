@@ -1,11 +1,16 @@
 // The header of a plan by value, the sizes that follow from it, and the limits of all sizes.
+use crate::forgeries::Forged;
 use crate::logic::both;
 use crate::logic::is_within;
+use crate::operations::Operation;
 ghost use mathlib.Core.Path.{_≡_};
+ghost use mathlib.Core.Bool.{true};
 ghost use Prim.Native.Nat.{_+_, _*_, _≤_, _<_};
 ghost use lib.ListN.{length};
 ghost use Rattle.bits.specs.Fill.{bytesFor};
-ghost use Rattle.plan.specs.Header.{headerOf, kIn, moves, parties, operationAt, forgeryAt, bitLength};
+ghost use Rattle.bits.specs.Layout.{fits};
+ghost use Rattle.plan.specs.Widths.{headerWidths};
+ghost use Rattle.plan.specs.Header.{headerFrom, headerOf, headerBits, kIn, moves, parties, placementAt, operationAt, forgeryAt, bitLength};
 ghost use Rattle.plan.specs.Limits.{mostBytes, impliedBytes, mostReads};
 ghost use Rattle.plan.specs.Check.{headerInRange, enoughServers};
 ghost use Rattle.plan.specs.Shape.{shape, Ranged};
@@ -25,7 +30,19 @@ pub struct Shape {
 }
 
 impl Shape {
-    pub const HEADER_BYTES: usize = 8;
+    // The bits of a value.
+    pub const VALUE_BITS: usize = 16;
+
+    // The fields of a header in packed order.
+    pub const HEADER_WIDTHS: [u8; 10] = [5, 2, 4, 6, 3, 8, Self::VALUE_BITS as u8, 8, 11, 1];
+
+    pub const HEADER_BITS: usize = 64;
+
+    pub const HEADER_BYTES: usize = Self::HEADER_BITS / 8;
+
+    pub const PLACEMENT_BITS: usize = 16;
+
+    pub const DELAY_BITS: usize = 4;
 
     // The longest plan that Check accepts.
     pub const MOST_BYTES: usize = 34362;
@@ -73,22 +90,32 @@ impl Shape {
         Self::MOST_READS
     }
 
-    pub fn read(plan: &[u8]) -> Shape
-        requires { ⌜ 8 ≤ length (now plan) ⌝ }
-        ensures { λ r. ⌜ shape r ≡ headerOf 16 (now (plan .entry)) ⌝ }
+    // The header with these fields, in packed order.
+    pub fn of(x: &[u32]) -> Shape
+        requires { ⌜ fits (headerWidths 16) (now x) ≡ true ⌝ }
+        ensures { λ r. ⌜ shape r ≡ headerFrom (now (x .entry)) ⌝ }
     {
         Shape {
-            n: bits::field(plan, 0, 5) as u8,
-            f: bits::field(plan, 5, 2) as u8,
-            delta: bits::field(plan, 7, 4) as u8,
-            period: bits::field(plan, 11, 6) as u8,
-            readers: bits::field(plan, 17, 3) as u8,
-            ticks: bits::field(plan, 20, 8) as u8,
-            initial: bits::field(plan, 28, 16) as u32,
-            operations: bits::field(plan, 44, 8) as u8,
-            forgeries: bits::field(plan, 52, 11) as u16,
-            zero: bits::field(plan, 63, 1) as u8,
+            n: x[0] as u8,
+            f: x[1] as u8,
+            delta: x[2] as u8,
+            period: x[3] as u8,
+            readers: x[4] as u8,
+            ticks: x[5] as u8,
+            initial: x[6],
+            operations: x[7] as u8,
+            forgeries: x[8] as u16,
+            zero: x[9] as u8,
         }
+    }
+
+    pub fn read(plan: &[u8]) -> Shape
+        requires { ⌜ bytesFor (headerBits 16) ≤ length (now plan) ⌝ }
+        ensures { λ r. ⌜ shape r ≡ headerOf 16 (now (plan .entry)) ⌝ }
+    {
+        let mut x = [0u32; 10];
+        records::read(plan, 0, &Self::HEADER_WIDTHS, &mut x);
+        Self::of(&x)
     }
 
     pub fn is_in_range(self) -> bool
@@ -158,12 +185,20 @@ impl Shape {
         self.n as usize + 1 + self.readers as usize
     }
 
+    // The first bit of placement i.
+    pub fn placement_at(i: usize) -> usize
+        requires { ⌜ i ≤ 255 ⌝ }
+        ensures { λ r. ⌜ r ≡ placementAt 16 i ⌝ }
+    {
+        Self::HEADER_BITS + Self::PLACEMENT_BITS * i
+    }
+
     // The first bit of the operations.
     pub fn operations_at(self) -> usize
         requires { ⌜ Ranged (shape self) ⌝ }
-        ensures { λ r. ⌜ (r ≡ 64 + 16 * moves (shape self)) × (r ≤ 2112) ⌝ }
+        ensures { λ r. ⌜ (r ≡ placementAt 16 (moves (shape self))) × (r ≤ 2112) ⌝ }
     {
-        64 + 16 * self.moves()
+        Self::placement_at(self.moves())
     }
 
     // The first bit of the forgeries.
@@ -171,7 +206,7 @@ impl Shape {
         requires { ⌜ Ranged (shape self) ⌝ }
         ensures { λ r. ⌜ (r ≡ operationAt 16 (shape self) (self .operations)) × (r ≤ 8742) ⌝ }
     {
-        self.operations_at() + 26 * (self.operations as usize)
+        self.operations_at() + Operation::BITS * (self.operations as usize)
     }
 
     // The first bit of the delays.
@@ -179,7 +214,7 @@ impl Shape {
         requires { ⌜ Ranged (shape self) ⌝ }
         ensures { λ r. ⌜ (r ≡ forgeryAt 16 (shape self) (self .forgeries)) × (r ≤ 49702) ⌝ }
     {
-        self.forgeries_at() + 40 * (self.forgeries as usize)
+        self.forgeries_at() + Forged::BITS * (self.forgeries as usize)
     }
 
     // The first of the final zero bits.
@@ -188,7 +223,7 @@ impl Shape {
         ensures { λ r. ⌜ (r ≡ bitLength 16 (shape self)) × (r ≤ 275494) ⌝ }
     {
         let parties = self.parties();
-        self.delays_at() + 4 * (self.ticks as usize * (parties * parties))
+        self.delays_at() + Self::DELAY_BITS * (self.ticks as usize * (parties * parties))
     }
 
     // The bytes of a plan with this header: the final bits fill the last one.

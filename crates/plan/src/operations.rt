@@ -3,6 +3,7 @@ use crate::header::Shape;
 ghost use mathlib.Core.Path.{_≡_};
 ghost use Prim.Native.Nat.{_+_, _*_, _^_, _≤_, _<_};
 ghost use lib.ListN.{length};
+ghost use Rattle.plan.specs.Header.{operationBits};
 ghost use Rattle.plan.specs.Check.{endOf};
 ghost use Rattle.plan.specs.Shape.{shape};
 ghost use Rattle.plan.specs.Steps.{operation, IsOperation};
@@ -15,16 +16,25 @@ pub struct Operation {
 }
 
 impl Operation {
-    // The operation in the 26 bits from bit `at` on.
+    const TICK_BITS: usize = 7;
+
+    const PARTY_BITS: usize = 3;
+
+    const VALUE_BITS: usize = Shape::VALUE_BITS;
+
+    // Its fields in packed order.
+    pub const BITS: usize = Self::TICK_BITS + Self::PARTY_BITS + Self::VALUE_BITS;
+
+    // The operation from bit `at` on, out of one number.
     pub fn read(plan: &[u8], at: usize) -> Operation
-        requires { ⌜ (at + 26 ≤ 8 * length (now plan)) × (at < 2 ^ 60) ⌝ }
+        requires { ⌜ (at + operationBits 16 ≤ 8 * length (now plan)) × (at < 2 ^ 60) ⌝ }
         ensures { λ r. ⌜ IsOperation (now (plan .entry)) at r ⌝ }
     {
-        let all = bits::field(plan, at, 26);
+        let all = bits::field(plan, at, Self::BITS);
         Operation {
-            at: (all >> 19) as u8,
-            party: ((all >> 16) % 8) as u8,
-            value: (all % 65536) as u32,
+            at: records::part(all, Self::PARTY_BITS + Self::VALUE_BITS, Self::TICK_BITS) as u8,
+            party: records::part(all, Self::VALUE_BITS, Self::PARTY_BITS) as u8,
+            value: records::part(all, 0, Self::VALUE_BITS) as u32,
         }
     }
 

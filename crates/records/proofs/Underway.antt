@@ -1,6 +1,5 @@
 -- A record that is being read: the fields so far, and those that are left.
 use mathlib.Core.Path.{_≡_}
-use mathlib.Core.Bool.{Bool, true, false, _&&_}
 use mathlib.Core.List.{List, _∷_, _++_, append-nil}
 use Prim.Native.Nat.{ℕ, suc, _+_, _≤_, _<_}
 use native.Mathlib.Nat.{add-assoc}
@@ -8,6 +7,7 @@ use native.Mathlib.Omega.{arith}
 use lib.Dec.{T, leb, leb→le}
 use lib.ListN.{length, getD, set, take, drop, length-set, drop-of-length-le}
 use lib.Seq.{drop-cons, take-all, take-suc-set, append-snoc}
+use Rattle.register.proofs.Logic.{and-l, and-r}
 use Rattle.bits.specs.Field.{fieldOf}
 use Rattle.bits.specs.Layout.{total, numbersAt}
 use Rattle.records.specs.Records.{noWider}
@@ -19,30 +19,28 @@ pub record Underway (ws s : List ℕ) (at : ℕ) (out : List ℕ) (from i : ℕ)
   pub narrow : T (noWider 32 (drop i ws))
   pub numbers : take i out ++ numbersAt (drop i ws) s from ≡ numbersAt ws s at
 
-both : (a b : Bool) → T (a && b) → T a × T b
-both true true h = (tt, tt)
-
 module _ {ws s : List ℕ} {at : ℕ} {out : List ℕ} {from i : ℕ} (u : Underway ws s at out from i) (l : i < length ws) where
   split : drop i ws ≡ getD ws i 0 ∷ drop (suc i) ws
   split = drop-cons ws i 0 l
 
-  rest : T (leb (getD ws i 0) 32) × T (noWider 32 (drop (suc i) ws))
-  unfolding noWider
-  rest = let e = u .narrow in both (leb (getD ws i 0) 32) (noWider 32 (drop (suc i) ws)) (rw split at e)
-
   -- the next field is narrow, and lies inside
   pub next-narrow : getD ws i 0 ≤ 32
-  next-narrow = leb→le _ _ (rest .0)
+  unfolding noWider
+  next-narrow = let e = u .narrow in leb→le _ _ (and-l (leb (getD ws i 0) 32) (noWider 32 (drop (suc i) ws)) (rw split at e))
 
   pub next-inside : from + getD ws i 0 + total (drop (suc i) ws) ≡ at + total ws
   next-inside = let e = u .bits in rw (split, ← add-assoc) at e
 
+  rest-narrow : T (noWider 32 (drop (suc i) ws))
+  unfolding noWider
+  rest-narrow = let e = u .narrow in and-r (leb (getD ws i 0) 32) (noWider 32 (drop (suc i) ws)) (rw split at e)
+
   pub more : Underway ws s at (set out i (fieldOf s from (getD ws i 0))) (from + getD ws i 0) (suc i)
   more = record {
     few = l;
-    places = rw (length-set) (u .places);
+    places = rw length-set (u .places);
     bits = next-inside;
-    narrow = rest .1;
+    narrow = rest-narrow;
     numbers =
         let j : i < length out = omega (arith, u .places) in
         let e = u .numbers in

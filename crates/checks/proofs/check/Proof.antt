@@ -11,7 +11,8 @@ use denote.Ref.{now}
 use Rattle.plan.specs.declared.header.Shape.{Shape}
 use Rattle.plan.specs.Header.{Header, headerOf, bitLength}
 use Rattle.plan.specs.Packed.{planOf}
-use Rattle.plan.specs.Check.{bytesFor, headerInRange, enoughServers, placementsStand, operationsStand, forgeriesStand, delaysStand, finalBitsZero, checkOf}
+use Rattle.bits.specs.Fill.{bytesFor}
+use Rattle.plan.specs.Check.{headerInRange, enoughServers, placementsStand, operationsStand, forgeriesStand, delaysStand, finalBitsZero, checkOf}
 use Rattle.plan.specs.Shape.{shape, Ranged, Sized}
 use Rattle.plan.proofs.Sizes.{sizes}
 use Rattle.plan.proofs.Ranges.{ranged-header}

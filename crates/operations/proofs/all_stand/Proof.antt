@@ -8,7 +8,7 @@ use lib.Dec.{leb}
 use lib.ListN.{getD}
 use borrow.Author.Tests.{not-true, not-false, lt-leb, le-leb}
 use denote.Ref.{now}
-use Rattle.plan.specs.Header.{Header, operationAt}
+use Rattle.plan.specs.Header.{Header, operationBits, operationAt}
 use Rattle.plan.specs.Steps.{operation, IsOperation}
 use Rattle.operations.specs.Steps.{standsAlone}
 use Rattle.plan.specs.Shape.{shape}
@@ -39,7 +39,7 @@ stop c e = sym (all-stop _ (c .before .loop .i) (header (c .before) .operations)
 here : (c : tie.After-read Inv-loop μ-loop)
     → IsOperation (bytes (c .before .before)) (operationAt 16 (header (c .before .before)) (c .before .before .loop .i)) (c .read .result)
 here c =
-    let e : c .before .before .before .operations-at .result + 26 * c .before .before .loop .i ≡ operationAt 16 (header (c .before .before)) (c .before .before .loop .i) = omega arith in
+    let e : c .before .before .before .operations-at .result + operationBits 16 * c .before .before .loop .i ≡ operationAt 16 (header (c .before .before)) (c .before .before .loop .i) = omega arith in
     rw e at (c .read .ensures)
 
 tested : (c : tie.After-read Inv-loop μ-loop) → operationStands 16 (bytes (c .before .before)) (header (c .before .before)) (c .before .before .loop .i)

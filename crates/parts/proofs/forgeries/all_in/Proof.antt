@@ -11,7 +11,7 @@ use borrow.Author.Needs.{needs}
 use denote.Ref.{now}
 use Rattle.bits.specs.Field.{fieldOf}
 use Rattle.register.specs.Lists.{allUpTo}
-use Rattle.plan.specs.Header.{Header, forgeryAt, operationAt}
+use Rattle.plan.specs.Header.{Header, forgeryBits, forgeryAt, operationAt}
 use Rattle.plan.specs as plan-specs
 use Rattle.parts.specs.Steps.{forgedAlone}
 use Rattle.plan.specs.Check.{forgeryStands, forgeriesStand}
@@ -23,7 +23,7 @@ abbrev Inv-loop : tie.InvT-loop
 Inv-loop part offset plan h table n next₀ i₀ next i =
     (i ≤ n)
     × (allUpTo i (forgeryStands 16 plan (plan-specs.Shape.shape h)) ≡ true)
-    × (next ≡ plan-laws.Waiting.follows (λ j. fieldOf plan (forgeryAt 16 (plan-specs.Shape.shape h) j) 40) i)
+    × (next ≡ plan-laws.Waiting.follows (λ j. fieldOf plan (forgeryAt 16 (plan-specs.Shape.shape h) j) (forgeryBits 16)) i)
 
 abbrev μ-loop : tie.MeasureT-loop
 μ-loop part offset plan h table n next₀ i₀ next i = n - i
@@ -41,10 +41,10 @@ unfolding forgeriesStand
 stop c e = sym (plan-laws.Laws.all-stop _ (c .before .loop .i) (header (c .before) .forgeries) (omega arith) e)
 
 -- the field of the part is the plan's
-forged : (c : tie.After-field Inv-loop μ-loop) → c .field .result ≡ fieldOf (bytes (c .before .before)) (forgeryAt 16 (header (c .before .before)) (c .before .before .loop .i)) 40
+forged : (c : tie.After-field Inv-loop μ-loop) → c .field .result ≡ fieldOf (bytes (c .before .before)) (forgeryAt 16 (header (c .before .before)) (c .before .before .loop .i)) (forgeryBits 16)
 forged c =
     let a = c .before .before .before .before .before .before .args in
-    c .field .ensures .0 ∙ parts-laws.Forging.in-part (now (a .plan)) (plan-specs.Shape.shape (a .h)) (now (a .part)) (a .offset) (c .before .before .before .before .before .before .pre .4) (c .before .before .loop .i) 40
+    c .field .ensures .0 ∙ parts-laws.Forging.in-part (now (a .plan)) (plan-specs.Shape.shape (a .h)) (now (a .part)) (a .offset) (c .before .before .before .before .before .before .pre .4) (c .before .before .loop .i) (forgeryBits 16)
 
 tested : (c : tie.After-of Inv-loop μ-loop) → forgeryStands 16 (bytes (c .before .before .before)) (header (c .before .before .before)) (c .before .before .before .loop .i)
     ≡ forgedAlone (bytes (c .before .before .before)) (header (c .before .before .before)) (plan-specs.Steps.forgery (c .of .result)) && leb (c .before .before .before .loop .next) (c .before .field .result)
@@ -100,7 +100,7 @@ loop-again c =
     let l = c .before .before .before .before .before .before in
     let alone = sym (c .before .before .stands-alone .ensures) ∙ not-false _ (c .before .if1 .left) in
     let t : forgeryStands 16 (bytes l) (header l) (l .loop .i) ≡ true = rw (tested (c .before .before .before), alone, le-leb _ _ (c .if2 .left)) in
-    (omega arith, plan-laws.Laws.all-more _ _ (l .loop .inv .1) t, rw (forged (c .before .before .before .before)) (plan-laws.Waiting.follows-more (λ j. fieldOf (bytes l) (forgeryAt 16 (header l) j) 40) (l .loop .i)))
+    (omega arith, plan-laws.Laws.all-more _ _ (l .loop .inv .1) t, rw (forged (c .before .before .before .before)) (plan-laws.Waiting.follows-more (λ j. fieldOf (bytes l) (forgeryAt 16 (header l) j) (forgeryBits 16)) (l .loop .i)))
 
 returns-3 : tie.Need-returns-3 Inv-loop μ-loop
 unfolding forgeriesStand

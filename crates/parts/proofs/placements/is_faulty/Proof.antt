@@ -4,21 +4,18 @@ use Rattle.plan.specs.Parts.{inPlacement}
 use Rattle.parts.proofs.placements.is_faulty.Statement.{statement}
 use Rattle.parts.proofs.placements.is_faulty.Tie as tie
 
-mul-field : tie.Need-mul-field
-mul-field c = omega arith
+placement-at-requires : tie.Need-placement-at-requires
+placement-at-requires c κs = omega arith
 
 add-field : tie.Need-add-field
 add-field c = omega arith
-
-add-field-2 : tie.Need-add-field-2
-add-field-2 c = omega arith
 
 field-requires : tie.Need-field-requires
 field-requires c κs = omega arith
 
 returns : tie.Need-returns
 unfolding inPlacement
-returns c = rw (← c .field .ensures .0)
+returns c = rw (c .field .ensures .0, c .before .placement-at .ensures)
 
 pub is-faulty-spec : {M : Type 1} → statement M
-is-faulty-spec = tie.close (tie.spec mul-field add-field add-field-2 field-requires returns)
+is-faulty-spec = tie.close (tie.spec placement-at-requires add-field field-requires returns)

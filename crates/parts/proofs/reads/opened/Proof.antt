@@ -6,7 +6,7 @@ use Prim.Native.Nat.{ℕ, _+_, _*_, _-_, _≤_}
 use native.Mathlib.Omega.{arith}
 use lib.ListN.{length}
 use denote.Ref.{now}
-use Rattle.plan.specs.Header.{Header, operationAt}
+use Rattle.plan.specs.Header.{Header, operationBits, operationAt}
 use Rattle.plan.specs.Steps.{IsOperation}
 use Rattle.parts.specs.Steps.{Opened}
 use Rattle.plan.specs.Shape.{shape}
@@ -30,7 +30,7 @@ header c = shape (c .before .before .before .before .args .h)
 here : (c : tie.After-read Inv-loop μ-loop)
     → IsOperation (bytes (c .before .before)) (operationAt 16 (header (c .before .before)) (c .before .before .loop .i)) (c .read .result)
 here c =
-    let e : c .before .before .before .operations-at .result + 26 * c .before .before .loop .i ≡ operationAt 16 (header (c .before .before)) (c .before .before .loop .i) = omega arith in
+    let e : c .before .before .before .operations-at .result + operationBits 16 * c .before .before .loop .i ≡ operationAt 16 (header (c .before .before)) (c .before .before .loop .i) = omega arith in
     rw e at (c .read .ensures)
 
 cast-n : tie.Need-cast-n Inv-loop μ-loop

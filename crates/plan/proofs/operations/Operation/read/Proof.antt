@@ -1,35 +1,58 @@
 -- `operations::Operation::read` meets its contract: the fields are parts of one number.
-use mathlib.Core.Path.{sym}
-use native.Mathlib.Omega.{arith}
+use mathlib.Core.Path.{ap, sym}
 use denote.Ref.{now}
-use Rattle.bits.proofs.Laws.{field-first, field-inner, field-last}
+use borrow.Author.Needs.{needs}
+use Rattle.bits.proofs.Numbers.{numbers-in}
+use Rattle.plan.specs.Widths.{operationWidths}
+use Rattle.plan.specs.Parts.{operationFrom}
 use Rattle.plan.proofs.operations.Operation.read.Statement.{statement}
 use Rattle.plan.proofs.operations.Operation.read.Tie as tie
 
 field-requires : tie.Need-field-requires
-field-requires c κs = omega arith
+field-requires c κs = search needs
 
-cast-t5 : tie.Need-cast-t5
-cast-t5 c = omega arith
+add-part : tie.Need-add-part
+add-part c = search needs
+
+part-requires : tie.Need-part-requires
+part-requires c κs = search needs
+
+cast-t6 : tie.Need-cast-t6
+cast-t6 c = search needs
+
+part-requires-2 : tie.Need-part-requires-2
+part-requires-2 c κs = search needs
 
 cast-t8 : tie.Need-cast-t8
-cast-t8 c = omega arith
+cast-t8 c = search needs
+
+part-requires-3 : tie.Need-part-requires-3
+part-requires-3 c κs = search needs
 
 cast-t10 : tie.Need-cast-t10
-cast-t10 c = omega arith
+cast-t10 c = search needs
 
 returns : tie.Need-returns
 returns c =
-    let s = now (c .before .before .args .plan) in
-    let at = c .before .before .args .at in
-    let e = c .field .ensures .0 in
+    let a = c .before .before .before .before .before .args in
     record {
-      tick = rw e (sym (field-first s at 7 19));
-      party = rw e (sym (field-inner s at 7 3 16));
-      value = rw e (sym (field-last s at 10 16));
-      tick-hi = omega arith;
-      party-hi = omega arith;
+      is =
+          rw (c .part3 .ensures .0, c .before .part2 .ensures .0, c .before .before .part .ensures .0, c .before .before .before .field .ensures .0)
+          (ap operationFrom (sym (numbers-in (operationWidths 16) (now (a .plan)) (a .at))));
+      tick-hi = search needs;
+      party-hi = search needs;
     }
 
 pub read-spec : {M : Type 1} → statement M
-read-spec = tie.close (tie.spec field-requires cast-t5 cast-t8 cast-t10 returns)
+read-spec =
+    tie.close
+    (tie.spec
+    field-requires
+    add-part
+    part-requires
+    cast-t6
+    part-requires-2
+    cast-t8
+    part-requires-3
+    cast-t10
+    returns)
