@@ -133,7 +133,7 @@ module _ (w : ℕ) (l : Lists) where
     pub end-H : length H ≡ header.headerBits w
     end-H = packing.packed-length (widths.headerWidths w) (l .header) (full .header)
 
-    pub end-P : length (H ++ P) ≡ header.placementAt w (listed w l) (moves (listed w l))
+    pub end-P : length (H ++ P) ≡ header.placementAt w (moves (listed w l))
     end-P = length-append H P ∙ rw (end-H, records-total (moves (listed w l)) widths.placementWidths (l .placements) (full .placements))
 
     pub end-O : length ((H ++ P) ++ O) ≡ header.operationAt w (listed w l) (listed w l .operations)
@@ -160,10 +160,10 @@ module _ (w : ℕ) (l : Lists) where
     full : Full w l
     full = fit-full w l fit
 
-    placements-back : numbersAt (placementsWidths w h) (packedPlan w l) (header.placementAt w h 0) ≡ l .placements
+    placements-back : numbersAt (placementsWidths w h) (packedPlan w l) (header.placementAt w 0) ≡ l .placements
     unfolding planBits h
     placements-back =
-        part-back (placementsWidths w h) (l .placements) H (O ++ (F ++ D)) (header.placementAt w h 0) (fit .placements) small-H small-OFD refl (omega (arith, end-H full))
+        part-back (placementsWidths w h) (l .placements) H (O ++ (F ++ D)) (header.placementAt w 0) (fit .placements) small-H small-OFD refl (omega (arith, end-H full))
 
     operations-back : numbersAt (operationsWidths w h) (packedPlan w l) (header.operationAt w h 0) ≡ l .operations
     unfolding planBits h

@@ -41,7 +41,7 @@ listsOf w s =
     let h : Header = headerOf w s in
     record {
       header = numbersAt (headerWidths w) s 0;
-      placements = numbersAt (placementsWidths w h) s (placementAt w h 0);
+      placements = numbersAt (placementsWidths w h) s (placementAt w 0);
       operations = numbersAt (operationsWidths w h) s (operationAt w h 0);
       forgeries = numbersAt (forgeriesWidths w h) s (forgeryAt w h 0);
       delays = numbersAt (delaysWidths w h) s (delayAt w h 0 0 0);
