@@ -1,6 +1,6 @@
 -- Whether numbers fit, found one by one: those that are left, by field and by record.
 -- It stands on the laws of records one behind the other.
-use mathlib.Core.Path.{_≡_, _∙_, refl, ap, sym}
+use mathlib.Core.Path.{_≡_, _∙_, ap, sym}
 use mathlib.Core.Bool.{Bool, true, false, _&&_}
 use mathlib.Core.List.{List, [], _∷_, _++_}
 use Prim.Native.Nat.{ℕ, zero, suc, _+_, _*_, _-_, _^_, _≤_, _<_}
@@ -8,10 +8,10 @@ use native.Mathlib.Nat.{mul-le-mul-left}
 use native.Mathlib.Omega.{arith}
 use lib.Dec.{T, ltb, leb, leb→le}
 use lib.ListN.{length, getD, take, drop, length-drop, drop-of-length-le, take-append-drop}
-use lib.Seq.{drop-cons, drop-drop, length-take-le}
+use lib.Seq.{take-all, drop-cons, drop-drop, length-take-le}
 use Rattle.bits.specs.Layout.{records, fits}
 use Rattle.records.specs.Records.{noWider}
-use Rattle.bits.proofs.Records.{fits-append}
+use Rattle.bits.proofs.Records.{records-suc, fits-append}
 
 both : (a b : Bool) → T (a && b) → T a × T b
 both true true h = (tt, tt)
@@ -50,26 +50,42 @@ module _ (vs xs : List ℕ) (room : length vs ≤ length xs) where
       let z : length vs - j ≡ 0 = omega arith in
       rw (drop-of-length-le vs l, z)
 
+-- of so many turns, each as long as the others, the i-th ends inside
+pub turn-inside : (size i count : ℕ) → i < count → size * i + size ≤ size * count
+turn-inside size i count l = omega (arith, mul-le-mul-left size l)
+
+-- the part of a list from a place on
+pub part-from : (a : ℕ) (xs : List ℕ) → take (length xs - a) (drop a xs) ≡ drop a xs
+part-from a xs = take-all (length xs - a) (drop a xs) (rw length-drop (omega arith))
+
 module _ (vs xs : List ℕ) (count : ℕ) (size : length xs ≡ length vs * count) where
   -- the numbers of the records from record i on
   abbrev pub behind : ℕ → List ℕ
   behind i = drop (length vs * i) xs
 
-  records-split : (m : ℕ) → records (suc m) vs ≡ vs ++ records m vs
-  unfolding records
-  records-split m = refl
-
   -- a record more, of numbers that are there
   module _ (i : ℕ) (l : i < count) where
     pub numbers-there : length vs ≤ length (behind i)
-    numbers-there = let m = mul-le-mul-left (length vs) l in rw length-drop (omega (arith, size))
+    numbers-there = rw length-drop (omega (arith, size, turn-inside (length vs) i count l))
 
     record-next : fits (records (count - i) vs) (behind i) ≡ fits vs (take (length vs) (behind i)) && fits (records (count - suc i) vs) (behind (suc i))
     record-next =
         let e : count - i ≡ suc (count - suc i) = omega arith in
         let n : length vs * i + length vs ≡ length vs * suc i = omega arith in
         let d : drop (length vs) (behind i) ≡ behind (suc i) = drop-drop (length vs) (length vs * i) xs ∙ ap (λ (j : ℕ). drop j xs) n in
-        let whole = take-append-drop (length vs) (behind i) in
-        rw (e, records-split, ← whole)
-        (fits-append (records (count - suc i) vs) (drop (length vs) (behind i)) vs (take (length vs) (behind i)) (length-take-le (length vs) (behind i) numbers-there)
+        rw (e, records-suc)
+        (ap (λ (l : List ℕ). fits (vs ++ records (count - suc i) vs) l) (sym (take-append-drop (length vs) (behind i)))
+        ∙ fits-append (records (count - suc i) vs) (drop (length vs) (behind i)) vs (take (length vs) (behind i)) (length-take-le (length vs) (behind i) numbers-there)
         ∙ rw d)
+
+    pub record-more : fits vs (take (length vs) (behind i)) ≡ true → fits (records (count - i) vs) (behind i) ≡ fits (records (count - suc i) vs) (behind (suc i))
+    record-more e = record-next ∙ rw e
+
+    pub record-stop : fits vs (take (length vs) (behind i)) ≡ false → fits (records (count - i) vs) (behind i) ≡ false
+    record-stop e = record-next ∙ rw e
+
+  pub record-end : (i : ℕ) → i ≡ count → fits (records (count - i) vs) (behind i) ≡ true
+  unfolding records fits
+  record-end i e =
+      let z : count - count ≡ 0 = omega arith in
+      rw (e, z, drop-of-length-le xs {i = length vs * count} (omega arith))
