@@ -3,7 +3,7 @@ ghost use mathlib.Core.Path.{_≡_};
 ghost use Prim.Native.Nat.{_*_, _^_, _≤_};
 ghost use lib.Dec.{T, ltb};
 ghost use lib.ListN.{length, take};
-ghost use Rattle.bits.specs.Layout.{records, fits};
+ghost use Rattle.bits.specs.Layout.{total, records, fits, bitsOf, packedBits};
 ghost use Rattle.records.specs.Records.{noWider};
 
 // Has the number no more bits than this.
@@ -44,4 +44,32 @@ pub fn fits_all(widths: &[u8], numbers: &[u32], count: usize) -> bool
         i += 1;
     }
     true
+}
+
+// The sum of the widths.
+fn total(widths: &[u8]) -> usize
+    requires { ⌜ total (now widths) ≤ 57 ⌝ }
+    ensures { λ r. ⌜ r ≡ total (now (widths .entry)) ⌝ }
+{
+    let mut bits = 0;
+    let mut j = 0;
+    while j < widths.len() {
+        bits += widths[j] as usize;
+        j += 1;
+    }
+    bits
+}
+
+// The first numbers, joined into one that has all bits of the record: of a number too wide the lowest bits.
+fn joined(widths: &[u8], numbers: &[u32]) -> u64
+    requires { ⌜ T (noWider 32 (now widths)) × (total (now widths) ≤ 57) × (length (now widths) ≤ length (now numbers)) ⌝ }
+    ensures { λ r. ⌜ bitsOf (total (now (widths .entry))) r ≡ packedBits (now (widths .entry)) (take (length (now (widths .entry))) (now (numbers .entry))) ⌝ }
+{
+    let mut acc: u64 = 0;
+    let mut j = 0;
+    while j < widths.len() {
+        acc = bits::behind(acc, widths[j] as usize, numbers[j] as u64);
+        j += 1;
+    }
+    acc
 }

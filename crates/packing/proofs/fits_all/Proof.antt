@@ -5,10 +5,11 @@ use native.Mathlib.Nat.{sub-zero}
 use native.Mathlib.Numerals.{add-one}
 use native.Mathlib.Omega.{arith}
 use denote.Ref.{now}
-use lib.ListN.{length, take, drop}
+use lib.ListN.{length, drop}
 use borrow.Author.Needs.{needs}
 use borrow.Author.Tests.{not-true, not-false}
 use Rattle.bits.specs.Layout.{records, fits}
+use Rattle.packing.proofs.Turns.{turn-inside, part-from, numbers-there}
 use Rattle.packing.proofs.Fitting as fitting
 use Rattle.packing.proofs.fits_all.Statement.{statement}
 use Rattle.packing.proofs.fits_all.Tie as tie
@@ -29,25 +30,25 @@ loop-holds c =
 mul-from : tie.Need-mul-from Inv-loop μ-loop
 mul-from c =
     let a = c .before .before .before .before .args in
-    let m = fitting.turn-inside (length (now (a .widths))) (c .before .loop .i) (a .count) (omega arith) in
+    let m = turn-inside (length (now (a .widths))) (c .before .loop .i) (a .count) (omega arith) in
     omega arith
 
 mul-fits-one : tie.Need-mul-fits-one Inv-loop μ-loop
 mul-fits-one c =
     let a = c .before .before .before .before .args in
-    let m = fitting.turn-inside (length (now (a .widths))) (c .before .loop .i) (a .count) (omega arith) in
+    let m = turn-inside (length (now (a .widths))) (c .before .loop .i) (a .count) (omega arith) in
     omega arith
 
 sub-fits-one : tie.Need-sub-fits-one Inv-loop μ-loop
 sub-fits-one c =
     let a = c .before .before .before .before .args in
-    let m = fitting.turn-inside (length (now (a .widths))) (c .before .loop .i) (a .count) (omega arith) in
+    let m = turn-inside (length (now (a .widths))) (c .before .loop .i) (a .count) (omega arith) in
     omega arith
 
 part-fits-one-start : tie.Need-part-fits-one-start Inv-loop μ-loop
 part-fits-one-start c =
     let a = c .before .before .before .before .args in
-    let m = fitting.turn-inside (length (now (a .widths))) (c .before .loop .i) (a .count) (omega arith) in
+    let m = turn-inside (length (now (a .widths))) (c .before .loop .i) (a .count) (omega arith) in
     omega arith
 
 part-fits-one-end : tie.Need-part-fits-one-end Inv-loop μ-loop
@@ -58,14 +59,14 @@ fits-one-requires c κs =
     let s = c .before .before .before .before .before in
     let a = s .args in
     let l = c .before .before .loop in
-    (s .pre .0, rw fitting.part-from (fitting.numbers-there (now (a .widths)) (now (a .numbers)) (a .count) (s .pre .1) (l .i) (omega arith)))
+    (s .pre .0, rw part-from (numbers-there (now (a .widths)) (now (a .numbers)) (a .count) (s .pre .1) (l .i) (omega arith)))
 
 returns : tie.Need-returns Inv-loop μ-loop
 returns c =
     let s = c .before .before .before .before .before .before .before in
     let a = s .args in
     let l = c .before .before .before .before .loop in
-    let e = rw fitting.part-from at (c .before .fits-one .ensures) in
+    let e = rw part-from at (c .before .fits-one .ensures) in
     sym (l .inv .1 ∙ fitting.record-stop (now (a .widths)) (now (a .numbers)) (a .count) (s .pre .1) (l .i) (omega arith) (sym e ∙ not-true _ (c .if1 .taken)))
 
 add-i : tie.Need-add-i Inv-loop μ-loop
@@ -79,7 +80,7 @@ loop-again c =
     let s = c .before .before .before .before .before .before .before in
     let a = s .args in
     let l = c .before .before .before .before .loop in
-    let e = rw fitting.part-from at (c .before .fits-one .ensures) in
+    let e = rw part-from at (c .before .fits-one .ensures) in
     let m = fitting.record-more (now (a .widths)) (now (a .numbers)) (a .count) (s .pre .1) (l .i) (omega arith) (sym e ∙ not-false _ (c .if1 .left)) in
     (search needs, rw add-one (l .inv .1 ∙ m))
 

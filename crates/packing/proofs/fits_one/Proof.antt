@@ -9,6 +9,7 @@ use lib.ListN.{length, take, drop}
 use borrow.Author.Needs.{needs}
 use borrow.Author.Tests.{not-true, not-false}
 use Rattle.bits.specs.Layout.{fits}
+use Rattle.packing.proofs.Turns.{narrow-at}
 use Rattle.packing.proofs.Fitting as fitting
 use Rattle.packing.proofs.fits_one.Statement.{statement}
 use Rattle.packing.proofs.fits_one.Tie as tie
@@ -32,7 +33,7 @@ shared-slice-read-is-narrow-2 : tie.Need-shared-slice-read-is-narrow-2 Inv-loop 
 shared-slice-read-is-narrow-2 c = search needs
 
 is-narrow-requires : tie.Need-is-narrow-requires Inv-loop μ-loop
-is-narrow-requires c κs = fitting.narrow-at 32 _ _ (c .before .before .before .before .before .before .pre .0) (omega arith)
+is-narrow-requires c κs = narrow-at 32 _ _ (c .before .before .before .before .before .before .pre .0) (omega arith)
 
 returns : tie.Need-returns Inv-loop μ-loop
 returns c =
