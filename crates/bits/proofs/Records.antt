@@ -14,7 +14,7 @@ total-append [] b = omega arith
 total-append (v ∷ a) b = rw (total-append a b) (omega arith)
 
 module _ (vs : List ℕ) where
-  records-suc : (m : ℕ) → records (suc m) vs ≡ vs ++ records m vs
+  pub records-suc : (m : ℕ) → records (suc m) vs ≡ vs ++ records m vs
   unfolding records
   records-suc m = refl
 
