@@ -1,7 +1,7 @@
 // What the operations return, as one number each: a result below REFUSED, or REFUSED and the refusal's number.
 ghost use mathlib.Core.Path.{_≡_};
 ghost use mathlib.Core.List.{[]};
-ghost use Prim.Native.Nat.{_<_};
+ghost use Prim.Native.Nat.{_≤_};
 ghost use Rattle.plan.specs.Numbered.{refusalNumber, numbered};
 ghost use Rattle.simulator.specs.Numbered.{played, judged, lookedAs};
 ghost use Rattle.codes.specs.Codes.{refusalCode, readsCode, verdictCode, shownCode};
@@ -14,9 +14,9 @@ use simulator::play::Played;
 // What a refusal's number is added to.
 pub const REFUSED: usize = 256;
 
-// The published number of Check's refusal.
+// The published number of a refusal.
 fn number(why: Refusal) -> usize
-    ensures { λ r. ⌜ (r ≡ refusalNumber why) × (r < 256) ⌝ }
+    ensures { λ r. ⌜ (r ≡ refusalNumber why) × (r ≤ 23) ⌝ }
 {
     match why {
         Refusal::TooShort => 1,
@@ -27,6 +27,21 @@ fn number(why: Refusal) -> usize
         Refusal::Operation => 6,
         Refusal::Forgery => 7,
         Refusal::Delay => 8,
+        Refusal::AnswersShort => 9,
+        Refusal::WorkspaceShort => 10,
+        Refusal::OutOfRange => 11,
+        Refusal::WrongLength => 12,
+        Refusal::WrongRead => 13,
+        Refusal::BufferShort => 14,
+        Refusal::PageShort => 15,
+        Refusal::StopRange => 16,
+        Refusal::StateLength => 17,
+        Refusal::StateRange => 18,
+        Refusal::ValueTooWide => 19,
+        Refusal::CarriedShort => 20,
+        Refusal::Rights => 21,
+        Refusal::NoRight => 22,
+        Refusal::TextShort => 23,
     }
 }
 
@@ -51,8 +66,6 @@ pub fn of_play(p: Played) -> usize
     match p {
         Played::Reads(m) => m,
         Played::Refused(why) => refusal(why),
-        Played::AnswersShort => REFUSED + 9,
-        Played::WorkspaceShort => REFUSED + 10,
     }
 }
 
@@ -64,8 +77,6 @@ pub fn of_judge(j: Judged) -> usize
         Judged::Yes => 1,
         Judged::No => 0,
         Judged::Refused(why) => refusal(why),
-        Judged::WrongLength => REFUSED + 12,
-        Judged::WrongRead => REFUSED + 13,
     }
 }
 
@@ -78,7 +89,5 @@ pub fn of_seen(seen: Seen) -> usize
         Seen::Cured => 1,
         Seen::Correct => 2,
         Seen::Refused(why) => refusal(why),
-        Seen::WorkspaceShort => REFUSED + 10,
-        Seen::OutOfRange => REFUSED + 11,
     }
 }
