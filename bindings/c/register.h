@@ -48,7 +48,7 @@ extern "C" {
 #define REGISTER_PAIRS 9
 
 /* What a refusal's number is added to: no other result of these four functions is as large. */
-#define REGISTER_REFUSED 256
+#define REGISTER_REFUSED 16777216
 
 /* Where several apply it is the lowest. */
 enum register_refusal {

@@ -97,7 +97,7 @@ impl fmt::Display for Refusal {
 impl Error for Refusal {}
 
 /// What a refusal's number is added to: no other result is as large.
-const REFUSED: usize = 256;
+const REFUSED: usize = 16_777_216;
 
 pub(crate) fn number_or_refusal(result: usize) -> Result<usize, Refusal> {
     if result < REFUSED {

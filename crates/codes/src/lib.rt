@@ -4,15 +4,15 @@ ghost use mathlib.Core.List.{[]};
 ghost use Prim.Native.Nat.{_≤_};
 ghost use Rattle.plan.specs.Numbered.{refusalNumber, numbered};
 ghost use Rattle.simulator.specs.Numbered.{played, judged, lookedAs};
-ghost use Rattle.codes.specs.Codes.{refusalCode, readsCode, verdictCode, shownCode};
+ghost use Rattle.codes.specs.Codes.{refusalCode, codeOf, verdictCode, shownCode};
 use plan::Checked;
 use plan::Refusal;
 use simulator::judge::Judged;
 use simulator::look::Seen;
 use simulator::play::Played;
 
-// What a refusal's number is added to.
-pub const REFUSED: usize = 256;
+// What a refusal's number is added to, 2 ^ 24.
+pub const REFUSED: usize = 16777216;
 
 // The published number of a refusal.
 fn number(why: Refusal) -> usize
@@ -52,7 +52,7 @@ fn refusal(why: Refusal) -> usize
 }
 
 pub fn of_check(c: Checked) -> usize
-    ensures { λ r. ⌜ r ≡ readsCode (numbered c) ⌝ }
+    ensures { λ r. ⌜ r ≡ codeOf (numbered c) ⌝ }
 {
     match c {
         Checked::Reads(m) => m,
@@ -61,7 +61,7 @@ pub fn of_check(c: Checked) -> usize
 }
 
 pub fn of_play(p: Played) -> usize
-    ensures { λ r. ⌜ r ≡ readsCode (played p) ⌝ }
+    ensures { λ r. ⌜ r ≡ codeOf (played p) ⌝ }
 {
     match p {
         Played::Reads(m) => m,
