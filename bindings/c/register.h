@@ -48,7 +48,7 @@ extern "C" {
 #define REGISTER_PAIRS 9
 
 /* What a refusal's number is added to: no other result of these four functions is as large. */
-#define REGISTER_REFUSED 256
+#define REGISTER_REFUSED 16777216
 
 /* Where several apply it is the lowest. */
 enum register_refusal {
@@ -64,7 +64,8 @@ enum register_refusal {
     REGISTER_WORKSPACE_SHORT = 10,  /* play, look: under 60,000 bytes */
     REGISTER_OUT_OF_RANGE = 11,     /* look: no such server or tick */
     REGISTER_ANSWERS_LENGTH = 12,   /* judge: length other than 5 times the reads */
-    REGISTER_OTHER_READ = 13        /* judge: begin, reader or zero bit isn't that of the read */
+    REGISTER_OTHER_READ = 13,       /* judge: begin, reader or zero bit isn't that of the read */
+    REGISTER_BUFFER_SHORT = 14      /* the buffer is shorter than the plan */
 };
 
 /* Checks a plan.  Returns its number of reads. */

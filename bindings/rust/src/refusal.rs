@@ -34,11 +34,13 @@ pub enum Refusal {
     AnswersLength = 12,
     /// An answer's begin, reader or zero bit isn't that of its read.
     OtherRead = 13,
+    /// The buffer is shorter than the plan.
+    BufferShort = 14,
 }
 
 impl Refusal {
     /// Every refusal, by number: the first is number 1.
-    pub const ALL: [Refusal; 13] = [
+    pub const ALL: [Refusal; 14] = [
         Refusal::PlanShort,
         Refusal::Header,
         Refusal::TooFewServers,
@@ -52,9 +54,10 @@ impl Refusal {
         Refusal::OutOfRange,
         Refusal::AnswersLength,
         Refusal::OtherRead,
+        Refusal::BufferShort,
     ];
 
-    /// The published number, 1 to 13.
+    /// The published number, 1 to 14.
     pub fn number(self) -> usize {
         self as usize
     }
@@ -79,6 +82,7 @@ impl Refusal {
             Refusal::OutOfRange => "the plan has no such server or tick",
             Refusal::AnswersLength => "the answers' length is other than 5 bytes for each read",
             Refusal::OtherRead => "an answer's begin, reader or zero bit isn't that of its read",
+            Refusal::BufferShort => "the buffer is shorter than the plan",
         }
     }
 
@@ -97,7 +101,7 @@ impl fmt::Display for Refusal {
 impl Error for Refusal {}
 
 /// What a refusal's number is added to: no other result is as large.
-const REFUSED: usize = 256;
+const REFUSED: usize = 16_777_216;
 
 pub(crate) fn number_or_refusal(result: usize) -> Result<usize, Refusal> {
     if result < REFUSED {

@@ -2,7 +2,7 @@
 use mathlib.Core.List.{List}
 use Prim.Native.Nat.{ℕ}
 use Rattle.simulator.specs.Play.{Played, playOf}
-use Rattle.codes.specs.Codes.{readsCode}
+use Rattle.codes.specs.Codes.{codeOf}
 
 pub record Answered : Type 0 where
   pub code : ℕ
@@ -10,7 +10,7 @@ pub record Answered : Type 0 where
   pub workspace : List ℕ
 
 abbrev pub answeredBy : Played → Answered
-answeredBy x = record { code = readsCode (x .outcome); answers = x .answers; workspace = x .workspace }
+answeredBy x = record { code = codeOf (x .outcome); answers = x .answers; workspace = x .workspace }
 
 -- Play at values of 16 bits
 abbrev pub playExported : List ℕ → List ℕ → List ℕ → Answered

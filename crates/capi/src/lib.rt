@@ -1,11 +1,11 @@
-// The operations for C and Rust: any bytes, any lengths. A result of 256 or more is a refusal, 256 and its number; it changes no lent byte.
+// The operations for C and Rust: any bytes, any lengths. A result of `codes::REFUSED` or more is a refusal, that and its number; it changes no lent byte.
 ghost use mathlib.Core.Path.{_≡_};
 ghost use Rattle.plan.specs.Check.{checkOf};
 ghost use Rattle.plan.specs.Limits.{mostBytes, mostReads};
 ghost use Rattle.answers.specs.Answers.{answerSize};
 ghost use Rattle.answers.specs.Workspace.{workspaceSize};
 ghost use Rattle.simulator.specs.Judge.{judgeOf};
-ghost use Rattle.codes.specs.Codes.{readsCode, verdictCode, lookCoded};
+ghost use Rattle.codes.specs.Codes.{codeOf, verdictCode, lookCoded};
 ghost use Rattle.fields.specs.Fields.{answerField, headerField};
 ghost use Rattle.capi.specs.Exported.{playExported};
 use plan::header::Shape;
@@ -13,7 +13,7 @@ use plan::header::Shape;
 // The number of reads.
 #[no_mangle]
 pub extern "C" fn register_check(plan: &[u8]) -> usize
-    ensures { λ r. ⌜ r ≡ readsCode (checkOf 16 (now (plan .entry))) ⌝ }
+    ensures { λ r. ⌜ r ≡ codeOf (checkOf 16 (now (plan .entry))) ⌝ }
 {
     codes::of_check(checks::check(plan))
 }

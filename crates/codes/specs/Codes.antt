@@ -1,4 +1,5 @@
--- What the operations return, as one number each: a result below 256, or 256 and the refusal's number. Built on the operations' own definitions.
+-- What the operations return, as one number each: a result below refusedFrom, or refusedFrom and the refusal's number. Built on the operations' own
+-- definitions.
 use mathlib.Core.Bool.{Bool, true, false}
 use mathlib.Core.List.{List, [], _∷_, _++_}
 use Prim.Native.Nat.{ℕ, _+_, _*_, _/_, _%_, _^_, _<_}
@@ -7,20 +8,31 @@ use Rattle.simulator.specs.declared.look.Place.{Place}
 use Rattle.plan.specs.Check.{Outcome, refused, result}
 use Rattle.simulator.specs.Look.{Condition, is-faulty, is-cured, is-correct, Stamped, Shown, emptyPlace, Looked, lookOf}
 
--- of a refusal: its published number, above every result
-abbrev pub refusalCode : ℕ → ℕ
-refusalCode number = 256 + number
+-- what a refusal's number is added to, above every result
+abbrev pub refusedFrom : ℕ
+refusedFrom = 2 ^ 24
 
--- of Check and Play: the number of reads
-abbrev pub readsCode : Outcome ℕ → ℕ
-readsCode (refused number) = refusalCode number
-readsCode (result m) = m
+-- of a refusal, by its published number
+abbrev pub refusalCode : ℕ → ℕ
+refusalCode number = refusedFrom + number
+
+-- of an operation that returns a number: Check and Play, the number of reads
+abbrev pub codeOf : Outcome ℕ → ℕ
+codeOf (refused number) = refusalCode number
+codeOf (result m) = m
+
+-- an outcome with its result as a number
+abbrev pub inNumbers : {A : Type 0} → (A → ℕ) → Outcome A → Outcome ℕ
+inNumbers asNumber (refused number) = refused number
+inNumbers asNumber (result x) = result (asNumber x)
 
 -- of Judge: 1 for yes, 0 for no
+abbrev pub verdictNumber : Bool → ℕ
+verdictNumber true = 1
+verdictNumber false = 0
+
 abbrev pub verdictCode : Outcome Bool → ℕ
-verdictCode (refused number) = refusalCode number
-verdictCode (result true) = 1
-verdictCode (result false) = 0
+verdictCode o = codeOf (inNumbers verdictNumber o)
 
 abbrev pub conditionCode : Condition → ℕ
 conditionCode is-faulty = 0
@@ -32,9 +44,11 @@ abbrev pub perPair : ℕ
 perPair = 4
 
 -- of Look: the condition, and how many pairs there are, whether or not the buffer has room for them
+abbrev pub shownNumber : Shown → ℕ
+shownNumber shown = conditionCode (shown .condition) + perPair * length (shown .pairs)
+
 abbrev pub shownCode : Outcome Shown → ℕ
-shownCode (refused number) = refusalCode number
-shownCode (result shown) = conditionCode (shown .condition) + perPair * length (shown .pairs)
+shownCode o = codeOf (inNumbers shownNumber o)
 
 -- the bytes of a pair: the value's high and low byte, the number
 abbrev pub pairSize : ℕ

@@ -1,22 +1,22 @@
 // What the operations return, as one number each: a result below REFUSED, or REFUSED and the refusal's number.
 ghost use mathlib.Core.Path.{_≡_};
 ghost use mathlib.Core.List.{[]};
-ghost use Prim.Native.Nat.{_<_};
+ghost use Prim.Native.Nat.{_≤_};
 ghost use Rattle.plan.specs.Numbered.{refusalNumber, numbered};
 ghost use Rattle.simulator.specs.Numbered.{played, judged, lookedAs};
-ghost use Rattle.codes.specs.Codes.{refusalCode, readsCode, verdictCode, shownCode};
+ghost use Rattle.codes.specs.Codes.{refusalCode, codeOf, verdictCode, shownCode};
 use plan::Checked;
 use plan::Refusal;
 use simulator::judge::Judged;
 use simulator::look::Seen;
 use simulator::play::Played;
 
-// What a refusal's number is added to.
-pub const REFUSED: usize = 256;
+// What a refusal's number is added to, 2 ^ 24.
+pub const REFUSED: usize = 16777216;
 
-// The published number of Check's refusal.
+// The published number of a refusal.
 fn number(why: Refusal) -> usize
-    ensures { λ r. ⌜ (r ≡ refusalNumber why) × (r < 256) ⌝ }
+    ensures { λ r. ⌜ (r ≡ refusalNumber why) × (r ≤ 23) ⌝ }
 {
     match why {
         Refusal::TooShort => 1,
@@ -27,6 +27,21 @@ fn number(why: Refusal) -> usize
         Refusal::Operation => 6,
         Refusal::Forgery => 7,
         Refusal::Delay => 8,
+        Refusal::AnswersShort => 9,
+        Refusal::WorkspaceShort => 10,
+        Refusal::OutOfRange => 11,
+        Refusal::WrongLength => 12,
+        Refusal::WrongRead => 13,
+        Refusal::BufferShort => 14,
+        Refusal::PageShort => 15,
+        Refusal::StopRange => 16,
+        Refusal::StateLength => 17,
+        Refusal::StateRange => 18,
+        Refusal::ValueTooWide => 19,
+        Refusal::CarriedShort => 20,
+        Refusal::Rights => 21,
+        Refusal::NoRight => 22,
+        Refusal::TextShort => 23,
     }
 }
 
@@ -37,7 +52,7 @@ fn refusal(why: Refusal) -> usize
 }
 
 pub fn of_check(c: Checked) -> usize
-    ensures { λ r. ⌜ r ≡ readsCode (numbered c) ⌝ }
+    ensures { λ r. ⌜ r ≡ codeOf (numbered c) ⌝ }
 {
     match c {
         Checked::Reads(m) => m,
@@ -46,13 +61,11 @@ pub fn of_check(c: Checked) -> usize
 }
 
 pub fn of_play(p: Played) -> usize
-    ensures { λ r. ⌜ r ≡ readsCode (played p) ⌝ }
+    ensures { λ r. ⌜ r ≡ codeOf (played p) ⌝ }
 {
     match p {
         Played::Reads(m) => m,
         Played::Refused(why) => refusal(why),
-        Played::AnswersShort => REFUSED + 9,
-        Played::WorkspaceShort => REFUSED + 10,
     }
 }
 
@@ -64,8 +77,6 @@ pub fn of_judge(j: Judged) -> usize
         Judged::Yes => 1,
         Judged::No => 0,
         Judged::Refused(why) => refusal(why),
-        Judged::WrongLength => REFUSED + 12,
-        Judged::WrongRead => REFUSED + 13,
     }
 }
 
@@ -78,7 +89,5 @@ pub fn of_seen(seen: Seen) -> usize
         Seen::Cured => 1,
         Seen::Correct => 2,
         Seen::Refused(why) => refusal(why),
-        Seen::WorkspaceShort => REFUSED + 10,
-        Seen::OutOfRange => REFUSED + 11,
     }
 }

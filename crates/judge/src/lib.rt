@@ -1,6 +1,7 @@
 // Judge: answers against a plan. The plan's operations are decoded once; one loop tests that each answer is to its read, one more its pair.
 use calendar::PLACES;
 use plan::Checked;
+use plan::Refusal;
 use plan::header::Shape;
 use regular::is_allowed;
 use script::operations::TABLE_READS;
@@ -89,14 +90,14 @@ fn judge_answers(plan: &[u8], answers: &[u8], count: usize) -> Judged
     ensures { λ r. ⌜ judged r ≡ judgeAfter 16 (now (plan .entry)) (now (answers .entry)) (result count) ⌝ }
 {
     if answers.len() != Shape::ANSWER_BYTES * count {
-        return Judged::WrongLength;
+        return Judged::Refused(Refusal::WrongLength);
     }
     let shape = Shape::read(plan);
     let at = shape.operations_at();
     let operations = shape.operations as usize;
     let reads = reads_of(plan, at, operations);
     if !all_fit(answers, &reads.begun, &reads.reader, count) {
-        return Judged::WrongRead;
+        return Judged::Refused(Refusal::WrongRead);
     }
     let writes = writes_of(plan, at, operations, shape.initial);
     let known = writes.known;

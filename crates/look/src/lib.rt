@@ -3,9 +3,9 @@ ghost use mathlib.Core.Path.{_≡_};
 ghost use Rattle.simulator.specs.Look.{lookOf};
 ghost use Rattle.simulator.specs.Numbered.{looked};
 use plan::Checked;
+use plan::Refusal;
 use plan::header::Shape;
 use simulator::look::Looked;
-use simulator::look::Seen;
 use simulator::look::condition;
 use simulator::look::refusal;
 use simulator::look::shown_places;
@@ -16,17 +16,17 @@ pub fn look(plan: &[u8], work: &mut [u8], server: usize, tick: usize) -> Looked
 {
     let checked = checks::check(plan);
     match checked {
-        Checked::Refused(why) => refusal(Seen::Refused(why)),
+        Checked::Refused(why) => refusal(why),
         Checked::Reads(_reads) => {
             if work.len() < Shape::WORKSPACE_BYTES {
-                return refusal(Seen::WorkspaceShort);
+                return refusal(Refusal::WorkspaceShort);
             }
             let shape = Shape::read(plan);
             if shape.n as usize <= server {
-                return refusal(Seen::OutOfRange);
+                return refusal(Refusal::OutOfRange);
             }
             if shape.ticks as usize <= tick {
-                return refusal(Seen::OutOfRange);
+                return refusal(Refusal::OutOfRange);
             }
             let view = player::look(plan, work, server, tick as u8);
             let s = view.server;

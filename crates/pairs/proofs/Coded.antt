@@ -8,26 +8,22 @@ use lib.ListN.{length}
 use Rattle.simulator.specs.Look.{Stamped}
 use Rattle.simulator.specs.Numbered.{lookedAs}
 use Rattle.simulator.specs.declared.look.Seen.{Seen}
-use Rattle.simulator.specs.declared.look.Seen.the-variants.{Faulty, Cured, Correct, Refused, WorkspaceShort, OutOfRange}
-use Rattle.codes.specs.Codes.{shownCode, perPair, pairsOf}
+use Rattle.simulator.specs.declared.look.Seen.the-variants.{Faulty, Cured, Correct, Refused}
+use Rattle.codes.specs.Codes.{refusedFrom, shownCode, perPair, pairsOf}
 
 -- what Look saw, its pairs left out
 abbrev seenCode : Seen → ℕ
 seenCode s = shownCode (lookedAs [] s)
 
-pub refusal-code : (ps : List Stamped) (s : Seen) → 256 ≤ seenCode s → (shownCode (lookedAs ps s) ≡ seenCode s) × (pairsOf (lookedAs ps s) ≡ [])
+pub refusal-code : (ps : List Stamped) (s : Seen) → refusedFrom ≤ seenCode s → (shownCode (lookedAs ps s) ≡ seenCode s) × (pairsOf (lookedAs ps s) ≡ [])
 refusal-code ps Faulty h = absurd (omega arith)
 refusal-code ps Cured h = absurd (omega arith)
 refusal-code ps Correct h = absurd (omega arith)
 refusal-code ps (Refused r) h = (refl, refl)
-refusal-code ps WorkspaceShort h = (refl, refl)
-refusal-code ps OutOfRange h = (refl, refl)
 
-pub condition-code : (ps : List Stamped) (s : Seen) → seenCode s < 256
+pub condition-code : (ps : List Stamped) (s : Seen) → seenCode s < refusedFrom
     → (shownCode (lookedAs ps s) ≡ seenCode s + perPair * length ps) × (pairsOf (lookedAs ps s) ≡ ps)
 condition-code ps Faulty h = (omega arith, refl)
 condition-code ps Cured h = (refl, refl)
 condition-code ps Correct h = (refl, refl)
 condition-code ps (Refused r) h = absurd (omega arith)
-condition-code ps WorkspaceShort h = absurd (omega arith)
-condition-code ps OutOfRange h = absurd (omega arith)

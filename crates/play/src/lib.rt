@@ -4,6 +4,7 @@ ghost use Rattle.simulator.specs.Play.{playOf};
 ghost use Rattle.simulator.specs.Numbered.{played};
 ghost use Rattle.simulator.specs.Promised.{Promised};
 use plan::Checked;
+use plan::Refusal;
 use plan::header::Shape;
 use simulator::play::Played;
 
@@ -16,10 +17,10 @@ pub fn play(plan: &[u8], answers: &mut [u8], work: &mut [u8]) -> Played
         Checked::Refused(why) => Played::Refused(why),
         Checked::Reads(reads) => {
             if answers.len() < Shape::ANSWER_BYTES * reads {
-                return Played::AnswersShort;
+                return Played::Refused(Refusal::AnswersShort);
             }
             if work.len() < Shape::WORKSPACE_BYTES {
-                return Played::WorkspaceShort;
+                return Played::Refused(Refusal::WorkspaceShort);
             }
             player::play(plan, answers, work);
             Played::Reads(reads)

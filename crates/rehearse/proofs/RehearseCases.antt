@@ -26,15 +26,11 @@ pub is-yes : (j : Judged) → judged j ≡ result true → saysYes j ≡ true
 is-yes J.Yes e = refl
 is-yes J.No e = let z : false ≡ true = cc in z
 is-yes (J.Refused r) e = let z : _≡_ {A = ℕ} 0 1 = cc in absurd (omega arith)
-is-yes J.WrongLength e = let z : _≡_ {A = ℕ} 0 1 = cc in absurd (omega arith)
-is-yes J.WrongRead e = let z : _≡_ {A = ℕ} 0 1 = cc in absurd (omega arith)
 
 unfoldable pub isNo : Ended → Bool
 isNo (E.Yes m) = false
 isNo E.No = true
 isNo (E.Refused r) = false
-isNo E.AnswersShort = false
-isNo E.WorkspaceShort = false
 
 pub not-no : (r : Ended) → isNo r ≡ false → NotNo r
 unfolding isNo

@@ -14,8 +14,6 @@ fn is_yes(verdict: Judged) -> bool
         Judged::Yes => true,
         Judged::No => false,
         Judged::Refused(_) => false,
-        Judged::WrongLength => false,
-        Judged::WrongRead => false,
     }
 }
 
@@ -27,8 +25,6 @@ pub fn rehearse(plan: &[u8], answers: &mut [u8], work: &mut [u8]) -> Rehearsed
     let played = play::play(plan, answers, work);
     match played {
         Played::Refused(why) => Rehearsed::Refused(why),
-        Played::AnswersShort => Rehearsed::AnswersShort,
-        Played::WorkspaceShort => Rehearsed::WorkspaceShort,
         Played::Reads(reads) => {
             let end = Shape::ANSWER_BYTES * reads;
             if is_yes(judge::judge(plan, &answers[..end])) {

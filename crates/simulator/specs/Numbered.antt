@@ -1,4 +1,4 @@
--- Document 01's number or value for every case of what the operations return.
+-- Document 01's number or value for every case of what the operations return; a refusal's number is that of `refusalNumber`.
 use mathlib.Core.Path.{_≡_}
 use mathlib.Core.Bool.{Bool, true, false, cond}
 use mathlib.Core.List.{List, [], _∷_}
@@ -19,12 +19,10 @@ use Rattle.simulator.specs.declared.rehearse.Rehearsed.the-variants as R
 use Rattle.simulator.specs.Rehearse.{Verdict, yes, no}
 use Rattle.simulator.specs.Look.{Stamped, Shown, is-faulty, is-cured, is-correct}
 
--- Play: '9 under 5 bytes for each read; 10 workspace under 60,000 bytes. It returns the number of reads'
+-- Play: 'It returns the number of reads'
 abbrev pub played : Played → Outcome ℕ
 played (P.Reads m) = result m
 played (P.Refused r) = refused (refusalNumber r)
-played P.AnswersShort = refused 9
-played P.WorkspaceShort = refused 10
 
 -- a place of a store with the value of its pair, from the table of the known pairs
 abbrev pub valuedPlace : List ℕ → Kept → Place
@@ -35,14 +33,12 @@ unfoldable pub shownIn : List Place → List Stamped
 shownIn [] = []
 shownIn (p ∷ ps) = cond (p .kept) (record { value = p .value; number = p .number } ∷ shownIn ps) []
 
--- Look: 'Check's refusals; then 10; 11 box not below n, or tick not below H. It returns held, curing or sound, and its pairs'
+-- Look: 'It returns held, curing or sound, and its pairs'
 abbrev pub lookedAs : List Stamped → Seen → Outcome Shown
 lookedAs pairs S.Faulty = result (record { condition = is-faulty; pairs = pairs })
 lookedAs pairs S.Cured = result (record { condition = is-cured; pairs = pairs })
 lookedAs pairs S.Correct = result (record { condition = is-correct; pairs = pairs })
 lookedAs pairs (S.Refused r) = refused (refusalNumber r)
-lookedAs pairs S.WorkspaceShort = refused 10
-lookedAs pairs S.OutOfRange = refused 11
 
 abbrev pub looked : Looked → Outcome Shown
 looked x = lookedAs (shownIn (x .places)) (x .seen)
@@ -53,28 +49,22 @@ seenOf faulty = S.Faulty
 seenOf (cured since) = S.Cured
 seenOf correct = S.Correct
 
--- Judge: '12 length other than 5 times the reads; 13 an answer whose begin, screen or zero bit isn't that of its read. Then yes or no'
+-- Judge: 'Then yes or no'
 abbrev pub judged : Judged → Outcome Bool
 judged J.Yes = result true
 judged J.No = result false
 judged (J.Refused r) = refused (refusalNumber r)
-judged J.WrongLength = refused 12
-judged J.WrongRead = refused 13
 
 abbrev pub saysYes : Judged → Bool
 saysYes J.Yes = true
 saysYes J.No = false
 saysYes (J.Refused r) = false
-saysYes J.WrongLength = false
-saysYes J.WrongRead = false
 
 -- Play and Judge in one
 abbrev pub rehearsed : Rehearsed → Outcome Verdict
 rehearsed (R.Yes m) = result (yes m)
 rehearsed R.No = result no
 rehearsed (R.Refused r) = refused (refusalNumber r)
-rehearsed R.AnswersShort = refused 9
-rehearsed R.WorkspaceShort = refused 10
 
 -- the case that point 3 rules out
 pub record NotNo (r : Rehearsed) : Type 0 where

@@ -1,10 +1,8 @@
 use plan::Refusal;
 
-// What Judge returns: its verdict, Check's refusal, or its own refusals 12 and 13.
+// What Judge returns: its verdict, or the first refusal that applies: Check's; 12; 13.
 pub enum Judged {
     Yes,
     No,
     Refused(Refusal),
-    WrongLength,
-    WrongRead,
 }

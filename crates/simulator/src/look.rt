@@ -17,8 +17,6 @@ pub enum Seen {
     Cured,
     Correct,
     Refused(Refusal),
-    WorkspaceShort,
-    OutOfRange,
 }
 
 // A pair that Look shows, or an empty place (document 01: a pair).
@@ -101,9 +99,10 @@ pub fn shown_places(kept: [Place; DEPTH]) -> [Place; DEPTH]
     shown
 }
 
-pub fn refusal(seen: Seen) -> Looked
-    ensures { λ r. ⌜ r ≡ record { seen = seen; places = placesOf [] } ⌝ }
+pub fn refusal(why: Refusal) -> Looked
+    ensures { λ r. ⌜ r ≡ record { seen = Seen.Refused why; places = placesOf [] } ⌝ }
 {
+    let seen = Seen::Refused(why);
     let places = empty_places();
     Looked {
         seen: seen,

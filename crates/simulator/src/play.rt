@@ -4,6 +4,4 @@ use plan::Refusal;
 pub enum Played {
     Reads(usize),
     Refused(Refusal),
-    AnswersShort,
-    WorkspaceShort,
 }

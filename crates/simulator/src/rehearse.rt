@@ -5,6 +5,4 @@ pub enum Rehearsed {
     Yes(usize),
     No,
     Refused(Refusal),
-    AnswersShort,
-    WorkspaceShort,
 }

@@ -5,6 +5,7 @@ use mathlib.Core.List.{List, _++_}
 use Prim.Native.Nat.{ℕ, _*_, _-_, _≤_, _<_}
 use native.Mathlib.Omega.{arith}
 use lib.ListN.{length, take}
+use borrow.Author.Tests.{lt-ltb, le-ltb}
 use Rattle.plan.specs.Limits.{mostReads}
 use Rattle.plan.specs.Packed.{planOf}
 use Rattle.plan.specs.Check.{Outcome, refused, result, checkOf}
@@ -14,25 +15,17 @@ use Rattle.answers.specs.Answers.{answersOf}
 use Rattle.answers.specs.Workspace.{workspaceSize}
 use Rattle.simulator.specs.Play.{Played, playAfter, playOf}
 use Rattle.simulator.proofs.Played.{play-plays, play-writes}
-use Rattle.codes.specs.Codes.{refusalCode, readsCode}
+use Rattle.codes.specs.Codes.{refusedFrom, codeOf}
+use Rattle.codes.proofs.Apart.{outcomeIn, code-apart, reads-below}
 use Rattle.lines.specs.Text.{readsWord, refusedWord, numberThen, lineFeed, lineWith, linesFor, textAfter, textOf}
-
--- a code tells a result from a refusal: no plan has so many reads
-below : (o : Outcome ℕ) → readsCode o < refusalCode 0 → o ≡ result (readsCode o)
-below (refused n) h = absurd (omega arith)
-below (result m) h = refl
-
-above : (s : List ℕ) (o : Outcome ℕ) → checkOf 16 s ≡ o → refusalCode 0 ≤ readsCode o → o ≡ refused (readsCode o - refusalCode 0)
-above s (refused n) e h = let q : n ≡ refusalCode n - refusalCode 0 = omega arith in ap refused q
-above s (result m) e h = absurd (omega (arith, most-reads s m e))
 
 -- what the code of Play's outcome says of the plan, where Play left answers `a`
 pub record Decided (s : List ℕ) (code : ℕ) (a : List ℕ) : Type 0 where
-  pub accepted : code < refusalCode 0 → checkOf 16 s ≡ result code
-  pub few : code < refusalCode 0 → code ≤ mostReads
-  pub answers : code < refusalCode 0 → take (5 * code) a ≡ answersOf 16 s
-  pub refused-text : refusalCode 0 ≤ code → refusedWord ++ numberThen lineFeed (code - refusalCode 0) ≡ textOf 16 s
-  pub reads-text : code < refusalCode 0 → (readsWord ++ numberThen lineFeed code) ++ linesFor 16 (planOf 16 s) (planOf 16 s .reads) ≡ textOf 16 s
+  pub accepted : code < refusedFrom → checkOf 16 s ≡ result code
+  pub few : code < refusedFrom → code ≤ mostReads
+  pub answers : code < refusedFrom → take (5 * code) a ≡ answersOf 16 s
+  pub refused-text : refusedFrom ≤ code → refusedWord ++ numberThen lineFeed (code - refusedFrom) ≡ textOf 16 s
+  pub reads-text : code < refusedFrom → (readsWord ++ numberThen lineFeed code) ++ linesFor 16 (planOf 16 s) (planOf 16 s .reads) ≡ textOf 16 s
 
 module _ (s answers workspace : List ℕ) (room : 5 * mostReads ≤ length answers) (work : workspaceSize ≤ length workspace) where
   -- buffers for the most reads are never refused
@@ -44,15 +37,18 @@ module _ (s answers workspace : List ℕ) (room : 5 * mostReads ≤ length answe
       go (refused n) e = rw e
       go (result m) e = let few = most-reads s m e in play-plays 16 s m e answers workspace (omega arith) work ∙ sym e
 
-  module _ (p : Played) (is : p ≡ playOf 16 s answers workspace) (code : ℕ) (coded : code ≡ readsCode (p .outcome)) where
+  module _ (p : Played) (is : p ≡ playOf 16 s answers workspace) (code : ℕ) (coded : code ≡ codeOf (p .outcome)) where
     checked : p .outcome ≡ checkOf 16 s
     checked = ap (λ (x : Played). x .outcome) is ∙ outcome-is
 
-    is-result : code < refusalCode 0 → checkOf 16 s ≡ result code
-    is-result h = sym checked ∙ below (p .outcome) (rw coded at h) ∙ ap result (sym coded)
+    told : outcomeIn code ≡ checkOf 16 s
+    told = rw coded (code-apart (p .outcome) (λ m e. reads-below s m (sym checked ∙ e)) ∙ checked)
 
-    is-refused : refusalCode 0 ≤ code → checkOf 16 s ≡ refused (code - refusalCode 0)
-    is-refused h = sym checked ∙ above s (p .outcome) (sym checked) (rw coded at h) ∙ ap (λ (n : ℕ). refused (n - refusalCode 0)) (sym coded)
+    is-result : code < refusedFrom → checkOf 16 s ≡ result code
+    is-result h = sym told ∙ rw (lt-ltb code refusedFrom h)
+
+    is-refused : refusedFrom ≤ code → checkOf 16 s ≡ refused (code - refusedFrom)
+    is-refused h = sym told ∙ rw (le-ltb code refusedFrom h)
 
     pub decided : Decided s code (p .answers)
     unfolding textOf textAfter lineWith

@@ -1,6 +1,6 @@
 -- `register_check` meets its contract: the code of what Check returns.
 use mathlib.Core.Path.{ap, _∙_}
-use Rattle.codes.specs.Codes.{readsCode}
+use Rattle.codes.specs.Codes.{codeOf}
 use borrow.Author.Needs.{needs}
 use Rattle.capi.proofs.register_check.Statement.{statement}
 use Rattle.capi.proofs.register_check.Tie as tie
@@ -12,7 +12,7 @@ of-check-requires : tie.Need-of-check-requires
 of-check-requires c κs = search needs
 
 returns : tie.Need-returns
-returns c = c .of-check .ensures ∙ ap readsCode (c .before .check .ensures)
+returns c = c .of-check .ensures ∙ ap codeOf (c .before .check .ensures)
 
 pub register-check-spec : {M : Type 1} → statement M
 register-check-spec = tie.close (tie.spec check-requires of-check-requires returns)

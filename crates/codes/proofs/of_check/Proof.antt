@@ -1,4 +1,4 @@
--- `of_check` meets its contract: Check's refusal has its code.
+-- `of_check` meets its contract: a refusal has its code.
 use borrow.Author.Needs.{needs}
 use Rattle.codes.proofs.of_check.Statement.{statement}
 use Rattle.codes.proofs.of_check.Tie as tie
@@ -16,7 +16,7 @@ returns : tie.Need-returns
 returns c = search needs
 
 returns-2 : tie.Need-returns-2
-returns-2 c = cc
+returns-2 c = rw (c .refusal .ensures, c .before .before .c2 .given .1)
 
 pub of-check-spec : {M : Type 1} → statement M
 of-check-spec = tie.close (tie.spec enum-known-c enum-known-c-2 refusal-requires returns returns-2)

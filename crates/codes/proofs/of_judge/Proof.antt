@@ -1,4 +1,4 @@
--- `of_judge` meets its contract: Check's refusal has its code.
+-- `of_judge` meets its contract: a refusal has its code.
 use borrow.Author.Needs.{needs}
 use Rattle.codes.proofs.of_judge.Statement.{statement}
 use Rattle.codes.proofs.of_judge.Tie as tie
@@ -15,18 +15,6 @@ enum-known-j c = search needs
 refusal-requires : tie.Need-refusal-requires
 refusal-requires c κs = search needs
 
-enum-told-3 : tie.Need-enum-told-3
-enum-told-3 c = search needs
-
-add-result : tie.Need-add-result
-add-result c = search needs
-
-enum-told-4 : tie.Need-enum-told-4
-enum-told-4 c = search needs
-
-add-result-2 : tie.Need-add-result-2
-add-result-2 c = search needs
-
 returns : tie.Need-returns
 returns c = search needs
 
@@ -34,13 +22,7 @@ returns-2 : tie.Need-returns-2
 returns-2 c = search needs
 
 returns-3 : tie.Need-returns-3
-returns-3 c = cc
-
-returns-4 : tie.Need-returns-4
-returns-4 c = search needs
-
-returns-5 : tie.Need-returns-5
-returns-5 c = search needs
+returns-3 c = rw (c .refusal .ensures, c .before .before .j .given .1)
 
 pub of-judge-spec : {M : Type 1} → statement M
 of-judge-spec =
@@ -50,12 +32,6 @@ of-judge-spec =
     enum-told-2
     enum-known-j
     refusal-requires
-    enum-told-3
-    add-result
-    enum-told-4
-    add-result-2
     returns
     returns-2
-    returns-3
-    returns-4
-    returns-5)
+    returns-3)

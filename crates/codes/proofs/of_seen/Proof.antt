@@ -1,4 +1,4 @@
--- `of_seen` meets its contract: Check's refusal has its code.
+-- `of_seen` meets its contract: a refusal has its code.
 use borrow.Author.Needs.{needs}
 use Rattle.codes.proofs.of_seen.Statement.{statement}
 use Rattle.codes.proofs.of_seen.Tie as tie
@@ -18,18 +18,6 @@ enum-known-seen c = search needs
 refusal-requires : tie.Need-refusal-requires
 refusal-requires c κs = search needs
 
-enum-told-4 : tie.Need-enum-told-4
-enum-told-4 c = search needs
-
-add-result : tie.Need-add-result
-add-result c = search needs
-
-enum-told-5 : tie.Need-enum-told-5
-enum-told-5 c = search needs
-
-add-result-2 : tie.Need-add-result-2
-add-result-2 c = search needs
-
 returns : tie.Need-returns
 returns c = search needs
 
@@ -40,13 +28,7 @@ returns-3 : tie.Need-returns-3
 returns-3 c = search needs
 
 returns-4 : tie.Need-returns-4
-returns-4 c = cc
-
-returns-5 : tie.Need-returns-5
-returns-5 c = search needs
-
-returns-6 : tie.Need-returns-6
-returns-6 c = search needs
+returns-4 c = rw (c .refusal .ensures, c .before .before .seen .given .1)
 
 pub of-seen-spec : {M : Type 1} → statement M
 of-seen-spec =
@@ -57,13 +39,7 @@ of-seen-spec =
     enum-told-3
     enum-known-seen
     refusal-requires
-    enum-told-4
-    add-result
-    enum-told-5
-    add-result-2
     returns
     returns-2
     returns-3
-    returns-4
-    returns-5
-    returns-6)
+    returns-4)

@@ -16,12 +16,6 @@ play-requires c κs = search needs
 enum-known-played : tie.Need-enum-known-played
 enum-known-played c = search needs
 
-enum-told : tie.Need-enum-told
-enum-told c = search needs
-
-enum-told-2 : tie.Need-enum-told-2
-enum-told-2 c = search needs
-
 enum-known-played-2 : tie.Need-enum-known-played-2
 enum-known-played-2 c = search needs
 
@@ -73,27 +67,7 @@ same-length-6 : tie.Need-same-length-6
 same-length-6 c = search needs
 
 returns-3 : tie.Need-returns-3
-unfolding isNo
-returns-3 c = (rehearse-refused _ _ _ _ (c .before .before .before .before .before .before .play .ensures .0) _ (ap played (c .enum-told .given .1)), not-no _ refl)
-
-same-length-7 : tie.Need-same-length-7
-same-length-7 c = search needs
-
-same-length-8 : tie.Need-same-length-8
-same-length-8 c = search needs
-
-returns-4 : tie.Need-returns-4
-unfolding isNo
-returns-4 c = (rehearse-refused _ _ _ _ (c .before .before .before .before .before .before .play .ensures .0) _ (ap played (c .enum-told2 .given .1)), not-no _ refl)
-
-same-length-9 : tie.Need-same-length-9
-same-length-9 c = search needs
-
-same-length-10 : tie.Need-same-length-10
-same-length-10 c = search needs
-
-returns-5 : tie.Need-returns-5
-returns-5 c =
+returns-3 c =
     let x = c .before .before .before .before .before .before .before .before .before .before .before .play .ensures in
     let e = ap played (c .before .before .before .before .before .played2 .given .1) in
     let j = c .before .before .judge in
@@ -107,8 +81,6 @@ rehearse-spec =
     (tie.spec
     play-requires
     enum-known-played
-    enum-told
-    enum-told-2
     enum-known-played-2
     mul-end
     slice-reshare-prefix-judge
@@ -123,10 +95,4 @@ rehearse-spec =
     returns-2
     same-length-5
     same-length-6
-    returns-3
-    same-length-7
-    same-length-8
-    returns-4
-    same-length-9
-    same-length-10
-    returns-5)
+    returns-3)
