@@ -16,17 +16,9 @@ use Rattle.bits.proofs.Records as record-laws
 use Rattle.plan.specs.Widths as widths
 use Rattle.plan.specs.Header as header
 use Rattle.plan.specs.Header.{Header, headerOf, bitLength, moves}
-use Rattle.lists.specs.Lists.{Lists, listed, listsOf, planBits, packedPlan, placementsWidths, operationsWidths, forgeriesWidths, delaysWidths, delayCount}
+use Rattle.lists.specs.Lists.{Lists, Full, listed, listsOf, planBits, packedPlan, placementsWidths, operationsWidths, forgeriesWidths, delaysWidths, delayCount}
 
--- there is a number for each field
-pub record Full (w : ℕ) (l : Lists) : Type 0 where
-  pub header : length (l .header) ≡ length (widths.headerWidths w)
-  pub placements : length (l .placements) ≡ length widths.placementWidths * moves (listed w l)
-  pub operations : length (l .operations) ≡ length (widths.operationWidths w) * listed w l .operations
-  pub forgeries : length (l .forgeries) ≡ length (widths.forgeryWidths w) * listed w l .forgeries
-  pub delays : length (l .delays) ≡ length widths.delayWidths * delayCount (listed w l)
-
--- and it fits
+-- every number fits its field, and there is one for each
 pub record Fit (w : ℕ) (l : Lists) : Type 0 where
   pub header : fits (widths.headerWidths w) (l .header) ≡ true
   pub placements : fits (placementsWidths w (listed w l)) (l .placements) ≡ true

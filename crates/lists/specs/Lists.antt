@@ -1,4 +1,5 @@
 -- The lists of a plan, and the plan packed from them (document 02, 'One').
+use mathlib.Core.Path.{_≡_}
 use mathlib.Core.Bool.{not}
 use mathlib.Core.List.{List, _++_}
 use Prim.Native.Nat.{ℕ, _+_, _*_}
@@ -68,3 +69,11 @@ module _ (w : ℕ) (l : Lists) where
 -- the operations that are reads: their second number, the party, is not 0
 abbrev pub readsListed : Lists → ℕ
 readsListed l = count (λ i. not (eqb (getD (l .operations) (length (operationWidths 0) * i + 1) 0) 0)) (headerFrom (l .header) .operations)
+
+-- there is a number for each field
+pub record Full (w : ℕ) (l : Lists) : Type 0 where
+  pub header : length (l .header) ≡ length (headerWidths w)
+  pub placements : length (l .placements) ≡ length placementWidths * moves (listed w l)
+  pub operations : length (l .operations) ≡ length (operationWidths w) * listed w l .operations
+  pub forgeries : length (l .forgeries) ≡ length (forgeryWidths w) * listed w l .forgeries
+  pub delays : length (l .delays) ≡ length delayWidths * delayCount (listed w l)

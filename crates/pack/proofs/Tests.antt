@@ -16,7 +16,7 @@ use Rattle.plan.proofs.Tests.{passed}
 use Rattle.lists.specs.Lists as lists
 use Rattle.lists.specs.Lists.{Lists, listed, packedPlan}
 use Rattle.lists.proofs.Inverse.{Fit}
-use Rattle.pack.specs.Pack.{Packed, lengthsImplied, packTests, packInto, packOf}
+use Rattle.pack.specs.Pack.{Packed, lengthsImplied, partTests, packTests, packInto, packOf}
 
 -- what all tests say together
 pub record Passed (w : ℕ) (l : Lists) (room : ℕ) : Type 0 where
@@ -39,7 +39,7 @@ passed-both a b number rest m e =
 
 module _ (w : ℕ) (l : Lists) where
   pub tests-passed : (room m : ℕ) → packTests w l room ≡ result m → Passed w l room × (m ≡ length (packedPlan w l))
-  unfolding packTests
+  unfolding packTests partTests
   tests-passed room m e =
       let h = listed w l in
       let s = packedPlan w l in
@@ -74,7 +74,7 @@ module _ (w : ℕ) (l : Lists) where
       )
 
   pub passes-tests : (room : ℕ) → Passed w l room → packTests w l room ≡ result (length (packedPlan w l))
-  unfolding packTests
+  unfolding packTests partTests
   passes-tests room p =
       rw (
         p .fit .header,

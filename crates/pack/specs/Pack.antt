@@ -27,22 +27,27 @@ module _ (w : ℕ) (l : Lists) where
       && (eqb (length (l .forgeries)) (length (forgeryWidths w) * h .forgeries)
       && eqb (length (l .delays)) (length delayWidths * delayCount h)))
 
-  -- 'The lists must meet the same checks as a plan, under the same numbers': those of the plan that they are packed to. 'A header list of
-  -- other than ten numbers is 2', and 'a number too wide for its field takes the number of its part'. '14: the buffer is shorter than the
-  -- plan; last check'
-  unfoldable pub packTests : ℕ → Outcome ℕ
-  packTests room =
+  -- 'The lists must meet the same checks as a plan, under the same numbers': the parts' checks are those of the plan that the lists are
+  -- packed to, and 'a number too wide for its field takes the number of its part'. '14: the buffer is shorter than the plan; last check'
+  unfoldable pub partTests : ℕ → Outcome ℕ
+  partTests room =
       let h : Header = listed w l in
       let s : List ℕ = packedPlan w l in
-      unless (fits (headerWidths w) (l .header) && check.headerInRange h) 2
-      (unless (check.enoughServers h) 3
-      (unless lengthsImplied 4
-      (unless (fits (lists.placementsWidths w h) (l .placements) && check.placementsStand w s h) 5
+      unless (fits (lists.placementsWidths w h) (l .placements) && check.placementsStand w s h) 5
       (unless (fits (lists.operationsWidths w h) (l .operations) && check.operationsStand w s h) 6
       (unless (fits (lists.forgeriesWidths w h) (l .forgeries) && check.forgeriesStand w s h) 7
       (unless (fits (lists.delaysWidths w h) (l .delays) && check.delaysStand w s h) 8
       (unless (leb (length s) room) 14
-      (result (length s)))))))))
+      (result (length s))))))
+
+  -- 'Here 1 never occurs, a header list of other than ten numbers .. is 2': a list that does not fit the header's ten fields
+  unfoldable pub packTests : ℕ → Outcome ℕ
+  packTests room =
+      let h : Header = listed w l in
+      unless (fits (headerWidths w) (l .header) && check.headerInRange h) 2
+      (unless (check.enoughServers h) 3
+      (unless lengthsImplied 4
+      (partTests room)))
 
   -- 'returns the number of bytes written .. and leaves those past them unchanged'; a refusal writes nothing
   unfoldable pub packInto : List ℕ → Outcome ℕ → Packed

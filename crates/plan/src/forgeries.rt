@@ -24,6 +24,15 @@ impl Forged {
 
     const NUMBER_BITS: usize = 8;
 
+    // Its fields in packed order.
+    pub const WIDTHS: [u8; 5] = [
+        Self::TICK_BITS as u8,
+        Self::SENDER_BITS as u8,
+        Self::RECEIVER_BITS as u8,
+        Self::VALUE_BITS as u8,
+        Self::NUMBER_BITS as u8,
+    ];
+
     // The bits behind each field.
     const VALUE_AT: usize = Self::NUMBER_BITS;
 

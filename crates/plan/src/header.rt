@@ -42,6 +42,8 @@ impl Shape {
 
     pub const PLACEMENT_BITS: usize = 16;
 
+    pub const PLACEMENT_WIDTHS: [u8; 1] = [Self::PLACEMENT_BITS as u8];
+
     pub const DELAY_BITS: usize = 4;
 
     // The longest plan that Check accepts.

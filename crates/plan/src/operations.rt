@@ -23,6 +23,12 @@ impl Operation {
     const VALUE_BITS: usize = Shape::VALUE_BITS;
 
     // Its fields in packed order.
+    pub const WIDTHS: [u8; 3] = [
+        Self::TICK_BITS as u8,
+        Self::PARTY_BITS as u8,
+        Self::VALUE_BITS as u8,
+    ];
+
     pub const BITS: usize = Self::TICK_BITS + Self::PARTY_BITS + Self::VALUE_BITS;
 
     // The operation from bit `at` on, out of one number.

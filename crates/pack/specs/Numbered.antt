@@ -1,0 +1,35 @@
+-- What the code is handed and returns, as the definitions have it.
+use mathlib.Core.Path.{_≡_}
+use mathlib.Core.Bool.{true}
+use mathlib.Core.List.{List}
+use Prim.Native.Nat.{ℕ}
+use Rattle.bits.specs.Layout.{fits}
+use Rattle.plan.specs.Widths.{headerWidths}
+use Rattle.plan.specs.Header.{Header}
+use Rattle.plan.specs.Check.{Outcome, refused, result}
+use Rattle.plan.specs.Shape.{Ranged}
+use Rattle.plan.specs.Numbered.{refusalNumber}
+use Rattle.lists.specs.Lists.{Lists, Full, listed}
+use Rattle.pack.specs.declared.Packed.{Packed}
+use Rattle.pack.specs.declared.Packed.the-variants.{Bytes, Refused}
+
+abbrev pub listsFrom : List ℕ → List ℕ → List ℕ → List ℕ → List ℕ → Lists
+listsFrom header placements operations forgeries delays = record {
+  header = header;
+  placements = placements;
+  operations = operations;
+  forgeries = forgeries;
+  delays = delays;
+}
+
+-- 'returns the number of bytes written', or the refusal's number
+abbrev pub packed : Packed → Outcome ℕ
+packed (Bytes m) = result m
+packed (Refused r) = refused (refusalNumber r)
+
+-- the tests 2 to 4 are passed: h is the header that is listed
+pub record Listed (l : Lists) (h : Header) : Type 0 where
+  pub header : h ≡ listed 16 l
+  pub fit : fits (headerWidths 16) (l .header) ≡ true
+  pub ranged : Ranged h
+  pub full : Full 16 l
