@@ -5,7 +5,7 @@ use Rattle.bits.specs.Field.{fieldOf}
 use Rattle.register.specs.Plan.{Plan, Read, stamped, valueOf, numberOf}
 use Rattle.register.specs.Reading.{Answer, answerOf}
 use Rattle.plan.specs.Packed.{planOf}
-use Rattle.plan.specs.Check.{bytesFor}
+use Rattle.bits.specs.Fill.{bytesFor}
 
 -- 'begin 7, screen 3, cue 16, number 8, count 5, one zero bit'
 abbrev pub answerBits : ℕ → ℕ

@@ -6,7 +6,7 @@ use lib.Dec.{ltb}
 use lib.ListN.{length, getD}
 use Rattle.register.specs.Plan.{valueOf, numberOf}
 use Rattle.plan.specs.Header.{Header, headerOf, headerBits}
-use Rattle.plan.specs.Check.{bytesFor}
+use Rattle.bits.specs.Fill.{bytesFor}
 use Rattle.answers.specs.Answers.{answerSize, beginIn, readerIn, pairIn, countIn}
 
 -- of answer i: 0 begin, 1 reader, 2 value, 3 number, 4 count

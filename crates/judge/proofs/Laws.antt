@@ -8,7 +8,7 @@ use lib.ListN.{getD}
 use Rattle.register.specs.Lists.{tab, allUpTo}
 use Rattle.register.specs.Plan.{Read}
 use Rattle.plan.specs as plan-specs
-use Rattle.plan.specs.Header.{Header, headerOf, moves}
+use Rattle.plan.specs.Header.{Header, headerOf, placementAt, moves}
 use Rattle.plan.specs.Parts.{writesFrom, readsFrom}
 use Rattle.plan.specs.Packed.{planOf}
 use Rattle.plan.specs.Shape.{shape}
@@ -35,7 +35,7 @@ module _ (s : List ℕ) (m : ℕ) (e : checkOf 16 s ≡ result m) where
     delta-same = sym (ap (λ (h : Header). h .delta) same)
 
     -- the bit where the operations start
-    module _ (at : ℕ) (start : at ≡ 64 + 16 * moves (shape x)) where
+    module _ (at : ℕ) (start : at ≡ placementAt 16 (moves (shape x))) where
       pub write-tables : (values begun : List ℕ) (n : ℕ) → Written (writesFrom 16 1 (tab (x .operations) (opAt s at))) (x .initial) values begun n
           → Tables (planOf 16 s) values begun n
       unfolding planOf

@@ -10,14 +10,11 @@ use native.Mathlib.Omega.{arith}
 use lib.Dec.{leb, ltb, eqb}
 use borrow.Author.Tests.{lt-ltb, le-ltb, le-leb, lt-leb, eq-eqb, ne-eqb}
 use Rattle.bits.specs.Field.{fieldOf}
-use Rattle.bits.specs.Layout.{numbersIn}
 use Rattle.bits.proofs.Laws.{field-part}
-use Rattle.bits.proofs.Numbers.{numbers-in}
 use Rattle.register.specs as register-specs
 use Rattle.register.proofs.Counting.{none-up}
-use Rattle.plan.specs.Widths.{forgeryWidths}
 use Rattle.plan.specs.Header.{Header, headerOf, forgeryBits, operationAt, forgeryAt}
-use Rattle.plan.specs.Parts.{inPlacement, operationOf, operationsOf, forgeryFrom, forgeryOf}
+use Rattle.plan.specs.Parts.{inPlacement, operationOf, operationsOf, forgeryOf}
 use Rattle.plan.specs as plan-specs
 use Rattle.plan.specs.Check.{readOpen, forgeryStands, forgeryRises}
 use Rattle.parts.specs.Steps.{ForgedPart, spans, openAmong, Opened, isReceived, forgedAlone}
@@ -38,12 +35,10 @@ module _ (s : List ℕ) (h : Header) where
         let e : 8 * (first / 8) + (first % 8 + forgeryBits 16 * i) ≡ first + forgeryBits 16 * i = omega arith in
         rw (p .bytes, p .first, field-part, e)
 
-  -- one taken out of the number that has all its bits
-  pub forged-is : (i all : ℕ) (g : plan-specs.declared.forgeries.Forged.Forged) → all ≡ fieldOf s (forgeryAt 16 h i) (forgeryBits 16) → plan-specs.Steps.IsForged all g → forgeryOf 16 s h i ≡ plan-specs.Steps.forgery g
-  unfolding forgeryOf
-  forged-is i all g e is =
-      ap (forgeryFrom 16) (numbers-in (forgeryWidths 16) s (forgeryAt 16 h i) ∙ ap (numbersIn (forgeryWidths 16)) (sym e))
-      ∙ sym (is .is)
+forged-is : (s : List ℕ) (h : Header) (i all : ℕ) (g : plan-specs.declared.forgeries.Forged.Forged) → all ≡ fieldOf s (forgeryAt 16 h i) (forgeryBits 16) → plan-specs.Steps.IsForged all g
+    → forgeryOf 16 s h i ≡ plan-specs.Steps.forgery g
+unfolding forgeryOf
+forged-is s h i all g e is = sym (plan-laws.Taken.forged-in s (forgeryAt 16 h i) all g e is)
 
 eqb-add : (n p x : ℕ) → eqb (n + p) (n + x) ≡ eqb p x
 eqb-add n p x = elim (ℕ-discrete p x) [

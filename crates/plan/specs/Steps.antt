@@ -30,3 +30,4 @@ pub record IsForged (all : ℕ) (g : Forged) : Type 0 where
   pub tick-hi : g .at < 128
   pub sender-hi : g .from < 16
   pub receiver-hi : g .to < 32
+  pub value-hi : g .value < 65536

@@ -5,7 +5,7 @@ use mathlib.Core.List.{List}
 use Prim.Native.Nat.{ℕ, _+_, _*_, _/_, _≤_, _<_}
 use native.Mathlib.Omega.{arith}
 use lib.ListN.{length}
-use Rattle.plan.specs.Header.{Header, headerOf}
+use Rattle.plan.specs.Header.{Header, headerOf, placementBits, placementAt}
 use Rattle.plan.specs.Shape.{Ranged}
 use Rattle.plan.proofs.Accept.{in-range}
 use Rattle.serving.specs.Links.{Linked}
@@ -27,7 +27,7 @@ module _ (s : List ℕ) (r : Script) (R : Decoded s r) where
   pub linked-there : (t : ℕ) → t < r .shape .ticks → Linked s (r .links) (r .rules .n) (t + 1)
   linked-there t l = rw (R .scripted .rules .n) (table s (R .playable) (r .links) (R .scripted .links) (t + 1) (omega (arith, ticks-same)))
 
-  pub movement-there : (t : ℕ) → t < r .shape .ticks → (0 < r .shape .period) × (64 + 16 * (t / r .shape .period) + 16 ≤ 8 * length s)
+  pub movement-there : (t : ℕ) → t < r .shape .ticks → (0 < r .shape .period) × (placementAt 16 (t / r .shape .period) + placementBits ≤ 8 * length s)
   movement-there t l = (
     omega (arith, range .delta-lo, range .period-lo, period-same),
     rw period-same (placement-inside s (R .playable) t (omega (arith, ticks-same))),

@@ -16,8 +16,8 @@ use Rattle.register.proofs.Stamped.{value-stamped, number-stamped}
 use Rattle.plan.proofs.Accept.{in-range}
 use Rattle.serving.specs as serving-specs
 use Rattle.calendar.specs.Layout.{places}
-use Rattle.script.specs.Forged.{Reach, entriesEnd, forgedBits, delayOf, numberOf, Fillable, Filled, Starts}
-use Rattle.script.specs.Script.{LinksOf, messageOf, messageDelay, messageNumber, Entered}
+use Rattle.script.specs.Forged.{Reach, entriesEnd, forgedAt, delayOf, knownNumber, Fillable, Filled, Starts}
+use Rattle.script.specs.Script.{LinksOf, messageOf, messageDelay, Entered}
 use Rattle.script.proofs as script-laws
 use Rattle.script.proofs.Messages.{sent-below, sender-below, on-link, message-reach}
 
@@ -43,13 +43,12 @@ module _ (s : List ℕ) (A : plan-specs.Playable.Playable 16 s) (x : plan-specs.
   part-whole = take-all (length s - at / 8) (drop (at / 8) s) (rw length-drop (omega arith))
 
   -- the part has the messages, from the byte that holds its first bit on, at an offset under eight
-  message : (e : ℕ) → forgedBits part (at % 8 + 40 * e) ≡ messageOf s e
+  message : (e : ℕ) → forgedAt part (at % 8) e ≡ messageOf s e
   unfolding plan-specs.Parts.forgeryOf
   message e =
       let z : 8 * (at / 8) + at % 8 ≡ at = omega arith in
-      let bits : forgedBits (drop (at / 8) s) (at % 8 + 40 * e) ≡ forgedBits s (at + 40 * e) = simp (field-part, ← add-assoc, z) in
-      let y : at + 40 * e + 32 ≡ at + 40 * e + 16 + 16 = omega arith in
-      rw (part-whole, bits, y, first-bit)
+      let bits : forgedAt (drop (at / 8) s) (at % 8) e ≡ forgedAt s at e = simp (field-part, ← add-assoc, z) in
+      rw (part-whole, bits, first-bit)
 
   module _ (links : serving-specs.declared.Links.Links) (linked : LinksOf (plan-specs.Shape.shape x) links) where
     L : LinksOf (headerOf 16 s) links
@@ -63,28 +62,21 @@ module _ (s : List ℕ) (A : plan-specs.Playable.Playable 16 s) (x : plan-specs.
       inside = rw (part-whole, length-drop) (omega (arith, first-bit, counted, script-laws.Placing.bits-inside s A, part-starts));
       pairs = pairs;
       reach = λ e l. rw (ap (λ (h : Header). h .n) same)
-          (subst (λ (g : Forgery). Reach s links (headerOf 16 s .n) (g .at) (g .from) (g .to)) (sym (message e)) (message-reach s A e (omega (arith, counted)) links L));
+          (subst (λ (g : Forgery). Reach s links (headerOf 16 s .n) g) (sym (message e)) (message-reach s A e (omega (arith, counted)) links L));
     }
 
-    delay-same : (e : ℕ) → e < headerOf 16 s .forgeries → delayOf s links part (at % 8 + 40 * e) ≡ messageDelay s e
+    delay-same : (e : ℕ) → e < headerOf 16 s .forgeries → delayOf s links (forgedAt part (at % 8) e) ≡ messageDelay s e
     delay-same e h =
-        ap (λ (g : Forgery). serving-specs.Links.delayAt s links (g .at) (g .from) (g .to)) (message e)
+        ap (delayOf s links) (message e)
         ∙ script-laws.Placing.link-delay s A links L (messageOf s e .at) (messageOf s e .from) (messageOf s e .to)
         (sent-below s A e h) (omega (arith, sender-below s A e h)) (on-link s A e h .0) (on-link s A e h .1)
 
-    number-same : (values : List ℕ) (m e : ℕ) → numberOf values m part (at % 8 + 40 * e) ≡ messageNumber s values m e
-    number-same values m e =
-        let v = fieldOf part (at % 8 + 40 * e + 16) 16 in
-        let n = fieldOf part (at % 8 + 40 * e + 32) 8 in
-        let p : stamped 16 v n ≡ messageOf s e .pair = ap (λ (g : Forgery). g .pair) (message e) in
-        rw (← p, value-stamped 16 v n (field-lt part (at % 8 + 40 * e + 16) 16), number-stamped 16 v n (field-lt part (at % 8 + 40 * e + 16) 16))
-
     pub forged : (before after values : List ℕ) (m : ℕ) (starts : List ℕ)
-        → Filled before after (x .forgeries) (λ e. forgedBits part (at % 8 + 40 * e)) (λ e. delayOf s links part (at % 8 + 40 * e)) (λ e. numberOf values m part (at % 8 + 40 * e))
+        → Filled before after (x .forgeries) (forgedAt part (at % 8)) (λ e. delayOf s links (forgedAt part (at % 8) e)) (λ e. knownNumber values m (forgedAt part (at % 8) e))
         → Starts after (x .forgeries) starts → Entered s before after values m starts
     forged before after values m starts W S =
         let X = rw counted at W in
         record {
-          filled = record { size = X .size; entry = λ e l. rw (number-same values m e, delay-same e l, message e) at (X .entry e l); other = X .other };
+          filled = record { size = X .size; entry = λ e l. rw (ap (knownNumber values m) (message e), delay-same e l, message e) at (X .entry e l); other = X .other };
           started = rw counted at S;
         }

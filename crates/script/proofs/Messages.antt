@@ -12,7 +12,7 @@ use Rattle.bits.specs.Field.{fieldOf}
 use Rattle.bits.proofs.Laws.{field-lt, field-split}
 use Rattle.register.specs.Lists.{In}
 use Rattle.register.proofs.Logic.{and-l, and-r}
-use Rattle.plan.specs.Header.{Header, headerOf, parties, forgeryAt}
+use Rattle.plan.specs.Header.{Header, headerOf, parties, forgeryBits, forgeryAt}
 use Rattle.plan.specs as plan-specs
 use Rattle.plan.proofs as plan-laws
 use Rattle.serving.specs.declared.Links.{Links}
@@ -46,7 +46,7 @@ module _ (s : List ℕ) (A : plan-specs.Playable.Playable 16 s) where
           )
     ]
 
-    pub message-reach : (links : Links) → LinksOf (headerOf 16 s) links → Reach s links (headerOf 16 s .n) (messageOf s e .at) (messageOf s e .from) (messageOf s e .to)
+    pub message-reach : (links : Links) → LinksOf (headerOf 16 s) links → Reach s links (headerOf 16 s .n) (messageOf s e)
     message-reach links L = record {
       linked = table s A links L (messageOf s e .at + 1) (omega (arith, sent-below));
       sender = omega (arith, sender-below, L .parties);
@@ -59,11 +59,11 @@ module _ (s : List ℕ) (A : plan-specs.Playable.Playable 16 s) where
   next-rises e l =
       let h : Header = headerOf 16 s in
       let t = plan-laws.Tests.all-at (h .forgeries) (plan-specs.Check.forgeryStands 16 s h) (A .forgeries) (suc e) l in
-      let rises : T (eqb (suc e) 0 || ltb (fieldOf s (forgeryAt 16 h (suc e - 1)) 40) (fieldOf s (forgeryAt 16 h (suc e)) 40)) = search (and-l, and-r) in
+      let rises : T (eqb (suc e) 0 || ltb (fieldOf s (forgeryAt 16 h (suc e - 1)) (forgeryBits 16)) (fieldOf s (forgeryAt 16 h (suc e)) (forgeryBits 16))) = search (and-l, and-r) in
       let z : suc e - 1 ≡ e = omega arith in
       omega (
         arith,
-        ltb→lt (fieldOf s (forgeryAt 16 h e) 40) (fieldOf s (forgeryAt 16 h (suc e)) 40) (rw (eqb·suc-zero e, z) at rises),
+        ltb→lt (fieldOf s (forgeryAt 16 h e) (forgeryBits 16)) (fieldOf s (forgeryAt 16 h (suc e)) (forgeryBits 16)) (rw (eqb·suc-zero e, z) at rises),
         field-split s (forgeryAt 16 h e) 7 33,
         field-split s (forgeryAt 16 h (suc e)) 7 33,
         field-lt s (forgeryAt 16 h (suc e) + 7) 33,

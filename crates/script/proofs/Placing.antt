@@ -12,7 +12,7 @@ use Rattle.bits.specs.Field.{fieldOf}
 use Rattle.bits.proofs.Laws.{field-inner}
 use Rattle.register.proofs.Logic.{T-eq}
 use Rattle.plan.specs as plan-specs
-use Rattle.plan.specs.Header.{headerOf, moves, parties, bitLength}
+use Rattle.plan.specs.Header.{headerOf, placementBits, placementAt, moves, parties, bitLength}
 use Rattle.plan.specs.Packed.{planOf}
 use Rattle.plan.proofs as plan-laws
 use Rattle.calendar.specs.Bits.{bit}
@@ -37,7 +37,7 @@ module _ (s : List ℕ) (A : plan-specs.Playable.Playable 16 s) where
       omega (arith, plan-laws.Laws.moves-few (headerOf 16 s .ticks) (headerOf 16 s .period) (omega (arith, H .delta-lo, H .period-lo)), H .ticks-hi)
 
   -- the placement of a movement below H
-  pub placement-inside : (t : ℕ) → t < headerOf 16 s .ticks → 64 + 16 * (t / headerOf 16 s .period) + 16 ≤ 8 * length s
+  pub placement-inside : (t : ℕ) → t < headerOf 16 s .ticks → placementAt 16 (t / headerOf 16 s .period) + placementBits ≤ 8 * length s
   unfolding moves
   placement-inside t l =
       let p = headerOf 16 s .period in
@@ -48,14 +48,14 @@ module _ (s : List ℕ) (A : plan-specs.Playable.Playable 16 s) where
 
   -- server b of it, as its bit from the top
   pub placed-bit : (t b : ℕ) → t < headerOf 16 s .ticks → b < headerOf 16 s .n
-      → bit (15 - b) (fieldOf s (64 + 16 * (t / headerOf 16 s .period)) 16) ≡ planOf 16 s .placed (t / headerOf 16 s .period) b
+      → bit (15 - b) (fieldOf s (placementAt 16 (t / headerOf 16 s .period)) placementBits) ≡ planOf 16 s .placed (t / headerOf 16 s .period) b
   unfolding planOf plan-specs.Parts.inPlacement
   placed-bit t b below l =
       let p = headerOf 16 s .period in
       let h : t / p * p < headerOf 16 s .ticks = omega (arith, div-mul-le-self t p) in
       let w : b + 1 + (15 - b) ≡ 16 = omega (arith, plan-laws.Accept.in-range 16 s A .n-hi) in
-      rw (lt-ltb (t / p * p) (headerOf 16 s .ticks) h, lt-ltb b (headerOf 16 s .n) l, rw w at (field-inner s (64 + 16 * (t / p)) b 1 (15 - b)))
-      (sym (bit-test (15 - b) (fieldOf s (64 + 16 * (t / p)) 16)))
+      rw (lt-ltb (t / p * p) (headerOf 16 s .ticks) h, lt-ltb b (headerOf 16 s .n) l, rw w at (field-inner s (placementAt 16 (t / p)) b 1 (15 - b)))
+      (sym (bit-test (15 - b) (fieldOf s (placementAt 16 (t / p)) placementBits)))
 
   module _ (links : serving-specs.declared.Links.Links) (L : script-specs.Script.LinksOf (headerOf 16 s) links) where
     -- the delays of all ticks below t

@@ -2,12 +2,12 @@
 -- It stands on Placing.
 use mathlib.Core.Path.{_≡_, ap, _∙_}
 use mathlib.Core.List.{List}
-use Prim.Native.Nat.{ℕ, _+_, _*_, _^_, _<_}
+use Prim.Native.Nat.{ℕ, _^_, _<_}
 use native.Mathlib.Omega.{arith}
 use Rattle.bits.proofs.Laws.{field-lt}
 use Rattle.register.specs.Lists.{tab}
 use Rattle.plan.specs.declared.header.Shape.{Shape}
-use Rattle.plan.specs.Header.{Header, headerOf, moves}
+use Rattle.plan.specs.Header.{Header, headerOf, placementAt, moves}
 use Rattle.plan.specs.Parts.{operationOf, operationsOf, writesFrom, readsFrom}
 use Rattle.plan.specs.Packed.{planOf}
 use Rattle.plan.specs.Playable.{Playable}
@@ -21,9 +21,9 @@ pub initial-narrow : (s : List ℕ) (x : Shape) → shape x ≡ headerOf 16 s �
 unfolding headerOf
 initial-narrow s x e = rw (ap (λ (h : Header). h .initial) e) (field-lt s 28 16)
 
-module _ (s : List ℕ) (A : Playable 16 s) (x : Shape) (same : shape x ≡ headerOf 16 s) (at : ℕ) (starts-at : at ≡ 64 + 16 * moves (shape x)) where
-  first-bit : at ≡ 64 + 16 * moves (headerOf 16 s)
-  first-bit = starts-at ∙ ap (λ (h : Header). 64 + 16 * moves h) same
+module _ (s : List ℕ) (A : Playable 16 s) (x : Shape) (same : shape x ≡ headerOf 16 s) (at : ℕ) (starts-at : at ≡ placementAt 16 (moves (shape x))) where
+  first-bit : at ≡ placementAt 16 (moves (headerOf 16 s))
+  first-bit = starts-at ∙ ap (λ (h : Header). placementAt 16 (moves h)) same
 
   counted : x .operations ≡ headerOf 16 s .operations
   counted = ap (λ (h : Header). h .operations) same

@@ -7,19 +7,19 @@ use mathlib.Core.List.{List}
 use Prim.Native.Nat.{ℕ, _+_, _*_, _≤_, _<_}
 use lib.Dec.{eqb, ltb}
 use lib.ListN.{length, getD, set}
-use Rattle.bits.specs.Field.{fieldOf}
-use Rattle.register.specs.Plan.{Forgery, stamped}
+use Rattle.register.specs.Plan.{Forgery, valueOf, numberOf}
+use Rattle.plan.specs.Header.{forgeryBits}
+use Rattle.plan.specs.Parts.{forgeryIn}
 use Rattle.serving.specs.declared.Links.{Links}
 use Rattle.calendar.specs.Layout.{places}
 use Rattle.requests.specs.Requests.{requestsEnd}
 use Rattle.serving.specs.Links.{delayAt, Linked}
-use Rattle.plan.specs.declared.forgeries.Forged.{Forged}
 
--- the delay of tick u from party i to party b lies in the plan
-pub record Reach (plan : List ℕ) (links : Links) (n u i b : ℕ) : Type 0 where
-  pub linked : Linked plan links n (u + 1)
-  pub sender : i < links .parties
-  pub receiver : b < links .parties
+-- the delay of a forged message lies in the plan
+pub record Reach (plan : List ℕ) (links : Links) (n : ℕ) (g : Forgery) : Type 0 where
+  pub linked : Linked plan links n (g .at + 1)
+  pub sender : g .from < links .parties
+  pub receiver : g .to < links .parties
 
 -- the byte at which they begin, how many there may be, and the byte behind them
 abbrev pub entriesAt : ℕ
@@ -35,33 +35,20 @@ entriesEnd = entriesAt + 8 * mostEntries
 abbrev pub entryAt : List ℕ → ℕ → ℕ → ℕ
 entryAt work e k = getD work (entriesAt + 8 * e + k) 0
 
--- the forged message from bit `at` on
-abbrev pub forgedBits : List ℕ → ℕ → Forgery
-forgedBits s at = record {
-  at = fieldOf s at 7;
-  from = fieldOf s (at + 7) 4;
-  to = fieldOf s (at + 11) 5;
-  pair = stamped 16 (fieldOf s (at + 16) 16) (fieldOf s (at + 32) 8);
-}
-
--- the same, field by field
-pub record Packed (s : List ℕ) (at : ℕ) (r : Forged) : Type 0 where
-  pub sent : r .at ≡ fieldOf s at 7
-  pub sender : r .from ≡ fieldOf s (at + 7) 4
-  pub receiver : r .to ≡ fieldOf s (at + 11) 5
-  pub value : r .value ≡ fieldOf s (at + 16) 16
-  pub number : r .number ≡ fieldOf s (at + 32) 8
+-- forged message e of those from bit `at` on
+abbrev pub forgedAt : List ℕ → ℕ → ℕ → Forgery
+forgedAt s at e = forgeryIn 16 s (at + forgeryBits 16 * e)
 
 -- the number, if it is that of a known pair with this value; else 255
 unfoldable pub numberIn : List ℕ → ℕ → ℕ → ℕ → ℕ
 numberIn values m value number = cond (ltb number m && eqb (getD values number 0) value) number 255
 
--- of the forged message from bit `at` on: its delay, and the number of its pair
-abbrev pub delayOf : List ℕ → Links → List ℕ → ℕ → ℕ
-delayOf plan links s at = delayAt plan links (fieldOf s at 7) (fieldOf s (at + 7) 4) (fieldOf s (at + 11) 5)
+-- of a forged message: its delay, and the number of its pair
+abbrev pub delayOf : List ℕ → Links → Forgery → ℕ
+delayOf plan links g = delayAt plan links (g .at) (g .from) (g .to)
 
-abbrev pub numberOf : List ℕ → ℕ → List ℕ → ℕ → ℕ
-numberOf values m s at = numberIn values m (fieldOf s (at + 16) 16) (fieldOf s (at + 32) 8)
+abbrev pub knownNumber : List ℕ → ℕ → Forgery → ℕ
+knownNumber values m g = numberIn values m (valueOf 16 (g .pair)) (numberOf 16 (g .pair))
 
 -- five bytes from byte `at` on
 unfoldable pub entryBytes : List ℕ → ℕ → ℕ → ℕ → ℕ → ℕ → ℕ → List ℕ
@@ -72,10 +59,9 @@ pub record Fillable (work part : List ℕ) (offset count : ℕ) (plan : List ℕ
   pub room : entriesEnd ≤ length work
   pub start : offset < 8
   pub few : count ≤ mostEntries
-  pub inside : offset + 40 * count ≤ 8 * length part
+  pub inside : offset + forgeryBits 16 * count ≤ 8 * length part
   pub pairs : m ≤ places
-  pub reach : (e : ℕ) → e < count
-      → Reach plan links n (forgedBits part (offset + 40 * e) .at) (forgedBits part (offset + 40 * e) .from) (forgedBits part (offset + 40 * e) .to)
+  pub reach : (e : ℕ) → e < count → Reach plan links n (forgedAt part offset e)
 
 -- entry e is the forged message g, with this delay and number
 pub record Entry (work : List ℕ) (e : ℕ) (g : Forgery) (delay number : ℕ) : Type 0 where

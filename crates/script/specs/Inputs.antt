@@ -6,6 +6,7 @@ use Prim.Native.Nat.{ℕ, _+_, _*_, _-_, _/_, _%_, _≤_, _<_}
 use lib.Dec.{eqb, ltb}
 use lib.ListN.{getD}
 use Rattle.bits.specs.Field.{fieldOf}
+use Rattle.plan.specs.Header.{placementBits, placementAt}
 use Rattle.calendar.specs.Bits.{bit}
 use Rattle.requests.specs.Requests.{reachedOf}
 use Rattle.cluster.specs.declared.Arrivals.{Arrivals}
@@ -34,4 +35,4 @@ pub record Arrive (work : List ℕ) (number : ℕ) (ends : List ℕ) (t delta : 
 
 pub record Moves (plan : List ℕ) (period t : ℕ) (r : Movement) : Type 0 where
   pub moving : r .moving ≡ eqb (t % period) 0
-  pub faulty : r .moving ≡ true → r .faulty ≡ fieldOf plan (64 + 16 * (t / period)) 16
+  pub faulty : r .moving ≡ true → r .faulty ≡ fieldOf plan (placementAt 16 (t / period)) placementBits

@@ -3,18 +3,18 @@ use mathlib.Core.Path.{_≡_}
 use mathlib.Core.List.{List}
 use Prim.Native.Nat.{ℕ, suc, _+_, _*_, _≤_, _<_}
 use lib.ListN.{length, getD}
-use Rattle.bits.specs.Field.{fieldOf}
 use Rattle.register.specs.Lists.{tab}
 use Rattle.register.specs.Plan.{Write, Read, stamped}
-use Rattle.plan.specs.Parts.{Operation, writesFrom}
+use Rattle.plan.specs.Header.{operationBits}
+use Rattle.plan.specs.Parts.{Operation, operationIn, writesFrom}
 
 -- operation i of those from bit `at` on
 abbrev pub opAt : List ℕ → ℕ → ℕ → Operation
-opAt s at i = record { at = fieldOf s (at + 26 * i) 7; party = fieldOf s (at + 26 * i + 7) 3; value = fieldOf s (at + 26 * i + 10) 16 }
+opAt s at i = operationIn 16 s (at + operationBits 16 * i)
 
 -- so many operations stand there, and no more writes among them than the tables hold
 pub record Room (s : List ℕ) (at count : ℕ) : Type 0 where
-  pub inside : at + 26 * count ≤ 8 * length s
+  pub inside : at + operationBits 16 * count ≤ 8 * length s
   pub start : at < 4096
   pub few : count ≤ 255
   pub writes : length (writesFrom 16 1 (tab count (opAt s at))) ≤ 64

@@ -3,7 +3,7 @@ use mathlib.Core.Path.{_≡_}
 use mathlib.Core.List.{List}
 use Prim.Native.Nat.{ℕ, _+_, _*_}
 use lib.Dec.{eqb}
-use Rattle.register.specs.Plan.{Forgery, valueOf, numberOf}
+use Rattle.register.specs.Plan.{Forgery}
 use Rattle.plan.specs.Header.{Header, headerOf, forgeryAt, parties, kIn}
 use Rattle.plan.specs.Parts.{forgeryOf}
 use Rattle.plan.specs.Packed.{planOf}
@@ -12,7 +12,7 @@ use Rattle.serving.specs.declared.Rules.{Rules}
 use Rattle.serving.specs.declared.Links.{Links}
 use Rattle.script.specs.declared.Script.{Script}
 use Rattle.script.specs.Operations.{Written, ReadIn}
-use Rattle.script.specs.Forged.{numberIn, Filled, Starts}
+use Rattle.script.specs.Forged.{knownNumber, Filled, Starts}
 
 pub record RulesOf (h : Header) (r : Rules) : Type 0 where
   pub n : r .n ≡ h .n
@@ -33,7 +33,7 @@ abbrev pub messageDelay : List ℕ → ℕ → ℕ
 messageDelay s e = planOf 16 s .delay (messageOf s e .at) (messageOf s e .from) (messageOf s e .to)
 
 abbrev pub messageNumber : List ℕ → List ℕ → ℕ → ℕ → ℕ
-messageNumber s values m e = numberIn values m (valueOf 16 (messageOf s e .pair)) (numberOf 16 (messageOf s e .pair))
+messageNumber s values m e = knownNumber values m (messageOf s e)
 
 -- the plan's forged messages are the first entries, and the starts are theirs
 pub record Entered (s before after values : List ℕ) (m : ℕ) (starts : List ℕ) : Type 0 where

@@ -2,7 +2,10 @@
 ghost use mathlib.Core.Path.{_≡_};
 ghost use Prim.Native.Nat.{_+_, _*_, _^_, _≤_, _<_};
 ghost use lib.ListN.{length};
-ghost use Rattle.script.specs.Forged.{Packed, numberIn, entryBytes, Fillable, Filled, forgedBits, delayOf, numberOf, Start, Starts, entriesEnd, mostEntries};
+ghost use Rattle.plan.specs.Header.{forgeryBits};
+ghost use Rattle.plan.specs.Parts.{forgeryIn};
+ghost use Rattle.plan.specs.Steps.{forgery};
+ghost use Rattle.script.specs.Forged.{numberIn, entryBytes, Fillable, Filled, forgedAt, delayOf, knownNumber, Start, Starts, entriesEnd, mostEntries};
 ghost use Rattle.calendar.specs.Layout.{places};
 use calendar::NO_PAIR;
 use calendar::PLACES;
@@ -21,10 +24,10 @@ pub const STARTS: usize = 129;
 
 // The forged message that stands from bit `at` on.
 fn message_at(part: &[u8], at: usize) -> Forged
-    requires { ⌜ (at + 40 ≤ 8 * length (now part)) × (at < 2 ^ 50) ⌝ }
-    ensures { λ r. ⌜ Packed (now (part .entry)) at r ⌝ }
+    requires { ⌜ (at + forgeryBits 16 ≤ 8 * length (now part)) × (at < 2 ^ 50) ⌝ }
+    ensures { λ r. ⌜ (forgery r ≡ forgeryIn 16 (now (part .entry)) at) × (r .at < 128) × (r .value < 2 ^ 16) ⌝ }
 {
-    Forged::of(bits::field(part, at, 40))
+    Forged::of(bits::field(part, at, Forged::BITS))
 }
 
 // The number, if it is that of a known pair with this value; else NO_PAIR.
@@ -74,12 +77,13 @@ pub fn fill(
     m: usize,
 )
     requires { ⌜ Fillable (now work) (now part) offset count (now plan) links n m ⌝ }
-    ensures { λ _. ⌜ Filled (now (work .entry)) (now (work .exit)) count (λ e. forgedBits (now (part .entry)) (offset + 40 * e))
-        (λ e. delayOf (now (plan .entry)) links (now (part .entry)) (offset + 40 * e)) (λ e. numberOf (now (values .entry)) m (now (part .entry)) (offset + 40 * e)) ⌝ }
+    ensures { λ _. ⌜ Filled (now (work .entry)) (now (work .exit)) count (forgedAt (now (part .entry)) offset)
+        (λ e. delayOf (now (plan .entry)) links (forgedAt (now (part .entry)) offset e))
+        (λ e. knownNumber (now (values .entry)) m (forgedAt (now (part .entry)) offset e)) ⌝ }
 {
     let mut e: usize = 0;
     while e < count {
-        let g = message_at(part, offset + 40 * e);
+        let g = message_at(part, offset + Forged::BITS * e);
         let number = known_number(values, m, g.value, g.number);
         let delay = delays::delay(
             plan,

@@ -2,6 +2,7 @@
 ghost use mathlib.Core.Path.{_≡_};
 ghost use Prim.Native.Nat.{_+_, _*_, _/_, _≤_, _<_};
 ghost use lib.ListN.{length};
+ghost use Rattle.plan.specs.Header.{placementBits, placementAt};
 ghost use Rattle.calendar.specs.Bits.{bit};
 ghost use Rattle.requests.specs.Requests.{requestsEnd};
 ghost use Rattle.script.specs.Inputs.{liveAt, Reached, Arrive, Moves};
@@ -9,6 +10,7 @@ use calendar::READERS;
 use cluster::Arrivals;
 use cluster::Movement;
 use cluster::REQUESTERS;
+use plan::header::Shape;
 
 // The servers that each party's request reaches in tick t.
 fn reached(work: &[u8], t: usize) -> [u16; REQUESTERS]
@@ -56,7 +58,7 @@ pub fn arrivals(work: &[u8], number: u8, ends: [u8; READERS], t: u8, delta: u8) 
 
 // Is tick t a movement, and the placement that it brings.
 pub fn movement(plan: &[u8], period: u8, t: u8) -> Movement
-    requires { ⌜ (0 < period) × (64 + 16 * (t / period) + 16 ≤ 8 * length (now plan)) ⌝ }
+    requires { ⌜ (0 < period) × (placementAt 16 (t / period) + placementBits ≤ 8 * length (now plan)) ⌝ }
     ensures { λ r. ⌜ Moves (now (plan .entry)) period t r ⌝ }
 {
     if t % period != 0 {
@@ -67,6 +69,10 @@ pub fn movement(plan: &[u8], period: u8, t: u8) -> Movement
     }
     Movement {
         moving: true,
-        faulty: bits::field(plan, 64 + 16 * ((t / period) as usize), 16) as u16,
+        faulty: bits::field(
+            plan,
+            Shape::placement_at((t / period) as usize),
+            Shape::PLACEMENT_BITS,
+        ) as u16,
     }
 }

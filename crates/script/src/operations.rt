@@ -34,7 +34,7 @@ pub fn writes_of(plan: &[u8], at: usize, count: usize, initial: u32) -> Writes
     let mut m: usize = 1;
     let mut i: usize = 0;
     while i < count {
-        let o = Operation::read(plan, at + 26 * i);
+        let o = Operation::read(plan, at + Operation::BITS * i);
         if o.party == 0 {
             values[m] = o.value;
             begun[m] = o.at;
@@ -62,7 +62,7 @@ pub fn reads_of(plan: &[u8], at: usize, count: usize) -> Reads
     let mut m: usize = 0;
     let mut i: usize = 0;
     while i < count {
-        let o = Operation::read(plan, at + 26 * i);
+        let o = Operation::read(plan, at + Operation::BITS * i);
         if o.party != 0 {
             begun[m] = o.at;
             reader[m] = o.party;

@@ -2,6 +2,7 @@
 use super::lent;
 use calendar::DEPTH;
 use libc::STDOUT_FILENO;
+use plan::header::Shape;
 
 pub fn word(text: &[u8]) {
     io::write_all(STDOUT_FILENO, text);
@@ -81,7 +82,7 @@ pub fn seen(code: usize, pairs: &[u8; lent::PAIRS]) {
     pairs_shown(pairs, code / pairs::PER_PAIR);
 }
 
-// The answers as they stand in the buffer, each a number of 40 bits.
+// The answers as they stand in the buffer, each as one number.
 pub fn answers(bytes: &[u8], count: usize) {
     let mut i: usize = 0;
     while i < count {
@@ -94,9 +95,9 @@ fn answer(bytes: &[u8], i: usize) {
     if 256 <= i {
         return;
     }
-    if bytes.len() < 5 * i + 5 {
+    if bytes.len() < Shape::ANSWER_BYTES * (i + 1) {
         return;
     }
     word(b" ");
-    number(bits::field(bytes, 40 * i, 40), b"");
+    number(bits::field(bytes, Shape::ANSWER_BITS * i, Shape::ANSWER_BITS), b"");
 }

@@ -1,20 +1,31 @@
 -- `script::forged::fill` meets its contract. The loop's invariant: the entries passed are the forged messages, and no byte outside them has changed.
-use mathlib.Core.Path.{_≡_}
-use Prim.Native.Nat.{_+_, _-_, _*_, _≤_, _<_}
+use mathlib.Core.Path.{_≡_, ap, _∙_}
+use Prim.Native.Nat.{ℕ, _-_, _≤_, _<_}
 use native.Mathlib.Omega.{arith}
 use borrow.Author.Needs.{needs}
-use Rattle.bits.proofs.Laws.{field-lt}
-use Rattle.script.specs.Forged.{Filled, forgedBits, delayOf, numberOf}
+use denote.Ref.{now}
+use Rattle.register.specs.Plan.{Forgery}
+use Rattle.register.proofs.Stamped.{value-stamped, number-stamped}
+use Rattle.script.specs.Forged.{Filled, forgedAt, delayOf, knownNumber}
 use Rattle.script.proofs.Entries.{filled-none, filled-more}
 use Rattle.script.proofs.forged.fill.Statement.{statement}
 use Rattle.script.proofs.forged.fill.Tie as tie
 
 abbrev Inv-loop : tie.InvT-loop
 Inv-loop work₀ part offset count plan links n values m e₀ work e =
-    (e ≤ count) × Filled work₀ work e (λ i. forgedBits part (offset + 40 * i)) (λ i. delayOf plan links part (offset + 40 * i)) (λ i. numberOf values m part (offset + 40 * i))
+    (e ≤ count) × Filled work₀ work e (forgedAt part offset) (λ i. delayOf plan links (forgedAt part offset i)) (λ i. knownNumber values m (forgedAt part offset i))
 
 abbrev μ-loop : tie.MeasureT-loop
 μ-loop work₀ part offset count plan links n values m e₀ work e = count - e
+
+abbrev at : Forgery → ℕ
+at g = g .at
+
+abbrev from : Forgery → ℕ
+from g = g .from
+
+abbrev to : Forgery → ℕ
+to g = g .to
 
 put-entry-requires : tie.Need-put-entry-requires Inv-loop μ-loop
 put-entry-requires c κs =
@@ -27,26 +38,28 @@ put-entry-requires c κs =
 delay-requires : tie.Need-delay-requires Inv-loop μ-loop
 delay-requires c κs =
     let p = c .before .before .before .before in
-    let E = p .message-at .ensures in
+    let E = p .message-at .ensures .0 in
     let R = p .before .before .before .before .before .before .pre .reach _ (p .before .loop-test .taken) in
-    rw (E .sent, E .sender, E .receiver) (R .linked, R .sender, R .receiver)
+    rw (ap at E, ap from E, ap to E) (R .linked, R .sender, R .receiver)
 
 add-put-entry-2 : tie.Need-add-put-entry-2 Inv-loop μ-loop
 add-put-entry-2 c =
     let p = c .before .before .before .before .before .before .before in
-    let a = p .before .before .before .before .before .before .args in
-    omega (arith, p .message-at .ensures .sent, field-lt (a .part .now) (a .offset + 40 * p .before .before .loop .e) 7, c .before .before .delay .ensures .1)
+    omega (arith, p .message-at .ensures .1, c .before .before .delay .ensures .1)
 
 loop-again : tie.Need-loop-again Inv-loop μ-loop
 loop-again c =
     let p = c .before .before .before .before .before .before .before .before .before .before in
-    let E = p .message-at .ensures in
+    let E = p .message-at .ensures .0 in
     let h = p .before .before .loop in
     let s = p .before .before .before .before .before .before in
     let l : h .e < s .args .count = p .before .loop-test .taken in
-    let number = c .before .before .before .before .before .before .before .before .before .known-number .ensures in (
+    let g = p .message-at .result in
+    let v = p .message-at .ensures .2 in
+    let known = rw (value-stamped 16 (g .value) (g .number) v, number-stamped 16 (g .value) (g .number) v) at (ap (knownNumber (now (s .args .values)) (s .args .m)) E) in
+    let number = c .before .before .before .before .before .before .before .before .before .known-number .ensures ∙ known in (
       omega arith,
-      rw (c .before .before .put-entry .ensures, c .before .before .before .before .before .delay .ensures .0, number, E .sent, E .sender, E .receiver, E .value, E .number)
+      rw (c .before .before .put-entry .ensures, c .before .before .before .before .before .delay .ensures .0, number, ap at E, ap from E, ap to E)
           (filled-more (s .args .work .now) (h .work) (h .e) _ _ _ (h .inv .1) (omega (arith, s .pre .room, s .pre .few, h .inv .1 .size))),
     )
 

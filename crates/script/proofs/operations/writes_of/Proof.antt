@@ -1,5 +1,5 @@
 -- `script::operations::writes_of` meets its contract. The loop's invariant: the tables have the writes among the operations passed. A write more finds a number left.
-use mathlib.Core.Path.{_≡_, refl}
+use mathlib.Core.Path.{_≡_, refl, ap}
 use mathlib.Core.Logic.{inl, inr}
 use Prim.Native.Nat.{ℕ, _+_, _*_, _-_, _≤_, _<_}
 use native.Mathlib.Omega.{arith}
@@ -9,7 +9,8 @@ use borrow.Author.Needs.{needs}
 use Rattle.bits.proofs.Laws.{field-lt}
 use Rattle.register.specs.Lists.{tab}
 use Rattle.register.proofs.Lists.{getD-replicate-same}
-use Rattle.plan.specs.Parts.{writesFrom}
+use Rattle.plan.specs.Header.{operationBits}
+use Rattle.plan.specs.Parts.{Operation, writesFrom}
 use Rattle.script.specs.Operations.{opAt, Written}
 use Rattle.script.proofs.Tables.{each-stored}
 use Rattle.script.proofs.Storing.{number-left, write-stored, write-left, written-none}
@@ -27,7 +28,7 @@ left c =
     let h = c .before .before .before .before .loop in
     let s = c .before .before .before .before .before .before in
     number-left (opAt (s .args .plan .now) (s .args .at)) (h .i) _ (h .values) (h .begun) (h .m) (h .inv .3) _ (c .before .before .before .loop-test .taken) (s .pre .0 .writes)
-    (rw (c .before .before .read .ensures .party) at (c .if1 .taken))
+    (rw (ap (λ (o : Operation). o .party) (c .before .before .read .ensures .is)) at (c .if1 .taken))
 
 loop-holds : tie.Need-loop-holds Inv-loop μ-loop
 loop-holds c =
@@ -43,17 +44,20 @@ loop-again : tie.Need-loop-again Inv-loop μ-loop
 loop-again c =
     let h = c .before .before .before .before .loop in
     let s = c .before .before .before .before .before .before in
-    let E = c .before .before .read .ensures in
+    let E = c .before .before .read .ensures .is in
+    let tick = ap (λ (o : Operation). o .at) E in
+    let party = ap (λ (o : Operation). o .party) E in
+    let value = ap (λ (o : Operation). o .value) E in
     let op = opAt (s .args .plan .now) (s .args .at) in
     elim (c .if1 .came) [
-      | inl w ↦ rw (w .1, w .2, w .3, length-set, length-set, E .value, E .tick) (
+      | inl w ↦ rw (w .1, w .2, w .3, length-set, length-set, value, tick) (
         omega arith,
         h .inv .1,
         h .inv .2,
-        write-stored op (h .i) _ (h .values) (h .begun) (h .m) (h .inv .3) _ (c .before .before .before .loop-test .taken) (s .pre .0 .writes) (rw (E .party) at (w .0 .taken))
-            (field-lt (s .args .plan .now) (s .args .at + 26 * h .i + 10) 16) (h .inv .1) (h .inv .2),
+        write-stored op (h .i) _ (h .values) (h .begun) (h .m) (h .inv .3) _ (c .before .before .before .loop-test .taken) (s .pre .0 .writes) (rw party at (w .0 .taken))
+            (field-lt (s .args .plan .now) (s .args .at + operationBits 16 * h .i + 7 + 3) 16) (h .inv .1) (h .inv .2),
       )
-      | inr w ↦ rw (w .1, w .2, w .3) (omega arith, h .inv .1, h .inv .2, write-left op (h .i) _ (h .values) (h .begun) (h .m) (h .inv .3) (rw (← E .party) (ne-eqb _ 0 (w .0 .left))))
+      | inr w ↦ rw (w .1, w .2, w .3) (omega arith, h .inv .1, h .inv .2, write-left op (h .i) _ (h .values) (h .begun) (h .m) (h .inv .3) (rw (← party) (ne-eqb _ 0 (w .0 .left))))
     ]
 
 pub writes-of-spec : {M : Type 1} → statement M

@@ -46,6 +46,7 @@ returns c = record {
   tick-hi = search needs;
   sender-hi = search needs;
   receiver-hi = search needs;
+  value-hi = search needs;
 }
 
 pub of-spec : {M : Type 1} → statement M
