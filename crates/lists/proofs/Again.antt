@@ -12,9 +12,9 @@ use Rattle.bits.proofs.Packing.{Bytes, bits-join, packed-numbers, fits-numbers,
 use Rattle.bits.proofs.Records.{total-records}
 use Rattle.plan.specs.Widths as widths
 use Rattle.plan.specs.Header as header
-use Rattle.plan.specs.Header.{Header, headerOf, bitLength, moves}
+use Rattle.plan.specs.Header.{Header, headerOf, bitLength, moves, delayCount}
 use Rattle.lists.specs.Lists as lists
-use Rattle.lists.specs.Lists.{listed, listsOf, planBits, packedPlan, delayCount}
+use Rattle.lists.specs.Lists.{listed, listsOf, planBits, packedPlan}
 use Rattle.lists.proofs.Inverse.{Fit}
 
 module _ (w : ℕ) (s : List ℕ) where

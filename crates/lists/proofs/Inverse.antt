@@ -15,8 +15,8 @@ use Rattle.bits.proofs.Packing.{Small, Bytes}
 use Rattle.bits.proofs.Records as record-laws
 use Rattle.plan.specs.Widths as widths
 use Rattle.plan.specs.Header as header
-use Rattle.plan.specs.Header.{Header, headerOf, bitLength, moves}
-use Rattle.lists.specs.Lists.{Lists, Full, listed, listsOf, planBits, packedPlan, placementsWidths, operationsWidths, forgeriesWidths, delaysWidths, delayCount}
+use Rattle.plan.specs.Header.{Header, headerOf, bitLength, moves, delayCount}
+use Rattle.lists.specs.Lists.{Lists, Full, listed, listsOf, planBits, packedPlan, placementsWidths, operationsWidths, forgeriesWidths, delaysWidths}
 
 -- every number fits its field, and there is one for each
 pub record Fit (w : ℕ) (l : Lists) : Type 0 where

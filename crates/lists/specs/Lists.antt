@@ -8,7 +8,7 @@ use lib.ListN.{length, getD}
 use Rattle.bits.specs.Layout.{records, numbersAt, packedBits, inBytes}
 use Rattle.register.specs.Lists.{count}
 use Rattle.plan.specs.Widths.{headerWidths, placementWidths, operationWidths, forgeryWidths, delayWidths}
-use Rattle.plan.specs.Header.{Header, headerFrom, headerOf, moves, parties, placementAt, operationAt, forgeryAt, delayAt}
+use Rattle.plan.specs.Header.{Header, headerFrom, headerOf, moves, delayCount, placementAt, operationAt, forgeryAt, delayAt}
 
 -- 'header, placements, operations, forgeries and delays come as separate lists of numbers, one number for each field in packed order'
 pub record Lists : Type 0 where
@@ -17,10 +17,6 @@ pub record Lists : Type 0 where
   pub operations : List ℕ
   pub forgeries : List ℕ
   pub delays : List ℕ
-
--- the delays that a header implies
-abbrev pub delayCount : Header → ℕ
-delayCount h = h .ticks * (parties h * parties h)
 
 -- the widths of the fields of a part, for as many records as the header implies
 module _ (w : ℕ) (h : Header) where

@@ -6,11 +6,11 @@ use lib.Dec.{eqb, leb}
 use lib.ListN.{length, drop}
 use Rattle.bits.specs.Layout.{fits}
 use Rattle.plan.specs.Widths.{headerWidths, placementWidths, operationWidths, forgeryWidths, delayWidths}
-use Rattle.plan.specs.Header.{Header, moves}
+use Rattle.plan.specs.Header.{Header, moves, delayCount}
 use Rattle.plan.specs.Check as check
 use Rattle.plan.specs.Check.{Outcome, refused, result, unless}
 use Rattle.lists.specs.Lists as lists
-use Rattle.lists.specs.Lists.{Lists, listed, packedPlan, delayCount}
+use Rattle.lists.specs.Lists.{Lists, listed, packedPlan}
 
 -- What Pack returns, and the lent bytes afterwards.
 pub record Packed : Type 0 where

@@ -6,10 +6,10 @@ ghost use Prim.Native.Nat.{_*_, _≤_};
 ghost use lib.Dec.{eqb};
 ghost use lib.ListN.{length, drop};
 ghost use Rattle.bits.specs.Writing.{Wrote};
-ghost use Rattle.plan.specs.Header.{moves};
+ghost use Rattle.plan.specs.Header.{moves, delayCount};
 ghost use Rattle.plan.specs.Limits.{impliedBytes};
 ghost use Rattle.plan.specs.Shape.{shape, Ranged};
-ghost use Rattle.lists.specs.Lists.{delayCount, planBits, packedPlan};
+ghost use Rattle.lists.specs.Lists.{planBits, packedPlan};
 ghost use Rattle.pack.specs.Pack.{partTests, packInto, packOf};
 ghost use Rattle.pack.specs.Numbered.{listsFrom, packed, Listed};
 use parts::forgeries;
@@ -26,15 +26,6 @@ pub enum Packed {
     Refused(Refusal),
 }
 
-// The delays that a header implies.
-fn delay_count(h: Shape) -> usize
-    requires { ⌜ Ranged (shape h) ⌝ }
-    ensures { λ r. ⌜ r ≡ delayCount (shape h) ⌝ }
-{
-    let parties = h.parties();
-    h.ticks as usize * (parties * parties)
-}
-
 // Have the lists the lengths that the header implies.
 fn are_implied(h: Shape, placements: usize, operations: usize, forgeries: usize, delays: usize) -> bool
     requires { ⌜ Ranged (shape h) ⌝ }
@@ -46,7 +37,7 @@ fn are_implied(h: Shape, placements: usize, operations: usize, forgeries: usize,
             operations == Operation::WIDTHS.len() * (h.operations as usize),
             both(
                 forgeries == Forged::WIDTHS.len() * (h.forgeries as usize),
-                delays == delay_count(h),
+                delays == h.delay_count(),
             ),
         ),
     )

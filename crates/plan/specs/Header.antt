@@ -67,6 +67,10 @@ parties h = h .n + 1 + h .readers
 abbrev pub placementAt : ℕ → ℕ → ℕ
 placementAt w i = headerBits w + placementBits * i
 
+-- how many delays there are: one 'for each tick, sender and receiver'
+abbrev pub delayCount : Header → ℕ
+delayCount h = h .ticks * (parties h * parties h)
+
 module _ (w : ℕ) (h : Header) where
   abbrev pub operationAt : ℕ → ℕ
   operationAt i = placementAt w (moves h) + operationBits w * i
@@ -80,7 +84,7 @@ module _ (w : ℕ) (h : Header) where
 
   -- all bits before the final zero bits
   abbrev pub bitLength : ℕ
-  bitLength = forgeryAt (h .forgeries) + delayBits * (h .ticks * (parties h * parties h))
+  bitLength = forgeryAt (h .forgeries) + delayBits * delayCount h
 
 -- k of a header
 abbrev pub kIn : Header → ℕ

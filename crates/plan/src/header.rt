@@ -10,7 +10,7 @@ ghost use lib.ListN.{length};
 ghost use Rattle.bits.specs.Fill.{bytesFor};
 ghost use Rattle.bits.specs.Layout.{fits};
 ghost use Rattle.plan.specs.Widths.{headerWidths};
-ghost use Rattle.plan.specs.Header.{headerFrom, headerOf, headerBits, kIn, moves, parties, placementAt, operationAt, forgeryAt, bitLength};
+ghost use Rattle.plan.specs.Header.{headerFrom, headerOf, headerBits, kIn, moves, parties, delayCount, placementAt, operationAt, forgeryAt, bitLength};
 ghost use Rattle.plan.specs.Limits.{mostBytes, impliedBytes, mostReads};
 ghost use Rattle.plan.specs.Check.{headerInRange, enoughServers};
 ghost use Rattle.plan.specs.Shape.{shape, Ranged};
@@ -219,13 +219,21 @@ impl Shape {
         self.forgeries_at() + Forged::BITS * (self.forgeries as usize)
     }
 
+    // How many delays there are.
+    pub fn delay_count(self) -> usize
+        requires { ⌜ Ranged (shape self) ⌝ }
+        ensures { λ r. ⌜ (r ≡ delayCount (shape self)) × (r ≤ 56448) ⌝ }
+    {
+        let parties = self.parties();
+        self.ticks as usize * (parties * parties)
+    }
+
     // The first of the final zero bits.
     pub fn bits(self) -> usize
         requires { ⌜ Ranged (shape self) ⌝ }
         ensures { λ r. ⌜ (r ≡ bitLength 16 (shape self)) × (r ≤ 275494) ⌝ }
     {
-        let parties = self.parties();
-        self.delays_at() + Self::DELAY_BITS * (self.ticks as usize * (parties * parties))
+        self.delays_at() + Self::DELAY_BITS * self.delay_count()
     }
 
     // The bytes of a plan with this header: the final bits fill the last one.
