@@ -30,9 +30,8 @@ pub record Fit (w : ℕ) (l : Lists) : Type 0 where
 records-full : (m : ℕ) (vs xs : List ℕ) → fits (records m vs) xs ≡ true → length xs ≡ length vs * m
 records-full m vs xs f = packing.fits-length (records m vs) xs f ∙ record-laws.length-records vs m
 
-pub fit-full : (w : ℕ) (l : Lists) → Fit w l → Full w l
+pub fit-full : (w : ℕ) (l : Lists) → Fit w l → Full w (listed w l) l
 fit-full w l f = record {
-  header = packing.fits-length (widths.headerWidths w) (l .header) (f .header);
   placements = records-full (moves (listed w l)) widths.placementWidths (l .placements) (f .placements);
   operations = records-full (listed w l .operations) (widths.operationWidths w) (l .operations) (f .operations);
   forgeries = records-full (listed w l .forgeries) (widths.forgeryWidths w) (l .forgeries) (f .forgeries);
@@ -120,10 +119,10 @@ module _ (w : ℕ) (l : Lists) where
   three : (X : List ℕ) → ((H ++ P) ++ O) ++ X ≡ H ++ (P ++ (O ++ X))
   three X = append-assoc (H ++ P) O X ∙ append-assoc H P (O ++ X)
 
-  module _ (full : Full w l) where
+  module _ (fit : fits (widths.headerWidths w) (l .header) ≡ true) (full : Full w (listed w l) l) where
     -- where each part ends
     pub end-H : length H ≡ header.headerBits w
-    end-H = packing.packed-length (widths.headerWidths w) (l .header) (full .header)
+    end-H = packing.packed-length (widths.headerWidths w) (l .header) (packing.fits-length (widths.headerWidths w) (l .header) fit)
 
     pub end-P : length (H ++ P) ≡ header.placementAt w (moves (listed w l))
     end-P = length-append H P ∙ rw (end-H, records-total (moves (listed w l)) widths.placementWidths (l .placements) (full .placements))
@@ -149,25 +148,25 @@ module _ (w : ℕ) (l : Lists) where
     plan-bytes = packing.in-length (planBits w l) plan-small ∙ ap bytesFor plan-length
 
   module _ (fit : Fit w l) where
-    full : Full w l
+    full : Full w (listed w l) l
     full = fit-full w l fit
 
     placements-back : numbersAt (placementsWidths w h) (packedPlan w l) (header.placementAt w 0) ≡ l .placements
     unfolding planBits h
     placements-back =
-        part-back (placementsWidths w h) (l .placements) H (O ++ (F ++ D)) (header.placementAt w 0) (fit .placements) small-H small-OFD refl (omega (arith, end-H full))
+        part-back (placementsWidths w h) (l .placements) H (O ++ (F ++ D)) (header.placementAt w 0) (fit .placements) small-H small-OFD refl (omega (arith, end-H (fit .header) full))
 
     operations-back : numbersAt (operationsWidths w h) (packedPlan w l) (header.operationAt w h 0) ≡ l .operations
     unfolding planBits h
     operations-back =
         part-back (operationsWidths w h) (l .operations) (H ++ P) (F ++ D) (header.operationAt w h 0) (fit .operations) small-HP small-FD
-        (append-assoc H P (O ++ (F ++ D))) (omega (arith, end-P full))
+        (append-assoc H P (O ++ (F ++ D))) (omega (arith, end-P (fit .header) full))
 
     forgeries-back : numbersAt (forgeriesWidths w h) (packedPlan w l) (header.forgeryAt w h 0) ≡ l .forgeries
     unfolding planBits h
     forgeries-back =
         part-back (forgeriesWidths w h) (l .forgeries) ((H ++ P) ++ O) D (header.forgeryAt w h 0) (fit .forgeries) small-HPO small-D
-        (three (F ++ D)) (omega (arith, end-O full))
+        (three (F ++ D)) (omega (arith, end-O (fit .header) full))
 
     delays-back : numbersAt (delaysWidths w h) (packedPlan w l) (header.delayAt w h 0 0 0) ≡ l .delays
     unfolding planBits h
@@ -175,7 +174,7 @@ module _ (w : ℕ) (l : Lists) where
         let last : (((H ++ P) ++ O) ++ F) ++ (D ++ []) ≡ H ++ (P ++ (O ++ (F ++ D))) =
         rw append-nil (append-assoc ((H ++ P) ++ O) F D ∙ three (F ++ D)) in
         part-back (delaysWidths w h) (l .delays) (((H ++ P) ++ O) ++ F) [] (header.delayAt w h 0 0 0) (fit .delays) small-HPOF (λ i. lit< tt)
-        last (omega (arith, end-F full))
+        last (omega (arith, end-F (fit .header) full))
 
     -- 'A packed plan, read field by field, gives the lists it came from'
     pub lists-back : listsOf w (packedPlan w l) ≡ l

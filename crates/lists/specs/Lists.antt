@@ -66,10 +66,9 @@ module _ (w : ℕ) (l : Lists) where
 abbrev pub readsListed : Lists → ℕ
 readsListed l = count (λ i. not (eqb (getD (l .operations) (length (operationWidths 0) * i + 1) 0) 0)) (headerFrom (l .header) .operations)
 
--- there is a number for each field
-pub record Full (w : ℕ) (l : Lists) : Type 0 where
-  pub header : length (l .header) ≡ length (headerWidths w)
-  pub placements : length (l .placements) ≡ length placementWidths * moves (listed w l)
-  pub operations : length (l .operations) ≡ length (operationWidths w) * listed w l .operations
-  pub forgeries : length (l .forgeries) ≡ length (forgeryWidths w) * listed w l .forgeries
-  pub delays : length (l .delays) ≡ length delayWidths * delayCount (listed w l)
+-- each part has a number for each field that the header implies
+pub record Full (w : ℕ) (h : Header) (l : Lists) : Type 0 where
+  pub placements : length (l .placements) ≡ length placementWidths * moves h
+  pub operations : length (l .operations) ≡ length (operationWidths w) * h .operations
+  pub forgeries : length (l .forgeries) ≡ length (forgeryWidths w) * h .forgeries
+  pub delays : length (l .delays) ≡ length delayWidths * delayCount h

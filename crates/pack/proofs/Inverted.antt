@@ -27,7 +27,7 @@ use Rattle.pack.specs.Inverse.{Bytes, PacksWell, IsPacking}
 use Rattle.pack.proofs.Tests.{Passed, tests-passed, passes-tests, outcome-tests}
 
 -- lists that fit have the lengths that the header implies
-fit-lengths : (w : ℕ) (l : Lists) → inverse.Fit w l → lengthsImplied w l ≡ true
+fit-lengths : (w : ℕ) (l : Lists) → inverse.Fit w l → lengthsImplied w (listed w l) l ≡ true
 unfolding lengthsImplied
 fit-lengths w l f =
     let g = inverse.fit-full w l f in
@@ -44,7 +44,7 @@ module _ (w : ℕ) (l : Lists) (room : ℕ) (p : Passed w l room) where
 
   size : length s ≡ bytesFor (bitLength w (listed w l))
   unfolding s
-  size = inverse.plan-bytes w l (inverse.fit-full w l (p .fit))
+  size = inverse.plan-bytes w l (p .fit .header) (inverse.fit-full w l (p .fit))
 
   header-long : bytesFor (headerBits w) ≤ length s
   header-long = rw (size, bytes-rounded (headerBits w), bytes-rounded (bitLength w (listed w l))) (omega arith)
@@ -53,7 +53,7 @@ module _ (w : ℕ) (l : Lists) (room : ℕ) (p : Passed w l room) where
   unfolding check.finalBitsZero s packedPlan
   final-zero =
       let n = bitLength w (listed w l) in
-      let e = inverse.plan-length w l (inverse.fit-full w l (p .fit)) in
+      let e = inverse.plan-length w l (p .fit .header) (inverse.fit-full w l (p .fit)) in
       let z : fieldOf s n (fill 8 n) ≡ 0 = rw (← e) (in-final (planBits w l) (inverse.plan-small w l) (fill 8 (length (planBits w l)))) in
       eq-eqb (fieldOf s n (fill 8 n)) 0 z
 

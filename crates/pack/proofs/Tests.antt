@@ -23,7 +23,7 @@ pub record Passed (w : ℕ) (l : Lists) (room : ℕ) : Type 0 where
   pub fit : Fit w l
   pub in-range : check.headerInRange (listed w l) ≡ true
   pub enough : check.enoughServers (listed w l) ≡ true
-  pub lengths : lengthsImplied w l ≡ true
+  pub lengths : lengthsImplied w (listed w l) l ≡ true
   pub placements : check.placementsStand w (packedPlan w l) (listed w l) ≡ true
   pub operations : check.operationsStand w (packedPlan w l) (listed w l) ≡ true
   pub forgeries : check.forgeriesStand w (packedPlan w l) (listed w l) ≡ true
@@ -45,7 +45,7 @@ module _ (w : ℕ) (l : Lists) where
       let s = packedPlan w l in
       let r2 = passed-both (fits (widths.headerWidths w) (l .header)) (check.headerInRange h) 2 _ m e in
       let r3 = passed (check.enoughServers h) 3 _ m (r2 .2) in
-      let r4 = passed (lengthsImplied w l) 4 _ m (r3 .1) in
+      let r4 = passed (lengthsImplied w (listed w l) l) 4 _ m (r3 .1) in
       let r5 = passed-both (fits (lists.placementsWidths w h) (l .placements)) (check.placementsStand w s h) 5 _ m (r4 .1) in
       let r6 = passed-both (fits (lists.operationsWidths w h) (l .operations)) (check.operationsStand w s h) 6 _ m (r5 .2) in
       let r7 = passed-both (fits (lists.forgeriesWidths w h) (l .forgeries)) (check.forgeriesStand w s h) 7 _ m (r6 .2) in
@@ -63,7 +63,7 @@ module _ (w : ℕ) (l : Lists) where
           };
           in-range = r2 .1;
           enough = T-eq (check.enoughServers h) (r3 .0);
-          lengths = T-eq (lengthsImplied w l) (r4 .0);
+          lengths = T-eq (lengthsImplied w (listed w l) l) (r4 .0);
           placements = r5 .1;
           operations = r6 .1;
           forgeries = r7 .1;
@@ -93,11 +93,11 @@ module _ (w : ℕ) (l : Lists) where
       )
 
   -- the outcome is that of the tests
-  into-outcome : (out : List ℕ) (x : Outcome ℕ) → packInto w l out x .outcome ≡ x
+  into-outcome : (s out : List ℕ) (x : Outcome ℕ) → packInto s out x .outcome ≡ x
   unfolding packInto
-  into-outcome out (refused number) = refl
-  into-outcome out (result m) = refl
+  into-outcome s out (refused number) = refl
+  into-outcome s out (result m) = refl
 
   pub outcome-tests : (out : List ℕ) → packOf w l out .outcome ≡ packTests w l (length out)
   unfolding packOf
-  outcome-tests out = into-outcome out (packTests w l (length out))
+  outcome-tests out = into-outcome (packedPlan w l) out (packTests w l (length out))

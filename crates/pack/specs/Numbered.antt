@@ -1,7 +1,7 @@
 -- What the code is handed and returns, as the definitions have it.
 use mathlib.Core.Path.{_≡_}
 use mathlib.Core.Bool.{true}
-use mathlib.Core.List.{List}
+use mathlib.Core.List.{List, []}
 use Prim.Native.Nat.{ℕ}
 use Rattle.bits.specs.Layout.{fits}
 use Rattle.plan.specs.Widths.{headerWidths}
@@ -22,6 +22,10 @@ listsFrom header placements operations forgeries delays = record {
   delays = delays;
 }
 
+-- the same without the header, which the code then has by value
+abbrev pub partsFrom : List ℕ → List ℕ → List ℕ → List ℕ → Lists
+partsFrom placements operations forgeries delays = listsFrom [] placements operations forgeries delays
+
 -- 'returns the number of bytes written', or the refusal's number
 abbrev pub packed : Packed → Outcome ℕ
 packed (Bytes m) = result m
@@ -32,4 +36,4 @@ pub record Listed (l : Lists) (h : Header) : Type 0 where
   pub header : h ≡ listed 16 l
   pub fit : fits (headerWidths 16) (l .header) ≡ true
   pub ranged : Ranged h
-  pub full : Full 16 l
+  pub full : Full 16 h l

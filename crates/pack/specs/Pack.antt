@@ -17,42 +17,40 @@ pub record Packed : Type 0 where
   pub outcome : Outcome ℕ
   pub out : List ℕ
 
+-- '4 is a list whose length isn't what the header implies'
+unfoldable pub lengthsImplied : ℕ → Header → Lists → Bool
+lengthsImplied w h l =
+    eqb (length (l .placements)) (length placementWidths * moves h)
+    && (eqb (length (l .operations)) (length (operationWidths w) * h .operations)
+    && (eqb (length (l .forgeries)) (length (forgeryWidths w) * h .forgeries)
+    && eqb (length (l .delays)) (length delayWidths * delayCount h)))
+
+-- The parts' checks are those of the plan s that the lists are packed to, and 'a number too wide for its field takes the number of its
+-- part'. '14: the buffer is shorter than the plan; last check'
+unfoldable pub partTests : ℕ → Header → List ℕ → Lists → ℕ → Outcome ℕ
+partTests w h s l room =
+    unless (fits (lists.placementsWidths w h) (l .placements) && check.placementsStand w s h) 5
+    (unless (fits (lists.operationsWidths w h) (l .operations) && check.operationsStand w s h) 6
+    (unless (fits (lists.forgeriesWidths w h) (l .forgeries) && check.forgeriesStand w s h) 7
+    (unless (fits (lists.delaysWidths w h) (l .delays) && check.delaysStand w s h) 8
+    (unless (leb (length s) room) 14
+    (result (length s))))))
+
+-- 'returns the number of bytes written .. and leaves those past them unchanged'; a refusal writes nothing
+unfoldable pub packInto : List ℕ → List ℕ → Outcome ℕ → Packed
+packInto s out (refused number) = record { outcome = refused number; out = out }
+packInto s out (result m) = record { outcome = result m; out = s ++ drop m out }
+
 module _ (w : ℕ) (l : Lists) where
-  -- '4 is a list whose length isn't what the header implies'
-  unfoldable pub lengthsImplied : Bool
-  lengthsImplied =
-      let h : Header = listed w l in
-      eqb (length (l .placements)) (length placementWidths * moves h)
-      && (eqb (length (l .operations)) (length (operationWidths w) * h .operations)
-      && (eqb (length (l .forgeries)) (length (forgeryWidths w) * h .forgeries)
-      && eqb (length (l .delays)) (length delayWidths * delayCount h)))
-
-  -- 'The lists must meet the same checks as a plan, under the same numbers': the parts' checks are those of the plan that the lists are
-  -- packed to, and 'a number too wide for its field takes the number of its part'. '14: the buffer is shorter than the plan; last check'
-  unfoldable pub partTests : ℕ → Outcome ℕ
-  partTests room =
-      let h : Header = listed w l in
-      let s : List ℕ = packedPlan w l in
-      unless (fits (lists.placementsWidths w h) (l .placements) && check.placementsStand w s h) 5
-      (unless (fits (lists.operationsWidths w h) (l .operations) && check.operationsStand w s h) 6
-      (unless (fits (lists.forgeriesWidths w h) (l .forgeries) && check.forgeriesStand w s h) 7
-      (unless (fits (lists.delaysWidths w h) (l .delays) && check.delaysStand w s h) 8
-      (unless (leb (length s) room) 14
-      (result (length s))))))
-
-  -- 'Here 1 never occurs, a header list of other than ten numbers .. is 2': a list that does not fit the header's ten fields
+  -- 'The lists must meet the same checks as a plan, under the same numbers. Here 1 never occurs, a header list of other than ten numbers ..
+  -- is 2': a list that does not fit the header's ten fields
   unfoldable pub packTests : ℕ → Outcome ℕ
   packTests room =
       let h : Header = listed w l in
       unless (fits (headerWidths w) (l .header) && check.headerInRange h) 2
       (unless (check.enoughServers h) 3
-      (unless lengthsImplied 4
-      (partTests room)))
-
-  -- 'returns the number of bytes written .. and leaves those past them unchanged'; a refusal writes nothing
-  unfoldable pub packInto : List ℕ → Outcome ℕ → Packed
-  packInto out (refused number) = record { outcome = refused number; out = out }
-  packInto out (result m) = record { outcome = result m; out = packedPlan w l ++ drop m out }
+      (unless (lengthsImplied w h l) 4
+      (partTests w h (packedPlan w l) l room)))
 
   unfoldable pub packOf : List ℕ → Packed
-  packOf out = packInto out (packTests (length out))
+  packOf out = packInto (packedPlan w l) out (packTests (length out))

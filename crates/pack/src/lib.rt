@@ -1,17 +1,18 @@
 // Pack: a plan from lists of numbers, one for each field in packed order, into a lent buffer.
 ghost use mathlib.Core.Path.{_≡_};
-ghost use mathlib.Core.Bool.{_&&_};
+ghost use mathlib.Core.Bool.{true, _&&_};
 ghost use mathlib.Core.List.{_++_};
 ghost use Prim.Native.Nat.{_*_, _≤_};
-ghost use lib.Dec.{eqb};
 ghost use lib.ListN.{length, drop};
+ghost use Rattle.bits.specs.Layout.{fits};
 ghost use Rattle.bits.specs.Writing.{Wrote};
-ghost use Rattle.plan.specs.Header.{moves, delayCount};
+ghost use Rattle.plan.specs.Header.{headerOf, moves, delayCount};
 ghost use Rattle.plan.specs.Limits.{impliedBytes};
-ghost use Rattle.plan.specs.Shape.{shape, Ranged};
-ghost use Rattle.lists.specs.Lists.{planBits, packedPlan};
-ghost use Rattle.pack.specs.Pack.{partTests, packInto, packOf};
-ghost use Rattle.pack.specs.Numbered.{listsFrom, packed, Listed};
+ghost use Rattle.plan.specs.Check.{placementsStand, operationsStand, forgeriesStand, delaysStand};
+ghost use Rattle.plan.specs.Shape.{shape, Ranged, Sized};
+ghost use Rattle.lists.specs.Lists.{Full, placementsWidths, operationsWidths, forgeriesWidths, delaysWidths, planBits};
+ghost use Rattle.pack.specs.Pack.{lengthsImplied, partTests, packInto, packOf};
+ghost use Rattle.pack.specs.Numbered.{listsFrom, partsFrom, packed, Listed};
 use parts::forgeries;
 use parts::placements;
 use plan::Refusal;
@@ -27,17 +28,17 @@ pub enum Packed {
 }
 
 // Have the lists the lengths that the header implies.
-fn are_implied(h: Shape, placements: usize, operations: usize, forgeries: usize, delays: usize) -> bool
+fn are_implied(h: Shape, placements: &[u32], operations: &[u32], forgeries: &[u32], delays: &[u32]) -> bool
     requires { ⌜ Ranged (shape h) ⌝ }
-    ensures { λ r. ⌜ r ≡ eqb placements (1 * moves (shape h)) && (eqb operations (3 * h .operations) && (eqb forgeries (5 * h .forgeries) && eqb delays (1 * delayCount (shape h)))) ⌝ }
+    ensures { λ r. ⌜ r ≡ lengthsImplied 16 (shape h) (partsFrom (now (placements .entry)) (now (operations .entry)) (now (forgeries .entry)) (now (delays .entry))) ⌝ }
 {
     both(
-        placements == h.moves(),
+        placements.len() == h.moves(),
         both(
-            operations == Operation::WIDTHS.len() * (h.operations as usize),
+            operations.len() == Operation::WIDTHS.len() * (h.operations as usize),
             both(
-                forgeries == Forged::WIDTHS.len() * (h.forgeries as usize),
-                delays == h.delay_count(),
+                forgeries.len() == Forged::WIDTHS.len() * (h.forgeries as usize),
+                delays.len() == h.delay_count(),
             ),
         ),
     )
@@ -53,4 +54,116 @@ fn copy(out: &mut [u8], plan: &[u8])
         out[i] = plan[i];
         i += 1;
     }
+}
+
+// The bits of all lists, from the first bit on.
+fn write(
+    own: &mut [u8],
+    h: Shape,
+    header: &[u32],
+    placements: &[u32],
+    operations: &[u32],
+    forgeries: &[u32],
+    delays: &[u32],
+)
+    requires { ⌜ (length (now own) ≡ impliedBytes) × Listed (listsFrom (now header) (now placements) (now operations) (now forgeries) (now delays)) (shape h) ⌝ }
+    ensures { λ _. ⌜ Wrote (now (own .entry)) (now (own .exit)) 0 (planBits 16
+        (listsFrom (now (header .entry)) (now (placements .entry)) (now (operations .entry)) (now (forgeries .entry)) (now (delays .entry)))) ⌝ }
+{
+    packing::put_fields(own, 0, &Shape::HEADER_WIDTHS, header);
+    packing::put_all(
+        own,
+        Shape::HEADER_BITS,
+        &Shape::PLACEMENT_WIDTHS,
+        placements,
+        h.moves(),
+    );
+    packing::put_all(
+        own,
+        h.operations_at(),
+        &Operation::WIDTHS,
+        operations,
+        h.operations as usize,
+    );
+    packing::put_all(
+        own,
+        h.forgeries_at(),
+        &Forged::WIDTHS,
+        forgeries,
+        h.forgeries as usize,
+    );
+    nibbles::put(own, h.delays_at(), delays);
+}
+
+// Do the placements fit, and stand in the plan that they are packed to.
+fn placements_pass(plan: &[u8], h: Shape, placements: &[u32]) -> bool
+    requires { ⌜ Sized (now plan) (shape h) × (length (now placements) ≡ 1 * moves (shape h)) ⌝ }
+    ensures { λ r. ⌜ r ≡ fits (placementsWidths 16 (shape h)) (now (placements .entry)) && placementsStand 16 (now (plan .entry)) (shape h) ⌝ }
+{
+    both(
+        packing::fits_all(&Shape::PLACEMENT_WIDTHS, placements, h.moves()),
+        placements::all_stand(plan, h),
+    )
+}
+
+fn operations_pass(plan: &[u8], h: Shape, operations: &[u32]) -> bool
+    requires { ⌜ Sized (now plan) (shape h) × (length (now operations) ≡ 3 * h .operations) ⌝ }
+    ensures { λ r. ⌜ r ≡ fits (operationsWidths 16 (shape h)) (now (operations .entry)) && operationsStand 16 (now (plan .entry)) (shape h) ⌝ }
+{
+    both(
+        packing::fits_all(&Operation::WIDTHS, operations, h.operations as usize),
+        operations::all_stand(plan, h),
+    )
+}
+
+fn forgeries_pass(plan: &[u8], h: Shape, forgeries: &[u32]) -> bool
+    requires { ⌜ Sized (now plan) (shape h) × (shape h ≡ headerOf 16 (now plan)) × (operationsStand 16 (now plan) (shape h) ≡ true)
+        × (length (now forgeries) ≡ 5 * h .forgeries) ⌝ }
+    ensures { λ r. ⌜ r ≡ fits (forgeriesWidths 16 (shape h)) (now (forgeries .entry)) && forgeriesStand 16 (now (plan .entry)) (shape h) ⌝ }
+{
+    both(
+        packing::fits_all(&Forged::WIDTHS, forgeries, h.forgeries as usize),
+        forgeries::all_stand(plan, h),
+    )
+}
+
+fn delays_pass(plan: &[u8], h: Shape, delays: &[u32]) -> bool
+    requires { ⌜ Sized (now plan) (shape h) × (length (now delays) ≡ 1 * delayCount (shape h)) ⌝ }
+    ensures { λ r. ⌜ r ≡ fits (delaysWidths 16 (shape h)) (now (delays .entry)) && delaysStand 16 (now (plan .entry)) (shape h) ⌝ }
+{
+    both(nibbles::fit(delays), delays::all_stand(plan, h))
+}
+
+// The tests of the parts, then that of the buffer; a plan that passes them all is copied out.
+fn finish(
+    plan: &[u8],
+    h: Shape,
+    placements: &[u32],
+    operations: &[u32],
+    forgeries: &[u32],
+    delays: &[u32],
+    out: &mut [u8],
+) -> Packed
+    requires { ⌜ Sized (now plan) (shape h) × (shape h ≡ headerOf 16 (now plan))
+        × Full 16 (shape h) (partsFrom (now placements) (now operations) (now forgeries) (now delays)) ⌝ }
+    ensures { λ r. ⌜ record { outcome = packed r; out = now (out .exit) } ≡ packInto (now (plan .entry)) (now (out .entry)) (partTests 16 (shape h) (now (plan .entry))
+        (partsFrom (now (placements .entry)) (now (operations .entry)) (now (forgeries .entry)) (now (delays .entry))) (length (now (out .entry)))) ⌝ }
+{
+    if !placements_pass(plan, h, placements) {
+        return Packed::Refused(Refusal::Placement);
+    }
+    if !operations_pass(plan, h, operations) {
+        return Packed::Refused(Refusal::Operation);
+    }
+    if !forgeries_pass(plan, h, forgeries) {
+        return Packed::Refused(Refusal::Forgery);
+    }
+    if !delays_pass(plan, h, delays) {
+        return Packed::Refused(Refusal::Delay);
+    }
+    if out.len() < plan.len() {
+        return Packed::Refused(Refusal::BufferShort);
+    }
+    copy(out, plan);
+    Packed::Bytes(plan.len())
 }
