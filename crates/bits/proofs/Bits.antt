@@ -7,7 +7,7 @@ use native.Mathlib.Numerals.{add-one}
 use native.Mathlib.Decide.{decLt}
 use native.Mathlib.Omega.{arith}
 use lib.ListN.{length, getD, length-append, List·getD-append, List·getD-eq-default}
-use lib.Seq.{getD-at, ext-getD}
+use lib.Seq.{getD-append-add, getD-at, ext-getD}
 use lib.Dec.{lit<}
 use lib.Pow.{high, low, field, mod-mod-pow, mod-pow-add}
 use Rattle.bits.specs.Field.{bitOf, fieldOf}
@@ -62,6 +62,13 @@ pub bits-at : (i r x : ℕ) → getD (bitsOf (suc i + r) x) i 0 ≡ x / 2 ^ r % 
 bits-at i r x =
     rw (bits-cut (suc i) r x, List·getD-append (bitsOf (suc i) (x / 2 ^ r)) (bitsOf r x) 0 i (rw length-bitsOf (omega arith)))
     (bits-last i (x / 2 ^ r))
+
+-- a bit of those that have b bits behind them
+pub bits-inner : (a w b x i : ℕ) → i < w → getD (bitsOf w (x / 2 ^ b)) i 0 ≡ getD (bitsOf (a + w + b) x) (a + i) 0
+bits-inner a w b x i h =
+    let y = x / 2 ^ b in
+    let e : a + i ≡ length (bitsOf a (y / 2 ^ w)) + i = rw length-bitsOf in
+    sym (rw (bits-cut (a + w) b x, bits-cut a w y, append-assoc, e, getD-append-add) (List·getD-append (bitsOf w y) (bitsOf b x) 0 i (rw length-bitsOf h)))
 
 -- only the lowest bits count
 pub bits-low : (w x : ℕ) → bitsOf w (x % 2 ^ w) ≡ bitsOf w x

@@ -66,7 +66,7 @@ wrote-inside {a} {b} {p} x y z f hx hz =
     }
 
 -- a byte that is stored
-wrote-byte : (s : List ℕ) (k v : ℕ) → k < length s → Wrote s (set s k v) (8 * k) (bitsOf 8 v)
+pub wrote-byte : (s : List ℕ) (k v : ℕ) → k < length s → Wrote s (set s k v) (8 * k) (bitsOf 8 v)
 unfolding bitOf
 wrote-byte s k v h = record {
   size = length-set s k v;
