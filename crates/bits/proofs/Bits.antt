@@ -10,7 +10,7 @@ use lib.ListN.{length, getD, length-append, List·getD-append, List·getD-eq-def
 use lib.Seq.{getD-append-add, getD-at, ext-getD}
 use lib.Dec.{lit<}
 use lib.Pow.{high, low, field, mod-mod-pow, mod-pow-add}
-use Rattle.bits.specs.Field.{bitOf, fieldOf}
+use Rattle.bits.specs.Field.{bitOf, fieldOf, Bytes}
 use Rattle.bits.specs.Layout.{bitsOf, wordOf}
 use Rattle.bits.proofs.Laws.{bit-lt, field-zero, field-suc, field-byte}
 
@@ -107,7 +107,7 @@ field-same a b at zero h = rw (field-zero, field-zero)
 field-same a b at (suc w) h = rw (field-suc a, field-suc b, field-same a b at w (λ i l. h i (omega arith)), h w (omega arith))
 
 -- bytes are told apart by their bits
-pub same-bits : (a b : List ℕ) → ((i : ℕ) → getD a i 0 < 256) → ((i : ℕ) → getD b i 0 < 256) → length a ≡ length b
+pub same-bits : (a b : List ℕ) → Bytes a → Bytes b → length a ≡ length b
     → ((i : ℕ) → i < 8 * length a → bitOf a i ≡ bitOf b i)
     → a ≡ b
 same-bits a b small-a small-b size h =

@@ -9,13 +9,13 @@ use native.Mathlib.Omega.{arith}
 use lib.Dec.{lit<, lit≤}
 use lib.ListN.{length, getD, take, replicate, length-replicate, getD-replicate, List·getD-eq-default}
 use lib.Seq.{getD-take, length-take-le}
-use Rattle.bits.specs.Field.{bitOf}
+use Rattle.bits.specs.Field.{bitOf, Bytes}
 use Rattle.bits.specs.Fill.{bytesFor}
 use Rattle.bits.specs.Layout.{inBytes}
 use Rattle.bits.specs.Writing.{Wrote}
 use Rattle.bits.proofs.Filling.{fill-units}
 use Rattle.bits.proofs.Bits.{same-bits}
-use Rattle.bits.proofs.Packing.{Small, Bytes, in-length, in-small, in-bit}
+use Rattle.bits.proofs.Packing.{Small, in-length, in-small, in-bit}
 
 zero-at : (n i : ℕ) → _≡_ {A = ℕ} (getD (replicate n 0) i 0) 0
 zero-at n i = elim (decLt i n) [

@@ -1,7 +1,7 @@
 -- Packing by a list of widths and reading field by field are each other's inverse: for any list of widths and any numbers that fit, and
 -- for any bytes. It stands on the laws of bits.
 use mathlib.Core.Path.{_≡_, _∙_, refl, ap, sym}
-use mathlib.Core.Bool.{true, _&&_, and-eq-true-iff, false≢true}
+use mathlib.Core.Bool.{Bool, true, false, _&&_, and-eq-true-iff, false≢true}
 use mathlib.Core.List.{List, [], _∷_, _++_, append-assoc}
 use Prim.Native.Nat.{ℕ, zero, suc, _+_, _*_, _-_, _/_, _%_, _^_, _≤_, _<_}
 use native.Mathlib.Nat as nat
@@ -11,7 +11,7 @@ use lib.ListN.{length, getD, drop, length-append, List·getD-append, List·getD-
 use lib.Seq.{getD-drop, getD-append-add, drop-append-seam, drop-length}
 use lib.Dec.{ltb, lit<, lit≤}
 use borrow.Author.Tests.{lt-ltb, ltb-true}
-use Rattle.bits.specs.Field.{bitOf, fieldOf}
+use Rattle.bits.specs.Field.{bitOf, fieldOf, Bytes}
 use Rattle.bits.specs.Fill.{fill, bytesFor}
 use Rattle.bits.specs.Layout.{total, numbersAt, fits, bitsOf, packedBits, wordOf, bytesOf, inBytes}
 use Rattle.bits.proofs.Laws as laws
@@ -21,10 +21,6 @@ use Rattle.bits.proofs.Bits as bits-laws
 -- each is 0 or 1
 abbrev pub Small : List ℕ → Type 0
 Small bits = (i : ℕ) → getD bits i 0 < 2
-
--- bytes
-abbrev pub Bytes : List ℕ → Type 0
-Bytes s = (i : ℕ) → getD s i 0 < 256
 
 small-drop : (n : ℕ) (bits : List ℕ) → Small bits → Small (drop n bits)
 small-drop n bits h i = rw getD-drop (h (n + i))
@@ -154,6 +150,21 @@ fits-length [] [] e = refl
 fits-length [] (x ∷ xs) e = absurd (false≢true e)
 fits-length (v ∷ vs) [] e = absurd (false≢true e)
 fits-length (v ∷ vs) (x ∷ xs) e = let b = and-eq-true-iff (ltb x (2 ^ v)) (fits vs xs) .0 e in rw (fits-length vs xs (b .1))
+
+-- each number is below 2 to its width
+pub fits-at : (vs xs : List ℕ) → fits vs xs ≡ true → (i : ℕ) → i < length vs → getD xs i 0 < 2 ^ getD vs i 0
+fits-at [] xs e i l = absurd (omega arith)
+fits-at (v ∷ vs) [] e i l = absurd (omega (arith, fits-length (v ∷ vs) [] e))
+fits-at (v ∷ vs) (x ∷ xs) e zero l = fits-cons v x vs xs e .0
+fits-at (v ∷ vs) (x ∷ xs) e (suc i) l = fits-at vs xs (fits-cons v x vs xs e .1) i (omega arith)
+
+-- other than one for each field do not fit
+pub fits-not : (vs xs : List ℕ) → (length xs ≡ length vs → ⊥) → fits vs xs ≡ false
+fits-not vs xs n = go (fits vs xs) refl
+  where
+    go : (b : Bool) → fits vs xs ≡ b → fits vs xs ≡ false
+    go true e = absurd (n (fits-length vs xs e))
+    go false e = e
 
 -- Numbers that fit, packed and read field by field, are themselves, whatever stands before and behind them.
 pub numbers-packed : (vs xs before behind : List ℕ) → fits vs xs ≡ true → Small before → Small behind

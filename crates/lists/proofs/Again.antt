@@ -5,10 +5,10 @@ use mathlib.Core.List.{List, _++_}
 use Prim.Native.Nat.{ℕ, _+_, _*_}
 use native.Mathlib.Omega.{arith}
 use lib.ListN.{length}
-use Rattle.bits.specs.Field.{fieldOf}
+use Rattle.bits.specs.Field.{fieldOf, Bytes}
 use Rattle.bits.specs.Fill.{fill, bytesFor}
 use Rattle.bits.specs.Layout.{total, numbersAt, bitsOf, packedBits}
-use Rattle.bits.proofs.Packing.{Bytes, bits-join, packed-numbers, fits-numbers, in-back}
+use Rattle.bits.proofs.Packing.{bits-join, packed-numbers, fits-numbers, in-back}
 use Rattle.bits.proofs.Records.{total-records}
 use Rattle.plan.specs.Widths as widths
 use Rattle.plan.specs.Header as header

@@ -11,7 +11,7 @@ use Rattle.bits.specs.Field.{fieldOf}
 use Rattle.bits.specs.Fill.{fill, bytesFor}
 use Rattle.bits.specs.Layout.{total, records, numbersAt, fits, bitsOf, packedBits, inBytes}
 use Rattle.bits.proofs.Packing as packing
-use Rattle.bits.proofs.Packing.{Small, Bytes}
+use Rattle.bits.proofs.Packing.{Small}
 use Rattle.bits.proofs.Records as record-laws
 use Rattle.plan.specs.Widths as widths
 use Rattle.plan.specs.Header as header

@@ -1,3 +1,4 @@
 pub mod Inverse
 pub mod Again
 pub mod Counted
+pub mod Writing

@@ -8,7 +8,7 @@ use native.Mathlib.Omega.{arith}
 use lib.Dec.{T, leb, eqb, eqb→eq}
 use lib.ListN.{length, drop}
 use borrow.Author.Tests.{le-leb, eq-eqb, eqb-true}
-use Rattle.bits.specs.Field.{fieldOf}
+use Rattle.bits.specs.Field.{fieldOf, Bytes}
 use Rattle.bits.specs.Fill.{fill, bytesFor}
 use Rattle.bits.proofs.Packing.{in-final}
 use Rattle.register.proofs.Logic.{T-eq}
@@ -23,7 +23,7 @@ use Rattle.lists.proofs.Inverse as inverse
 use Rattle.lists.proofs.Again as again
 use Rattle.lists.proofs.Counted.{reads-listed}
 use Rattle.pack.specs.Pack.{lengthsImplied, packTests, packInto, packOf}
-use Rattle.pack.specs.Inverse.{Bytes, PacksWell, IsPacking}
+use Rattle.pack.specs.Inverse.{PacksWell, IsPacking}
 use Rattle.pack.proofs.Tests.{Passed, tests-passed, passes-tests, outcome-tests}
 
 -- lists that fit have the lengths that the header implies

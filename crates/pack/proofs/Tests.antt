@@ -51,8 +51,7 @@ module _ (w : ℕ) (l : Lists) where
       let r7 = passed-both (fits (lists.forgeriesWidths w h) (l .forgeries)) (check.forgeriesStand w s h) 7 _ m (r6 .2) in
       let r8 = passed-both (fits (lists.delaysWidths w h) (l .delays)) (check.delaysStand w s h) 8 _ m (r7 .2) in
       let r14 = passed (leb (length s) room) 14 (result (length s)) m (r8 .2) in
-      let last : result (length s) ≡ result m = r14 .1 in
-      (
+      let last : result (length s) ≡ result m = r14 .1 in (
         record {
           fit = record {
             header = r2 .0;

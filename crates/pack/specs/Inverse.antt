@@ -1,15 +1,12 @@
 -- What packing is to Check and to reading a plan field by field (document 02, 'One'), in both directions.
 use mathlib.Core.Path.{_≡_}
 use mathlib.Core.List.{List, _++_}
-use Prim.Native.Nat.{ℕ, _≤_, _<_}
-use lib.ListN.{length, getD, drop}
+use Prim.Native.Nat.{ℕ, _≤_}
+use lib.ListN.{length, drop}
+use Rattle.bits.specs.Field.{Bytes}
 use Rattle.plan.specs.Check.{result, checkOf}
 use Rattle.lists.specs.Lists.{Lists, readsListed, listsOf, packedPlan}
 use Rattle.pack.specs.Pack.{packOf}
-
--- a list of bytes
-abbrev pub Bytes : List ℕ → Type 0
-Bytes s = (i : ℕ) → getD s i 0 < 256
 
 -- Lists that are packed: the plan passes Check with the reads that are listed, and 'read field by field, gives the lists it came from'.
 pub record PacksWell (w : ℕ) (l : Lists) (m : ℕ) : Type 0 where

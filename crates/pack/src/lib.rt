@@ -4,8 +4,10 @@ ghost use mathlib.Core.Bool.{true, _&&_};
 ghost use mathlib.Core.List.{_++_};
 ghost use Prim.Native.Nat.{_*_, _≤_};
 ghost use lib.ListN.{length, drop};
+ghost use Rattle.bits.specs.Field.{Bytes};
 ghost use Rattle.bits.specs.Layout.{fits};
 ghost use Rattle.bits.specs.Writing.{Wrote};
+ghost use Rattle.plan.specs.Widths.{headerWidths};
 ghost use Rattle.plan.specs.Header.{headerOf, moves, delayCount};
 ghost use Rattle.plan.specs.Limits.{impliedBytes};
 ghost use Rattle.plan.specs.Check.{placementsStand, operationsStand, forgeriesStand, delaysStand};
@@ -28,7 +30,13 @@ pub enum Packed {
 }
 
 // Have the lists the lengths that the header implies.
-fn are_implied(h: Shape, placements: &[u32], operations: &[u32], forgeries: &[u32], delays: &[u32]) -> bool
+fn are_implied(
+    h: Shape,
+    placements: &[u32],
+    operations: &[u32],
+    forgeries: &[u32],
+    delays: &[u32],
+) -> bool
     requires { ⌜ Ranged (shape h) ⌝ }
     ensures { λ r. ⌜ r ≡ lengthsImplied 16 (shape h) (partsFrom (now (placements .entry)) (now (operations .entry)) (now (forgeries .entry)) (now (delays .entry))) ⌝ }
 {
@@ -67,7 +75,7 @@ fn write(
     delays: &[u32],
 )
     requires { ⌜ (length (now own) ≡ impliedBytes) × Listed (listsFrom (now header) (now placements) (now operations) (now forgeries) (now delays)) (shape h) ⌝ }
-    ensures { λ _. ⌜ Wrote (now (own .entry)) (now (own .exit)) 0 (planBits 16
+    ensures { λ _. ⌜ Bytes (now (own .exit)) × Wrote (now (own .entry)) (now (own .exit)) 0 (planBits 16
         (listsFrom (now (header .entry)) (now (placements .entry)) (now (operations .entry)) (now (forgeries .entry)) (now (delays .entry)))) ⌝ }
 {
     packing::put_fields(own, 0, &Shape::HEADER_WIDTHS, header);
@@ -166,4 +174,61 @@ fn finish(
     }
     copy(out, plan);
     Packed::Bytes(plan.len())
+}
+
+// Are there ten numbers that fit the header's fields.
+fn is_header(numbers: &[u32]) -> bool
+    ensures { λ r. ⌜ r ≡ fits (headerWidths 16) (now (numbers .entry)) ⌝ }
+{
+    if numbers.len() != Shape::HEADER_WIDTHS.len() {
+        return false;
+    }
+    packing::fits_one(&Shape::HEADER_WIDTHS, numbers)
+}
+
+// Packs the lists into the buffer. The plan is made and tested in bytes of its own, so that a refusal writes nothing.
+pub fn pack(
+    header: &[u32],
+    placements: &[u32],
+    operations: &[u32],
+    forgeries: &[u32],
+    delays: &[u32],
+    out: &mut [u8],
+) -> Packed
+    ensures { λ r. ⌜ record { outcome = packed r; out = now (out .exit) } ≡ packOf 16
+        (listsFrom (now (header .entry)) (now (placements .entry)) (now (operations .entry)) (now (forgeries .entry)) (now (delays .entry))) (now (out .entry)) ⌝ }
+{
+    if !is_header(header) {
+        return Packed::Refused(Refusal::HeaderRange);
+    }
+    let h = Shape::of(header);
+    if !h.is_in_range() {
+        return Packed::Refused(Refusal::HeaderRange);
+    }
+    if !h.has_enough_servers() {
+        return Packed::Refused(Refusal::TooFewServers);
+    }
+    if !are_implied(h, placements, operations, forgeries, delays) {
+        return Packed::Refused(Refusal::Length);
+    }
+    let mut own = [0u8; Shape::IMPLIED_BYTES];
+    write(
+        &mut own,
+        h,
+        header,
+        placements,
+        operations,
+        forgeries,
+        delays,
+    );
+    let size = h.bytes();
+    finish(
+        &own[..size],
+        h,
+        placements,
+        operations,
+        forgeries,
+        delays,
+        out,
+    )
 }

@@ -7,7 +7,7 @@ use native.Mathlib.Omega.{arith}
 use lib.ListN.{length}
 use Rattle.bits.specs.Fill.{bytesFor}
 use Rattle.register.proofs.Logic.{T-eq}
-use Rattle.plan.specs.Header.{Header, headerOf, moves, parties, bitLength}
+use Rattle.plan.specs.Header.{Header, headerOf, moves, parties, delayCount, bitLength}
 use Rattle.plan.specs.Limits.{impliedBytes}
 use Rattle.plan.specs.Check.{headerInRange}
 use Rattle.plan.specs.Playable.{Playable}
@@ -22,6 +22,10 @@ few h r =
     let m = moves-few (h .ticks) (h .period) (omega arith) in
     let t = table-few (h .ticks) (parties h) (omega arith) (omega arith) in
     (omega arith, omega arith)
+
+-- the most delays
+pub delays-few : (h : Header) → Ranged h → delayCount h ≤ 56448
+delays-few h r = table-few (h .ticks) (parties h) (omega arith) (omega arith)
 
 -- no header in range implies more bytes
 pub implied-few : (h : Header) → Ranged h → bytesFor (bitLength 16 h) ≤ impliedBytes

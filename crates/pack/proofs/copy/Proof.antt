@@ -36,8 +36,7 @@ loop-less c = search needs
 loop-again : tie.Need-loop-again Inv-loop μ-loop
 loop-again c =
     let a = c .before .before .before .args in
-    let l = c .before .before .loop in
-    (
+    let l = c .before .before .loop in (
       omega arith,
       search needs,
       rw (l .inv .2, add-one (l .i)) (copy-more (now (a .plan)) (now (a .out)) (l .i) (omega arith) (omega arith)),

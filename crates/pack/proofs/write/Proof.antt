@@ -1,83 +1,114 @@
+-- `write` meets its contract: each part begins where the one before it ends.
+use mathlib.Core.Path.{_∙_}
+use native.Mathlib.Omega.{arith}
+use denote.Ref.{now}
+use lib.Dec.{lit<, lit≤}
+use Rattle.bits.proofs.Packing.{fits-length}
+use Rattle.records.specs.Records.{noWider}
+use Rattle.plan.specs.Shape.{shape}
+use Rattle.plan.proofs.Sizes.{delays-few}
+use Rattle.pack.specs.Numbered.{listsFrom}
+use Rattle.pack.proofs.Writes.{all-written}
 use borrow.Author.Needs.{needs}
 use Rattle.pack.proofs.write.Statement.{statement}
 use Rattle.pack.proofs.write.Tie as tie
-use Rattle.pack.proofs.write.Reads as reads
-use Rattle.pack.proofs.write.Lts as lts
-use Rattle.nibbles.proofs.put.Reads as put-reads
-use Rattle.packing.proofs.put_all.Reads as put-all-reads
-use Rattle.packing.proofs.put_fields.Reads as put-fields-reads
-use Rattle.plan.proofs.header.Shape.delays_at.Reads as delays-at-reads
-use Rattle.plan.proofs.header.Shape.forgeries_at.Reads as forgeries-at-reads
-use Rattle.plan.proofs.header.Shape.moves.Reads as moves-reads
-use Rattle.plan.proofs.header.Shape.operations_at.Reads as operations-at-reads
 
--- src/lib.rt:73:33
 slice-aggregate-put-fields : tie.Need-slice-aggregate-put-fields
 slice-aggregate-put-fields c = search needs
 
--- src/lib.rt:73:5
 put-fields-requires : tie.Need-put-fields-requires
-put-fields-requires c κs = ?
+unfolding noWider
+put-fields-requires c κs =
+    let p = c .before .before .before .before .before .before .before .before .pre in
+    (tt, fits-length _ _ (p .1 .fit), omega (arith, p .0), lit< tt)
 
--- src/lib.rt:77:9
 slice-aggregate-put-all : tie.Need-slice-aggregate-put-all
 slice-aggregate-put-all c = search needs
 
--- src/lib.rt:79:9
 moves-requires : tie.Need-moves-requires
 moves-requires c κs = search needs
 
--- src/lib.rt:74:5
 put-all-requires : tie.Need-put-all-requires
-put-all-requires c κs = ?
+unfolding noWider
+put-all-requires c κs =
+    let p = c .before .before .before .before .before .before .before .before .before .before .before .before .before .before .pre in
+    let w1 = c .before .before .before .before .before .put-fields .ensures in
+    (tt, lit≤ tt, rw (c .moves .ensures .0) (p .1 .full .placements), omega (arith, p .0, w1 .size), omega arith)
 
--- src/lib.rt:83:9
 operations-at-requires : tie.Need-operations-at-requires
 operations-at-requires c κs = search needs
 
--- src/lib.rt:84:9
 slice-aggregate-put-all-2 : tie.Need-slice-aggregate-put-all-2
 slice-aggregate-put-all-2 c = search needs
 
--- src/lib.rt:86:9
 cast-put-all : tie.Need-cast-put-all
 cast-put-all c = search needs
 
--- src/lib.rt:81:5
 put-all-requires-2 : tie.Need-put-all-requires-2
-put-all-requires-2 c κs = ?
+unfolding noWider
+put-all-requires-2 c κs =
+    let p = c .before .before .before .before .before .before .before .before .before .before .before .before .before .before .before .before .before .before .before .before .before .pre in
+    let w1 = c .before .before .before .before .before .before .before .before .before .before .before .before .put-fields .ensures in
+    let w2 = c .before .before .before .before .before .before .put-all .ensures in
+    (tt, lit≤ tt, p .1 .full .operations, omega (arith, p .0, w1 .size, w2 .size, c .before .before .operations-at .ensures), omega (arith, c .before .before .operations-at .ensures))
 
--- src/lib.rt:90:9
 forgeries-at-requires : tie.Need-forgeries-at-requires
-forgeries-at-requires c κs = ?
+forgeries-at-requires c κs = c .before .before .before .before .before .before .before .before .before .before .before .before .before .before .before .before .before .before .before .before .before .before .before .before .before .pre .1 .ranged
 
--- src/lib.rt:91:9
 slice-aggregate-put-all-3 : tie.Need-slice-aggregate-put-all-3
 slice-aggregate-put-all-3 c = search needs
 
--- src/lib.rt:93:9
 cast-put-all-2 : tie.Need-cast-put-all-2
 cast-put-all-2 c = search needs
 
--- src/lib.rt:88:5
 put-all-requires-3 : tie.Need-put-all-requires-3
-put-all-requires-3 c κs = ?
+unfolding noWider
+put-all-requires-3 c κs =
+    let p = c .before .before .before .before .before .before .before .before .before .before .before .before .before .before .before .before .before .before .before .before .before .before .before .before .before .before .before .before .pre in
+    let w1 = c .before .before .before .before .before .before .before .before .before .before .before .before .before .before .before .before .before .before .before .put-fields .ensures in
+    let w2 = c .before .before .before .before .before .before .before .before .before .before .before .before .before .put-all .ensures in
+    let w3 = c .before .before .before .before .before .before .put-all2 .ensures in
+    (tt, lit≤ tt, p .1 .full .forgeries, omega (arith, p .0, w1 .size, w2 .size, w3 .size, p .1 .ranged, c .before .before .forgeries-at .ensures), omega (arith, p .1 .ranged, c .before .before .forgeries-at .ensures))
 
--- src/lib.rt:95:23
 delays-at-requires : tie.Need-delays-at-requires
-delays-at-requires c κs = ?
+delays-at-requires c κs = c .before .before .before .before .before .before .before .before .before .before .before .before .before .before .before .before .before .before .before .before .before .before .before .before .before .before .before .before .before .before .before .before .pre .1 .ranged
 
--- src/lib.rt:95:5
 put-requires : tie.Need-put-requires
-put-requires c κs = ?
+put-requires c κs =
+    let p = c .before .before .before .before .before .before .before .before .before .before .before .before .before .before .before .before .before .before .before .before .before .before .before .before .before .before .before .before .before .before .before .before .before .pre in
+    let w1 = c .before .before .before .before .before .before .before .before .before .before .before .before .before .before .before .before .before .before .before .before .before .before .before .before .put-fields .ensures in
+    let w2 = c .before .before .before .before .before .before .before .before .before .before .before .before .before .before .before .before .before .before .put-all .ensures in
+    let w3 = c .before .before .before .before .before .before .before .before .before .before .before .put-all2 .ensures in
+    let w4 = c .before .before .before .before .put-all3 .ensures in
+    let few = delays-few (shape (c .before .before .before .before .before .before .before .before .before .before .before .before .before .before .before .before .before .before .before .before .before .before .before .before .before .before .before .before .before .before .before .before .before .args .h)) (p .1 .ranged) in
+    (omega (arith, p .0, w1 .size, w2 .size, w3 .size, w4 .size, p .1 .full .delays, few, c .delays-at .ensures), omega (arith, c .delays-at .ensures), omega (arith, p .1 .full .delays, few))
 
--- src/lib.rt:60:1
 same-length : tie.Need-same-length
-same-length c = ?
+same-length c =
+    let w1 = c .before .before .before .before .before .before .before .before .before .before .before .before .before .before .before .before .before .before .before .before .before .before .before .before .before .before .before .put-fields .ensures in
+    let w2 = c .before .before .before .before .before .before .before .before .before .before .before .before .before .before .before .before .before .before .before .before .before .put-all .ensures in
+    let w3 = c .before .before .before .before .before .before .before .before .before .before .before .before .before .before .put-all2 .ensures in
+    let w4 = c .before .before .before .before .before .before .before .put-all3 .ensures in
+    let w5 = c .before .before .put .ensures in
+    w5 .size ∙ w4 .size ∙ w3 .size ∙ w2 .size ∙ w1 .size
 
--- src/lib.rt:60:1
 returns : tie.Need-returns
-returns c = ?
+returns c =
+    let z = c .before .before .before .before .before .before .before .before .before .before .before .before .before .before .before .before .before .before .before .before .before .before .before .before .before .before .before .before .before .before .before .before .before .before .before .before in
+    let a = z .args in
+    let l = listsFrom (now (a .header)) (now (a .placements)) (now (a .operations)) (now (a .forgeries)) (now (a .delays)) in (
+      λ i. omega (arith, c .slice-known6 .given i),
+      all-written l (shape (a .h)) (z .pre .1) _ _ _ _ _ _ _ _ _ _
+          (c .before .before .before .before .before .before .before .before .before .before .before .before .before .before .before .before .before .before .before .before .before .before .moves .ensures .0)
+          (c .before .before .before .before .before .before .before .before .before .before .before .before .before .before .before .before .before .operations-at .ensures .0)
+          (c .before .before .before .before .before .before .before .before .before .before .forgeries-at .ensures .0)
+          (c .before .before .before .delays-at .ensures .0)
+          (c .before .before .before .before .before .before .before .before .before .before .before .before .before .before .before .before .before .before .before .before .before .before .before .before .before .before .before .put-fields .ensures)
+          (c .before .before .before .before .before .before .before .before .before .before .before .before .before .before .before .before .before .before .before .before .before .put-all .ensures)
+          (c .before .before .before .before .before .before .before .before .before .before .before .before .before .before .put-all2 .ensures)
+          (c .before .before .before .before .before .before .before .put-all3 .ensures)
+          (c .before .before .put .ensures),
+    )
 
 pub write-spec : {M : Type 1} → statement M
 write-spec =
