@@ -99,5 +99,8 @@ fn answer(bytes: &[u8], i: usize) {
         return;
     }
     word(b" ");
-    number(bits::field(bytes, Shape::ANSWER_BITS * i, Shape::ANSWER_BITS), b"");
+    number(
+        bits::field(bytes, Shape::ANSWER_BITS * i, Shape::ANSWER_BITS),
+        b"",
+    );
 }
