@@ -6,6 +6,7 @@ use Prim.Native.Nat.{ℕ, zero, suc, _+_, _*_, _-_, _/_, _%_, _^_, _≤_, _<_}
 use lib.Dec.{eqb, ltb}
 use lib.ListN.{length, set}
 use Rattle.bits.specs.Field.{fieldOf}
+use Rattle.plan.specs.Header.{delayBits}
 use Rattle.calendar.specs.declared.Stamped.{Stamped}
 use Rattle.calendar.specs.declared.Sending.{Sending}
 use Rattle.calendar.specs.Layout.{receivers, lowOf, highOf}
@@ -33,14 +34,14 @@ among kept j = amongFirst (length kept) kept j
 
 -- the tick in which what is sent reaches server b: the delays are nibbles, the last server's lowest
 unfoldable pub arrivalOf : Sending → ℕ → ℕ
-arrivalOf s b = s .tick + s .delays / 2 ^ (4 * (s .n - 1 - b)) % 16
+arrivalOf s b = s .tick + s .delays / 2 ^ (delayBits * (s .n - 1 - b)) % 2 ^ delayBits
 
 -- server i sends in tick t to m servers: the delays stand in the plan's bits
 pub record Sent (plan : List ℕ) (at m t i : ℕ) (s : Sending) : Type 0 where
   pub tick : s .tick ≡ t
   pub sender : s .sender ≡ i
   pub servers : s .n ≡ m
-  pub arrives : (b : ℕ) → b < m → arrivalOf s b ≡ t + fieldOf plan (at + 4 * b) 4
+  pub arrives : (b : ℕ) → b < m → arrivalOf s b ≡ t + fieldOf plan (at + delayBits * b) delayBits
 
 -- what is sent goes to the row, if its receiver is one of the servers that it goes to
 unfoldable pub dueIn : Sending → ℕ → Bool

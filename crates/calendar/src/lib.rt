@@ -4,9 +4,11 @@ ghost use Prim.Native.Nat.{_+_, _*_, _^_, _≤_, _<_};
 ghost use lib.Dec.{eqb};
 ghost use lib.ListN.{length};
 ghost use Rattle.bits.specs.Field.{fieldOf};
+ghost use Rattle.plan.specs.Header.{delayBits, DelaysIn};
 ghost use Rattle.calendar.specs.Layout.{mostServers, receivers, rows, places, calendarSize, rowOf, cellWord, lowOf, highOf, sendersOf};
 ghost use Rattle.calendar.specs.View.{Posted, Cleared, Empty, SamePast};
 ghost use Rattle.calendar.specs.Posts.{inRow, among, toOthers, Sendable, Sent, arrivalOf, widened};
+use plan::header::Shape;
 
 pub mod words;
 
@@ -59,11 +61,11 @@ pub struct Sending {
 
 // The n nibbles from bit `at` on as one number.
 fn nibbles(plan: &[u8], at: usize, n: usize) -> u64
-    requires { ⌜ (n ≤ mostServers) × (at + 4 * n ≤ 8 * length (now plan)) × (at < 2 ^ 59) ⌝ }
-    ensures { λ r. ⌜ r ≡ fieldOf (now (plan .entry)) at (4 * n) ⌝ }
+    requires { ⌜ (n ≤ mostServers) × DelaysIn (now plan) at n × (at < 2 ^ 59) ⌝ }
+    ensures { λ r. ⌜ r ≡ fieldOf (now (plan .entry)) at (delayBits * n) ⌝ }
 {
     if n <= 14 {
-        return bits::field(plan, at, 4 * n);
+        return bits::field(plan, at, Shape::DELAY_BITS * n);
     }
     if n == 15 {
         return bits::field(plan, at, 32) * 268435456 + bits::field(plan, at + 32, 28);
@@ -74,7 +76,7 @@ fn nibbles(plan: &[u8], at: usize, n: usize) -> u64
 impl Sending {
     // What a party sends in a tick: its delays to the n servers stand in the plan from bit `at` on.
     pub fn of(plan: &[u8], at: usize, n: usize, tick: usize, sender: usize) -> Sending
-        requires { ⌜ (n ≤ mostServers) × (at + 4 * n ≤ 8 * length (now plan)) × (at < 2 ^ 59) ⌝ }
+        requires { ⌜ (n ≤ mostServers) × DelaysIn (now plan) at n × (at < 2 ^ 59) ⌝ }
         ensures { λ s. ⌜ Sent (now (plan .entry)) at n tick sender s ⌝ }
     {
         let delays = nibbles(plan, at, n);
@@ -92,7 +94,7 @@ impl Sending {
         ensures { λ r. ⌜ (r ≡ arrivalOf self b) × (r < 65552) ⌝ }
     {
         let n = self.n;
-        let late = (self.delays >> (4 * (n - 1 - b))) % 16;
+        let late = (self.delays >> (Shape::DELAY_BITS * (n - 1 - b))) % 16;
         self.tick + late as usize
     }
 }

@@ -6,7 +6,7 @@ ghost use mathlib.Core.Path.{_≡_};
 ghost use mathlib.Core.Bool.{_&&_};
 ghost use Prim.Native.Nat.{_+_, _*_, _/_, _%_, _^_, _≤_, _<_};
 ghost use lib.ListN.{length};
-ghost use Rattle.plan.specs.Header.{delayBits, parties};
+ghost use Rattle.plan.specs.Header.{DelaysIn, parties};
 ghost use Rattle.plan.specs.Parts.{isLink};
 ghost use Rattle.plan.specs.Check.{delaysStand, finalBitsZero};
 ghost use Rattle.plan.specs.Shape.{shape, Sized};
@@ -106,7 +106,7 @@ fn pairs_stand(plan: &[u8], need: &[u8], h: Shape, at: usize, bytes: usize) -> b
 
 // The delays from `from` to all - 1 of a tick, one at a time; `before` says whether those before them stand.
 fn rest_stand(plan: &[u8], h: Shape, at: usize, from: usize, all: usize, before: bool) -> bool
-    requires { ⌜ (at + delayBits * all ≤ 8 * length (now plan)) × (at < 2 ^ 59) × (all ≤ 441) × (from ≤ all)
+    requires { ⌜ DelaysIn (now plan) at all × (at < 2 ^ 59) × (all ≤ 441) × (from ≤ all)
         × (before ≡ firstStand (now plan) (shape h) at from) ⌝ }
     ensures { λ r. ⌜ r ≡ firstStand (now (plan .entry)) (shape h) at all ⌝ }
 {
@@ -142,7 +142,7 @@ fn followed(pairs: usize, at: usize, len: usize) -> usize
 
 // The delays of a tick: in pairs as far as a byte follows them, then the rest.
 fn tick_stands(plan: &[u8], need: &[u8], h: Shape, at: usize) -> bool
-    requires { ⌜ (at + delayBits * (parties (shape h) * parties (shape h)) ≤ 8 * length (now plan)) × (at < 2 ^ 59)
+    requires { ⌜ DelaysIn (now plan) at (parties (shape h) * parties (shape h)) × (at < 2 ^ 59)
         × (parties (shape h) * parties (shape h) ≤ 441) × (mostPairs ≤ length (now need))
         × Needed (h .n) (parties (shape h)) (parties (shape h) * parties (shape h) / 2) (now need) ⌝ }
     ensures { λ r. ⌜ r ≡ tickStands (now (plan .entry)) (shape h) at ⌝ }

@@ -1,7 +1,7 @@
 -- The header of a packed plan and where the parts behind it stand (document 01, 'The plan, packed').
 use mathlib.Core.List.{List}
-use Prim.Native.Nat.{ℕ, _+_, _*_, _-_, _/_}
-use lib.ListN.{getD, take}
+use Prim.Native.Nat.{ℕ, _+_, _*_, _-_, _/_, _≤_}
+use lib.ListN.{length, getD, take}
 use Rattle.bits.specs.Layout.{total, numbersAt}
 use Rattle.register.specs.Plan.{kOf}
 use Rattle.plan.specs.Widths.{headerWidths, placementWidths, operationWidths, forgeryWidths, delayWidths}
@@ -71,6 +71,15 @@ placementAt w i = headerBits w + placementBits * i
 abbrev pub delayCount : Header → ℕ
 delayCount h = h .ticks * (parties h * parties h)
 
+-- of the delay of tick t from party i to party j, where the delays of so many parties begin at bit `at`: 'for each tick, sender and
+-- receiver in that order'
+abbrev pub linkAt : ℕ → ℕ → ℕ → ℕ → ℕ → ℕ
+linkAt at p t i j = at + delayBits * ((t * p + i) * p + j)
+
+-- so many delays, from bit `at` on, lie in the plan
+abbrev pub DelaysIn : List ℕ → ℕ → ℕ → Type 0
+DelaysIn s at m = at + delayBits * m ≤ 8 * length s
+
 module _ (w : ℕ) (h : Header) where
   abbrev pub operationAt : ℕ → ℕ
   operationAt i = placementAt w (moves h) + operationBits w * i
@@ -78,9 +87,9 @@ module _ (w : ℕ) (h : Header) where
   abbrev pub forgeryAt : ℕ → ℕ
   forgeryAt i = operationAt (h .operations) + forgeryBits w * i
 
-  -- of the delay of tick t from party i to party j: 'for each tick, sender and receiver in that order'
+  -- of the delay of tick t from party i to party j
   abbrev pub delayAt : ℕ → ℕ → ℕ → ℕ
-  delayAt t i j = forgeryAt (h .forgeries) + delayBits * ((t * parties h + i) * parties h + j)
+  delayAt t i j = linkAt (forgeryAt (h .forgeries)) (parties h) t i j
 
   -- all bits before the final zero bits
   abbrev pub bitLength : ℕ

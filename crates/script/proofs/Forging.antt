@@ -16,7 +16,7 @@ use Rattle.register.proofs.Stamped.{value-stamped, number-stamped}
 use Rattle.plan.proofs.Accept.{in-range}
 use Rattle.serving.specs as serving-specs
 use Rattle.calendar.specs.Layout.{places}
-use Rattle.script.specs.Forged.{Reach, entriesEnd, forgedAt, delayOf, knownNumber, Fillable, Filled, Starts}
+use Rattle.script.specs.Forged.{entriesEnd, forgedAt, delayOf, knownNumber, Fillable, Filled, Starts}
 use Rattle.script.specs.Script.{LinksOf, messageOf, messageDelay, Entered}
 use Rattle.script.proofs as script-laws
 use Rattle.script.proofs.Messages.{sent-below, sender-below, on-link, message-reach}
@@ -62,7 +62,7 @@ module _ (s : List ℕ) (A : plan-specs.Playable.Playable 16 s) (x : plan-specs.
       inside = rw (part-whole, length-drop) (omega (arith, first-bit, counted, script-laws.Placing.bits-inside s A, part-starts));
       pairs = pairs;
       reach = λ e l. rw (ap (λ (h : Header). h .n) same)
-          (subst (λ (g : Forgery). Reach s links (headerOf 16 s .n) g) (sym (message e)) (message-reach s A e (omega (arith, counted)) links L));
+          (subst (λ (g : Forgery). serving-specs.Links.Reach s links (headerOf 16 s .n) (g .at) (g .from) (g .to)) (sym (message e)) (message-reach s A e (omega (arith, counted)) links L));
     }
 
     delay-same : (e : ℕ) → e < headerOf 16 s .forgeries → delayOf s links (forgedAt part (at % 8) e) ≡ messageDelay s e

@@ -16,7 +16,7 @@ use Rattle.plan.specs.Header.{Header, headerOf, parties, forgeryBits, forgeryAt
 use Rattle.plan.specs as plan-specs
 use Rattle.plan.proofs as plan-laws
 use Rattle.serving.specs.declared.Links.{Links}
-use Rattle.script.specs.Forged.{Reach}
+use Rattle.serving.specs.Links.{Reach}
 use Rattle.script.specs.Script.{LinksOf, messageOf}
 use Rattle.script.proofs.Tables.{tab-in}
 use Rattle.script.proofs.Placing.{other-link, table}
@@ -46,7 +46,7 @@ module _ (s : List ℕ) (A : plan-specs.Playable.Playable 16 s) where
           )
     ]
 
-    pub message-reach : (links : Links) → LinksOf (headerOf 16 s) links → Reach s links (headerOf 16 s .n) (messageOf s e)
+    pub message-reach : (links : Links) → LinksOf (headerOf 16 s) links → Reach s links (headerOf 16 s .n) (messageOf s e .at) (messageOf s e .from) (messageOf s e .to)
     message-reach links L = record {
       linked = table s A links L (messageOf s e .at + 1) (omega (arith, sent-below));
       sender = omega (arith, sender-below, L .parties);

@@ -13,13 +13,7 @@ use Rattle.plan.specs.Parts.{forgeryIn}
 use Rattle.serving.specs.declared.Links.{Links}
 use Rattle.calendar.specs.Layout.{places}
 use Rattle.requests.specs.Requests.{requestsEnd}
-use Rattle.serving.specs.Links.{delayAt, Linked}
-
--- the delay of a forged message lies in the plan
-pub record Reach (plan : List ℕ) (links : Links) (n : ℕ) (g : Forgery) : Type 0 where
-  pub linked : Linked plan links n (g .at + 1)
-  pub sender : g .from < links .parties
-  pub receiver : g .to < links .parties
+use Rattle.serving.specs.Links.{delayAt, Reach}
 
 -- the byte at which they begin, how many there may be, and the byte behind them
 abbrev pub entriesAt : ℕ
@@ -61,7 +55,7 @@ pub record Fillable (work part : List ℕ) (offset count : ℕ) (plan : List ℕ
   pub few : count ≤ mostEntries
   pub inside : offset + forgeryBits 16 * count ≤ 8 * length part
   pub pairs : m ≤ places
-  pub reach : (e : ℕ) → e < count → Reach plan links n (forgedAt part offset e)
+  pub reach : (e : ℕ) → e < count → let g : Forgery = forgedAt part offset e in Reach plan links n (g .at) (g .from) (g .to)
 
 -- entry e is the forged message g, with this delay and number
 pub record Entry (work : List ℕ) (e : ℕ) (g : Forgery) (delay number : ℕ) : Type 0 where

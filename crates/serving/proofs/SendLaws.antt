@@ -6,9 +6,10 @@ use Prim.Native.Nat.{ℕ, _+_, _*_, _-_, _/_, _%_, _^_, _≤_, _<_}
 use native.Mathlib.Nat.{mul-le-mul}
 use native.Mathlib.Omega.{arith}
 use lib.Dec.{eqb, leb, ltb}
-use lib.ListN.{length, getD}
+use lib.ListN.{getD}
 use borrow.Author.Tests.{lt-ltb, le-ltb, le-leb, lt-leb, eq-eqb, ne-eqb, eqb-true, ltb-true, ltb-false}
 use Rattle.register.proofs as register-laws
+use Rattle.plan.specs.Header.{delayBits, DelaysIn}
 use Rattle.calendar.specs as calendar-specs
 use Rattle.calendar.specs.Layout.{receivers, rows, places, rowOf}
 use Rattle.calendar.specs.View.{Posted}
@@ -28,7 +29,7 @@ row-small u p h l = mul-le-mul {n₂ = 127} {m₂ = 24} (omega arith) l
 pub links-small : (u p i : ℕ) → u < 128 → p ≤ 24 → i < p → (u * p + i) * p ≤ 73704
 links-small u p i h l k = mul-le-mul {n₂ = 3071} {m₂ = 24} (omega (arith, row-small u p h l)) l
 
-pub link-at : (links : serving-specs.declared.Links.Links) (u i b : ℕ) → linkBit links u i 0 + 4 * b ≡ linkBit links u i b
+pub link-at : (links : serving-specs.declared.Links.Links) (u i b : ℕ) → linkBit links u i 0 + delayBits * b ≡ linkBit links u i b
 unfolding linkBit
 link-at links u i b = omega arith
 
@@ -41,7 +42,7 @@ module _ (plan : List ℕ) (links : serving-specs.declared.Links.Links) (n u : �
   link-small i h = omega (arith, L .start, links-small u (links .parties) i (omega (arith, L .ticks)) parties-few h)
 
   -- all delays of party i in tick u lie in the plan
-  pub link-inside : (i : ℕ) → i < links .parties → linkBit links u i 0 + 4 * links .parties ≤ 8 * length plan
+  pub link-inside : (i : ℕ) → i < links .parties → DelaysIn plan (linkBit links u i 0) (links .parties)
   unfolding linkBit
   link-inside i h =
       let p = links .parties in

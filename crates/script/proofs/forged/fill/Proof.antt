@@ -40,7 +40,7 @@ delay-requires c κs =
     let p = c .before .before .before .before in
     let E = p .message-at .ensures .0 in
     let R = p .before .before .before .before .before .before .pre .reach _ (p .before .loop-test .taken) in
-    rw (ap at E, ap from E, ap to E) (R .linked, R .sender, R .receiver)
+    rw (ap at E, ap from E, ap to E) R
 
 add-put-entry-2 : tie.Need-add-put-entry-2 Inv-loop μ-loop
 add-put-entry-2 c =

@@ -7,11 +7,11 @@ use Rattle.serving.proofs.SendLaws.{parties-few, link-at, link-small, l
 
 add-nibble : tie.Need-add-nibble
 add-nibble c = let s = c .before .before in
-    omega (arith, c .row-bit .ensures, link-small _ (s .args .links) (s .args .n) (s .args .u) (s .pre .0) (s .args .i) (s .pre .1), s .pre .2, parties-few _ (s .args .links) (s .args .n) (s .args .u) (s .pre .0))
+    omega (arith, c .row-bit .ensures, link-small _ (s .args .links) (s .args .n) (s .args .u) (s .pre .linked) (s .args .i) (s .pre .sender), s .pre .receiver, parties-few _ (s .args .links) (s .args .n) (s .args .u) (s .pre .linked))
 
 nibble-requires : tie.Need-nibble-requires
 nibble-requires c κs = let s = c .before .before in
-    omega (arith, c .row-bit .ensures, link-inside _ (s .args .links) (s .args .n) (s .args .u) (s .pre .0) (s .args .i) (s .pre .1), s .pre .2)
+    omega (arith, c .row-bit .ensures, link-inside _ (s .args .links) (s .args .n) (s .args .u) (s .pre .linked) (s .args .i) (s .pre .sender), s .pre .receiver)
 
 returns : tie.Need-returns
 returns c = let a = c .before .before .before .args in

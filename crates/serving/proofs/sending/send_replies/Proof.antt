@@ -44,7 +44,7 @@ send-replies-spec =
     (λ c. let a = c .before .before .before .args in (omega arith, omega arith, replies-first _ (a .links) (a .n) (a .t) (a .t8) (a .i) _ _)) (search needs)
     (search needs) (λ c. let s = c .before .before .before .before .before .before in omega (arith, s .pre .1 .servers))
     (λ c. omega (arith, c .before .before .before .before .before .before .before .before .pre .1 .servers, c .before .before .before .loop-test .taken))
-    (λ c κs. let s = c .before .before .before .before .before .before .before .before in (s .pre .1, omega (arith, s .pre .3, s .pre .1 .writer), c .if2 .taken))
+    (λ c κs. let s = c .before .before .before .before .before .before .before .before in record { linked = s .pre .1; sender = omega (arith, s .pre .3, s .pre .1 .writer); receiver = c .if2 .taken })
     (λ c. omega (arith, c .before .before .before .before .before .before .before .before .before .pre .2, c .delay .ensures .1))
     (λ c. c .before .before .before .before .before .loop .inv .0)
     (λ c. omega (arith, c .before .before .before .before .before .loop .inv .0, c .before .before .before .before .loop-test .taken)) (λ c. search needs)
