@@ -7,7 +7,8 @@ ghost use Rattle.answers.specs.Workspace.{workspaceSize};
 ghost use Rattle.simulator.specs.Judge.{judgeOf};
 ghost use Rattle.codes.specs.Codes.{codeOf, verdictCode, lookCoded};
 ghost use Rattle.fields.specs.Fields.{answerField, headerField};
-ghost use Rattle.capi.specs.Exported.{playExported};
+ghost use Rattle.pack.specs.Numbered.{listsFrom};
+ghost use Rattle.capi.specs.Exported.{playExported, packExported};
 use plan::header::Shape;
 
 // The number of reads.
@@ -46,6 +47,22 @@ pub extern "C" fn register_judge(plan: &[u8], answers: &[u8]) -> usize
     ensures { λ r. ⌜ r ≡ verdictCode (judgeOf 16 (now (plan .entry)) (now (answers .entry))) ⌝ }
 {
     codes::of_judge(judge::judge(plan, answers))
+}
+
+// The number of bytes of the plan that is packed from the lists, at the start of `out`.
+#[no_mangle]
+pub extern "C" fn register_pack(
+    header: &[u32],
+    placements: &[u32],
+    operations: &[u32],
+    forgeries: &[u32],
+    delays: &[u32],
+    out: &mut [u8],
+) -> usize
+    ensures { λ r. ⌜ record { code = r; out = now (out .exit) } ≡ packExported
+        (listsFrom (now (header .entry)) (now (placements .entry)) (now (operations .entry)) (now (forgeries .entry)) (now (delays .entry))) (now (out .entry)) ⌝ }
+{
+    codes::of_pack(pack::pack(header, placements, operations, forgeries, delays, out))
 }
 
 // A field of answer i: 0 begin, 1 reader, 2 value, 3 number, 4 count. 0 where there is no such answer or field.

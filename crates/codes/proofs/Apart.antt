@@ -1,5 +1,5 @@
 -- A caller can tell a result from a refusal: one law of all codes, and for each operation that its results are below refusedFrom.
--- It stands on how many reads an accepted plan has, and how many pairs a server keeps.
+-- It stands on how many reads and bytes an accepted plan has, and how many pairs a server keeps.
 use mathlib.Core.Path.{_≡_, refl}
 use mathlib.Core.Bool.{Bool, true, false, cond}
 use mathlib.Core.List.{List}
@@ -11,7 +11,10 @@ use Rattle.register.specs.Cluster.{cluster, serverOf}
 use Rattle.plan.specs.Header.{headerOf}
 use Rattle.plan.specs.Packed.{planOf}
 use Rattle.plan.specs.Check.{Outcome, refused, result, checkOf}
-use Rattle.plan.proofs.Longest.{most-reads}
+use Rattle.plan.proofs.Longest.{longest, most-reads}
+use Rattle.lists.specs.Lists.{Lists, readsListed, packedPlan}
+use Rattle.pack.specs.Pack.{packOf}
+use Rattle.pack.proofs.Inverted.{packed-well}
 use Rattle.simulator.specs.Look.{Condition, is-faulty, is-cured, is-correct, shownBy}
 use Rattle.simulator.proofs.Keeps.{few-shown}
 use Rattle.codes.specs.Codes.{refusedFrom, refusalCode, codeOf, verdictNumber, conditionCode, shownNumber}
@@ -46,3 +49,7 @@ pub shown-below : (s : List ℕ) (t b : ℕ) → b < headerOf 16 s .n → shownN
 shown-below s t b l =
     let x = shownBy 16 (serverOf (cluster (planOf 16 s) t) b) in
     omega (arith, condition-few (x .condition), few-shown s t b l)
+
+-- of Pack
+pub bytes-below : (l : Lists) (out : List ℕ) (m : ℕ) → packOf 16 l out .outcome ≡ result m → m < refusedFrom
+bytes-below l out m e = let p = packed-well 16 l out m e in omega (arith, p .bytes, longest (packedPlan 16 l) (readsListed l) (p .checked))

@@ -4,7 +4,9 @@ ghost use mathlib.Core.List.{[]};
 ghost use Prim.Native.Nat.{_≤_};
 ghost use Rattle.plan.specs.Numbered.{refusalNumber, numbered};
 ghost use Rattle.simulator.specs.Numbered.{played, judged, lookedAs};
+ghost use Rattle.pack.specs.Numbered.{packed};
 ghost use Rattle.codes.specs.Codes.{refusalCode, codeOf, verdictCode, shownCode};
+use pack::Packed;
 use plan::Checked;
 use plan::Refusal;
 use simulator::judge::Judged;
@@ -89,5 +91,15 @@ pub fn of_seen(seen: Seen) -> usize
         Seen::Cured => 1,
         Seen::Correct => 2,
         Seen::Refused(why) => refusal(why),
+    }
+}
+
+// The number of bytes.
+pub fn of_pack(p: Packed) -> usize
+    ensures { λ r. ⌜ r ≡ codeOf (packed p) ⌝ }
+{
+    match p {
+        Packed::Bytes(m) => m,
+        Packed::Refused(why) => refusal(why),
     }
 }
