@@ -1,15 +1,19 @@
 -- The answers' bytes (document 01, 'The plan, packed': 'An answer has 40 bits').
 use mathlib.Core.List.{List, [], _∷_, _++_}
 use Prim.Native.Nat.{ℕ, zero, suc, _+_, _*_, _/_, _%_, _^_}
-use Rattle.bits.specs.Field.{fieldOf}
+use lib.ListN.{getD}
+use Rattle.bits.specs.Fill.{bytesFor}
+use Rattle.bits.specs.Layout.{total, numbersAt}
 use Rattle.register.specs.Plan.{Plan, Read, stamped, valueOf, numberOf}
 use Rattle.register.specs.Reading.{Answer, answerOf}
 use Rattle.plan.specs.Packed.{planOf}
-use Rattle.bits.specs.Fill.{bytesFor}
 
 -- 'begin 7, screen 3, cue 16, number 8, count 5, one zero bit'
+abbrev pub answerWidths : ℕ → List ℕ
+answerWidths w = 7 ∷ 3 ∷ w ∷ 8 ∷ 5 ∷ 1 ∷ []
+
 abbrev pub answerBits : ℕ → ℕ
-answerBits w = 24 + w
+answerBits w = total (answerWidths w)
 
 -- 5 in form one
 abbrev pub answerSize : ℕ → ℕ
@@ -41,17 +45,18 @@ module _ (w : ℕ) (a : List ℕ) (i : ℕ) where
   abbrev pub answerAt : ℕ
   answerAt = 8 * answerSize w * i
 
+  -- in packed order
+  abbrev pub answerNumbers : List ℕ
+  answerNumbers = numbersAt (answerWidths w) a answerAt
+
   unfoldable pub beginIn : ℕ
-  beginIn = fieldOf a answerAt 7
+  beginIn = getD answerNumbers 0 0
 
   unfoldable pub readerIn : ℕ
-  readerIn = fieldOf a (answerAt + 7) 3
+  readerIn = getD answerNumbers 1 0
 
   unfoldable pub pairIn : ℕ
-  pairIn = stamped w (fieldOf a (answerAt + 10) w) (fieldOf a (answerAt + 10 + w) 8)
-
-  unfoldable pub countIn : ℕ
-  countIn = fieldOf a (answerAt + 18 + w) 5
+  pairIn = stamped w (getD answerNumbers 2 0) (getD answerNumbers 3 0)
 
   unfoldable pub zeroIn : ℕ
-  zeroIn = fieldOf a (answerAt + 23 + w) 1
+  zeroIn = getD answerNumbers 5 0

@@ -2,9 +2,9 @@
 ghost use mathlib.Core.Path.{_≡_};
 ghost use mathlib.Core.List.{_++_};
 ghost use Prim.Native.Nat.{_+_, _*_, _^_, _≤_, _<_};
-ghost use lib.ListN.{length, drop};
+ghost use lib.ListN.{length, getD, drop};
 ghost use Rattle.register.specs.Plan.{stamped};
-ghost use Rattle.answers.specs.Answers.{answerSize, answerBytes};
+ghost use Rattle.answers.specs.Answers.{answerWidths, answerSize, answerNumbers, answerBytes};
 ghost use Rattle.answers.specs.Workspace.{workspaceSize, zeroed};
 use plan::header::Shape;
 
@@ -15,6 +15,29 @@ pub struct Choice {
     pub found: bool,
     pub number: u8,
     pub count: u32,
+}
+
+// The fields of an answer in packed order, and each one's number among them.
+pub const WIDTHS: [u8; 6] = [7, 3, Shape::VALUE_BITS as u8, 8, 5, 1];
+
+pub const BEGIN: usize = 0;
+
+pub const READER: usize = 1;
+
+pub const VALUE: usize = 2;
+
+pub const NUMBER: usize = 3;
+
+pub const COUNT: usize = 4;
+
+pub const ZERO: usize = 5;
+
+// A field of answer i.
+pub fn field(answers: &[u8], i: usize, number: usize) -> u32
+    requires { ⌜ (answerSize 16 * i + answerSize 16 ≤ length (now answers)) × (i < 2 ^ 50) ⌝ }
+    ensures { λ r. ⌜ (r ≡ getD (answerNumbers 16 (now (answers .entry)) i) number 0) × (r < 2 ^ getD (answerWidths 16) number 0) ⌝ }
+{
+    records::field(answers, Shape::ANSWER_BITS * i, &WIDTHS, number)
 }
 
 // The bits of an answer, as one number.

@@ -38,9 +38,8 @@ fn all_allowed(
 {
     let mut i: usize = 0;
     while i < count {
-        let at = Shape::ANSWER_BITS * i + 10;
-        let value = bits::field(answers, at, 16) as u32;
-        let number = bits::field(answers, at + 16, 8) as u8;
+        let value = answers::field(answers, i, answers::VALUE);
+        let number = answers::field(answers, i, answers::NUMBER) as u8;
         if !is_allowed(values, begun, m, delta, reads[i], value, number) {
             return false;
         }
@@ -54,14 +53,13 @@ fn is_fitting(answers: &[u8], i: usize, begun: u8, reader: u8) -> bool
     requires { ⌜ (answerSize 16 * i + answerSize 16 ≤ length (now answers)) × (i < 256) ⌝ }
     ensures { λ r. ⌜ r ≡ fitsRead (now (answers .entry)) i begun reader ⌝ }
 {
-    let at = Shape::ANSWER_BITS * i;
-    if bits::field(answers, at, 7) != begun as u64 {
+    if answers::field(answers, i, answers::BEGIN) != begun as u32 {
         return false;
     }
-    if bits::field(answers, at + 7, 3) != reader as u64 {
+    if answers::field(answers, i, answers::READER) != reader as u32 {
         return false;
     }
-    bits::field(answers, at + 39, 1) == 0
+    answers::field(answers, i, answers::ZERO) == 0
 }
 
 // The same of all answers. Both tables are fields of one struct, so they share a lifetime.

@@ -6,14 +6,14 @@ use mathlib.Core.List.{List, [], _∷_, _++_, append-assoc, append-nil}
 use Prim.Native.Nat.{ℕ, zero, suc, _*_, _/_, _≤_, _<_}
 use native.Mathlib.{Nat.le-refl, Omega.arith}
 use lib.Dec.{ltb}
-use lib.ListN.{length, take}
+use lib.ListN.{length, getD, take}
 use lib.Seq.{take-suc, take-all}
 use borrow.Author.Tests.{lt-ltb}
 use Rattle.bits.proofs.Laws.{field-lt}
 use Rattle.register.specs as register-specs
 use Rattle.plan.specs as plan-specs
 use Rattle.plan.proofs as plan-laws
-use Rattle.answers.specs.Answers.{answerSize, answerAt, beginIn, answersFor, answersOf}
+use Rattle.answers.specs.Answers.{answerSize, answerAt, answersFor, answersOf}
 use Rattle.answers.proofs.Lengths.{answers-length}
 use Rattle.simulator.specs.Judge.{readOf}
 use Rattle.simulator.proofs as simulator-laws
@@ -25,9 +25,12 @@ use Rattle.lines.specs.{Text.lineOf, Text.linesFor, Lines.answerIn, Line
 abbrev fieldsOf : register-specs.Plan.Read → register-specs.Reading.Answer → Fields
 fieldsOf r a = record { begin = r .begun; reader = r .reader; value = register-specs.Plan.valueOf 16 (a .pair); number = register-specs.Plan.numberOf 16 (a .pair); count = a .count }
 
+abbrev fieldsIn : List ℕ → Fields
+fieldsIn x = record { begin = getD x 0 0; reader = getD x 1 0; value = getD x 2 0; number = getD x 3 0; count = getD x 4 0 }
+
 -- the begin of an answer, whatever the bytes
 pub begin-low : (a : List ℕ) (i : ℕ) → answerIn a i .begin < 128
-unfolding answerIn answerField answerFields beginIn
+unfolding answerIn answerField answerFields
 begin-low a i = go (ltb i (length a / answerSize 16)) (field-lt a (answerAt 16 a i) 7)
   where
     go : (t : Bool) {x : ℕ} → x < 128 → cond t x 0 < 128
@@ -59,13 +62,7 @@ module _ (s : List ℕ) (m : ℕ) (e : plan-specs.Check.checkOf 16 s ≡ plan-sp
       let n = inside i l in
       let F = answer-fits (readOf P i) (plan-laws.Tests.getD-in (P .reads) i none n) in
       let whole : i < length (answersFor 16 P (P .reads)) / answerSize 16 = omega (arith, answers-length 16 P (P .reads)) in
-      rw (
-        lt-ltb _ _ whole,
-        simulator-laws.AnswerBytes.begin-of 16 P refl (P .reads) none i n F,
-        simulator-laws.AnswerBytes.reader-of 16 P refl (P .reads) none i n F,
-        simulator-laws.AnswerBytes.pair-of 16 P refl (P .reads) none i n F,
-        simulator-laws.AnswerBytes.count-of 16 P refl (P .reads) none i n F,
-      )
+      rw (lt-ltb _ _ whole) (ap fieldsIn (simulator-laws.AnswerBytes.numbers-of 16 P refl (P .reads) none i n F))
 
   line-is : (i : ℕ) → i < m → lineFor (2 * P .delta) (answerIn (answersOf 16 s) i) ≡ lineOf 16 P (readOf P i)
   unfolding lineFor lineOf

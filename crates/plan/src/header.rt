@@ -57,7 +57,7 @@ impl Shape {
 
     pub const ANSWER_BITS: usize = 40;
 
-    pub const ANSWER_BYTES: usize = 5;
+    pub const ANSWER_BYTES: usize = Self::ANSWER_BITS / 8;
 
     pub const WORKSPACE_BYTES: usize = 60000;
 

@@ -1,6 +1,6 @@
 -- The answers' bytes read back what was packed, for every width of whole bytes; and how many bytes they are.
 -- It stands on the laws of bytes in a row and of stamped values.
-use mathlib.Core.Path.{_≡_, refl, _∙_}
+use mathlib.Core.Path.{_≡_, refl, ap, _∙_}
 use mathlib.Core.List.{List, [], _∷_}
 use Prim.Native.Nat.{ℕ, _+_, _*_, _%_, _^_, _≤_, _<_}
 use native.Mathlib.Nat.{mod-eq-of-lt}
@@ -8,13 +8,14 @@ use native.Mathlib.Omega.{arith}
 use lib.Dec.{lit<}
 use lib.ListN.{length, getD}
 use Rattle.bits.specs.Field.{fieldOf}
-use Rattle.register.specs.Plan.{Plan, Read, valueOf, numberOf}
+use Rattle.bits.specs.Layout.{numbersAt}
+use Rattle.register.specs.Plan.{Plan, Read, stamped, valueOf, numberOf}
 use Rattle.register.specs.Reading.{Answer, answerOf}
 use Rattle.plan.specs.Packed.{planOf}
 use Rattle.register.proofs.Stamped.{stamped-back, value-below}
-use Rattle.answers.specs.Answers.{answerSize, packed, answerBytes, answersFor, answersOf, answerAt, beginIn, readerIn, pairIn, countIn, zeroIn}
+use Rattle.answers.specs.Answers.{answerWidths, answerSize, packed, answerBytes, answersFor, answersOf, answerNumbers, beginIn, readerIn, pairIn, zeroIn}
 use Rattle.answers.proofs.Lengths.{answer-length, answers-length}
-use Rattle.simulator.proofs.Bytes.{field-high, field-low, parts-lt, field-bytes, joined, field-joined}
+use Rattle.simulator.proofs.Bytes.{field-high, field-low, parts-lt, field-bytes, joined, numbers-joined}
 
 -- an answer whose parts fit their fields
 pub record FieldsFit (w : ℕ) (r : Read) (a : Answer) : Type 0 where
@@ -23,14 +24,9 @@ pub record FieldsFit (w : ℕ) (r : Read) (a : Answer) : Type 0 where
   pub number-fits : numberOf w (a .pair) < 256
   pub count-fits : a .count < 32
 
--- what the fields of an answer's bytes are
-pub record ReadsBack (w : ℕ) (b : List ℕ) (r : Read) (a : Answer) : Type 0 where
-  pub begun-back : fieldOf b 0 7 ≡ r .begun
-  pub reader-back : fieldOf b 7 3 ≡ r .reader
-  pub value-back : fieldOf b 10 w ≡ valueOf w (a .pair)
-  pub number-back : fieldOf b (10 + w) 8 ≡ numberOf w (a .pair)
-  pub count-back : fieldOf b (18 + w) 5 ≡ a .count
-  pub zero-back : fieldOf b (23 + w) 1 ≡ 0
+-- the fields of an answer, in packed order
+abbrev pub numbersFor : ℕ → Read → Answer → List ℕ
+numbersFor w r a = r .begun ∷ r .reader ∷ valueOf w (a .pair) ∷ numberOf w (a .pair) ∷ a .count ∷ 0 ∷ []
 
 -- a field of the same bit, written otherwise
 same-bit : (b : List ℕ) (v z x y : ℕ) → x ≡ y → fieldOf b x v ≡ z → fieldOf b y v ≡ z
@@ -69,7 +65,7 @@ module _ (w : ℕ) (r : Read) (a : Answer) where
       let e : 8 * answerSize w ≡ 10 + w + 8 + 5 + 1 = omega arith in
       (rw e at (field-bytes (answerSize w) (packed w r a))) ∙ rw packed-parts (mod-eq-of-lt (packed-lt F))
 
-  pub reads-back : w % 8 ≡ 0 → FieldsFit w r a → ReadsBack w (answerBytes w r a) r a
+  pub reads-back : w % 8 ≡ 0 → FieldsFit w r a → numbersAt (answerWidths w) (answerBytes w r a) 0 ≡ numbersFor w r a
   unfolding begin-reader with-value with-number with-count
   reads-back h F =
       let b = answerBytes w r a in
@@ -78,14 +74,14 @@ module _ (w : ℕ) (r : Read) (a : Answer) where
       let four = field-high b 0 (10 + w + 8) 5 with-number (a .count) five (F .count-fits) in
       let three = field-high b 0 (10 + w) 8 with-value (numberOf w (a .pair)) four (F .number-fits) in
       let two = field-high b 0 10 w begin-reader (valueOf w (a .pair)) three (value-below w (a .pair)) in
-      record {
-        begun-back = field-high b 0 7 3 (r .begun) (r .reader) two (F .reader-fits);
-        reader-back = field-low b 0 7 3 (r .begun) (r .reader) two (F .reader-fits);
-        value-back = field-low b 0 10 w begin-reader (valueOf w (a .pair)) three (value-below w (a .pair));
-        number-back = same-bit b 8 _ _ _ (omega arith) (field-low b 0 (10 + w) 8 with-value (numberOf w (a .pair)) four (F .number-fits));
-        count-back = same-bit b 5 _ _ _ (omega arith) (field-low b 0 (10 + w + 8) 5 with-number (a .count) five (F .count-fits));
-        zero-back = same-bit b 1 _ _ _ (omega arith) (field-low b 0 (10 + w + 8 + 5) 1 with-count 0 all (lit< tt));
-      }
+      rw (
+        field-high b 0 7 3 (r .begun) (r .reader) two (F .reader-fits),
+        field-low b 0 7 3 (r .begun) (r .reader) two (F .reader-fits),
+        field-low b 0 10 w begin-reader (valueOf w (a .pair)) three (value-below w (a .pair)),
+        same-bit b 8 _ _ (10 + w) (omega arith) (field-low b 0 (10 + w) 8 with-value (numberOf w (a .pair)) four (F .number-fits)),
+        same-bit b 5 _ _ (10 + w + 8) (omega arith) (field-low b 0 (10 + w + 8) 5 with-number (a .count) five (F .count-fits)),
+        same-bit b 1 _ _ (10 + w + 8 + 5) (omega arith) (field-low b 0 (10 + w + 8 + 5) 1 with-count 0 all (lit< tt)),
+      )
 
 -- All answers, one after the other.
 module _ (w : ℕ) (P : Plan) where
@@ -103,38 +99,29 @@ module _ (w : ℕ) (P : Plan) where
 
   -- the fields of answer i are those of its read
   module _ (whole : w % 8 ≡ 0) (rs : List Read) (d : Read) (i : ℕ) (l : i < length rs) (F : FieldsFit w (getD rs i d) (answerOf P (getD rs i d))) where
-    back : ReadsBack w (answerBytes w (getD rs i d) (answerOf P (getD rs i d))) (getD rs i d) (answerOf P (getD rs i d))
-    back = reads-back w (getD rs i d) (answerOf P (getD rs i d)) whole F
-
-    field-answer : (at v : ℕ) → at + v ≤ 24 + w
-        → fieldOf (answersFor w P rs) (8 * answerSize w * i + at) v ≡ fieldOf (answerBytes w (getD rs i d) (answerOf P (getD rs i d))) at v
+    pub numbers-of : answerNumbers w (answersFor w P rs) i ≡ numbersFor w (getD rs i d) (answerOf P (getD rs i d))
     unfolding bytes-of
-    field-answer at v h =
-        rw answers-joined (field-joined bytes-of (answerSize w) bytes-even rs i d at v l (omega arith))
+    numbers-of =
+        let e : 8 * answerSize w * i + 0 ≡ 8 * answerSize w * i = omega arith in
+        ap (λ (b : List ℕ). answerNumbers w b i) (answers-joined rs)
+        ∙ (rw e at (numbers-joined bytes-of (answerSize w) bytes-even (answerWidths w) rs i d 0 l (omega arith)))
+        ∙ reads-back w (getD rs i d) (answerOf P (getD rs i d)) whole F
 
     pub begin-of : beginIn w (answersFor w P rs) i ≡ getD rs i d .begun
     unfolding beginIn
-    begin-of = same-bit (answersFor w P rs) 7 _ _ _ (omega arith) (field-answer 0 7 (omega arith) ∙ back .begun-back)
+    begin-of = ap (λ (x : List ℕ). getD x 0 0) numbers-of
 
     pub reader-of : readerIn w (answersFor w P rs) i ≡ getD rs i d .reader
     unfolding readerIn
-    reader-of = field-answer 7 3 (omega arith) ∙ back .reader-back
+    reader-of = ap (λ (x : List ℕ). getD x 1 0) numbers-of
 
     pub pair-of : pairIn w (answersFor w P rs) i ≡ answerOf P (getD rs i d) .pair
     unfolding pairIn
-    pair-of =
-        let value = field-answer 10 w (omega arith) ∙ back .value-back in
-        let a : List ℕ = answersFor w P rs in
-        let number = same-bit a 8 _ _ (answerAt w a i + 10 + w) (omega arith) (field-answer (10 + w) 8 (omega arith) ∙ back .number-back) in
-        rw (value, number) (stamped-back w (answerOf P (getD rs i d) .pair))
-
-    pub count-of : countIn w (answersFor w P rs) i ≡ answerOf P (getD rs i d) .count
-    unfolding countIn
-    count-of = same-bit (answersFor w P rs) 5 _ _ _ (omega arith) (field-answer (18 + w) 5 (omega arith) ∙ back .count-back)
+    pair-of = ap (λ (x : List ℕ). stamped w (getD x 2 0) (getD x 3 0)) numbers-of ∙ stamped-back w (answerOf P (getD rs i d) .pair)
 
     pub zero-of : zeroIn w (answersFor w P rs) i ≡ 0
     unfolding zeroIn
-    zero-of = same-bit (answersFor w P rs) 1 _ _ _ (omega arith) (field-answer (23 + w) 1 (omega arith) ∙ back .zero-back)
+    zero-of = ap (λ (x : List ℕ). getD x 5 0) numbers-of
 
 -- 5 bytes for each read in form one
 pub answersOf-length : (w : ℕ) (s : List ℕ) → length (answersOf w s) ≡ answerSize w * length (planOf w s .reads)

@@ -1,9 +1,9 @@
 -- Fields of pieces in a row, of a number written as bytes, and of a number packed from parts; each for every width.
 -- It stands on the laws of bit fields.
-use mathlib.Core.Path.{_≡_, sym, ap, _∙_}
+use mathlib.Core.Path.{_≡_, refl, sym, ap, _∙_}
 use mathlib.Core.List.{List, [], _∷_, _++_}
 use Prim.Native.Nat.{ℕ, zero, suc, _+_, _*_, _/_, _%_, _^_, _≤_, _<_}
-use native.Mathlib.Nat.{mod-lt, mod-one, pow-zero, zero-add}
+use native.Mathlib.Nat.{mod-lt, mod-one, pow-zero, zero-add, add-assoc}
 use native.Mathlib.Omega.{arith}
 use lib.Dec.{lit<}
 use lib.ListN.{length, getD}
@@ -11,6 +11,7 @@ use lib.Seq.{getD-at}
 use lib.Arith.{digits-lt}
 use lib.Pow.{high, low, mod-pow-add, pow-add}
 use Rattle.bits.specs.Field.{fieldOf}
+use Rattle.bits.specs.Layout.{total, numbersAt}
 use Rattle.bits.proofs.Laws.{field-zero, field-lt, field-split, bytes-more}
 use Rattle.bits.proofs.Joined.{field-left, field-right}
 use Rattle.answers.specs.Answers.{bytesOf}
@@ -53,7 +54,7 @@ module _ {A : Type 0} where
 
   module _ (g : A → List ℕ) (n : ℕ) (even : (x : A) → length (g x) ≡ n) where
     -- a field of the i-th piece
-    pub field-joined : (xs : List A) (i : ℕ) (d : A) (at w : ℕ) → i < length xs → at + w ≤ 8 * n
+    field-joined : (xs : List A) (i : ℕ) (d : A) (at w : ℕ) → i < length xs → at + w ≤ 8 * n
         → fieldOf (joined g xs) (8 * n * i + at) w ≡ fieldOf (g (getD xs i d)) at w
     unfolding joined
     field-joined [] i d at w l h = absurd (omega arith)
@@ -63,3 +64,10 @@ module _ {A : Type 0} where
     field-joined (x ∷ xs) (suc i) d at w l h =
         let e : 8 * n * suc i + at ≡ 8 * length (g x) + (8 * n * i + at) = omega (arith, even x) in
         rw (e, field-right) (field-joined xs i d at w (omega arith) h)
+
+    -- a record of the i-th piece
+    pub numbers-joined : (ws : List ℕ) (xs : List A) (i : ℕ) (d : A) (at : ℕ) → i < length xs → at + total ws ≤ 8 * n
+        → numbersAt ws (joined g xs) (8 * n * i + at) ≡ numbersAt ws (g (getD xs i d)) at
+    numbers-joined [] xs i d at l h = refl
+    numbers-joined (v ∷ vs) xs i d at l h =
+        rw (field-joined xs i d at v l (omega arith), add-assoc (8 * n * i) at v, numbers-joined vs xs i d (at + v) l (omega arith))

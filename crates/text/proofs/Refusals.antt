@@ -7,6 +7,7 @@ use Prim.Native.Nat.{ℕ, _≤_}
 use native.Mathlib.Omega.{arith}
 use lib.Dec.{lit≤, leb, eqb}
 use lib.ListN.{length}
+use Rattle.bits.specs.Fill.{bytesFor}
 use Rattle.plan.specs.Header.{headerOf, bitLength}
 use Rattle.plan.specs.Check
 use Rattle.plan.proofs.Chain.{from1, from2, from3, from4, from5, from6, from7, from8, from9}
@@ -21,7 +22,7 @@ refusal-low s n e =
     low (leb 8 (length s)) 1 (from2 s) n (lit≤ tt)
     (low (Check.headerInRange h) 2 (from3 s) n (lit≤ tt)
     (low (Check.enoughServers h) 3 (from4 s) n (lit≤ tt)
-    (low (eqb (length s) (Check.bytesFor (bitLength 16 h))) 4 (from5 s) n (lit≤ tt)
+    (low (eqb (length s) (bytesFor (bitLength 16 h))) 4 (from5 s) n (lit≤ tt)
     (low (Check.placementsStand 16 s h) 5 (from6 s) n (lit≤ tt)
     (low (Check.operationsStand 16 s h) 6 (from7 s) n (lit≤ tt)
     (low (Check.forgeriesStand 16 s h) 7 (from8 s) n (lit≤ tt)

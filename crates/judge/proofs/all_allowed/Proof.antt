@@ -52,20 +52,8 @@ tested c P W d b =
 loop-holds : tie.Need-loop-holds Inv-loop μ-loop
 loop-holds c = (search needs, λ P W d b. all-none (allowedAt P (now (c .before .args .answers))))
 
-mul-at : tie.Need-mul-at Inv-loop μ-loop
-mul-at c = search needs
-
-add-at : tie.Need-add-at Inv-loop μ-loop
-add-at c = search needs
-
 field-requires : tie.Need-field-requires Inv-loop μ-loop
 field-requires c κs = search needs
-
-cast-value : tie.Need-cast-value Inv-loop μ-loop
-cast-value c = search needs
-
-add-field : tie.Need-add-field Inv-loop μ-loop
-add-field c = search needs
 
 field-requires-2 : tie.Need-field-requires-2 Inv-loop μ-loop
 field-requires-2 c κs = search needs
@@ -110,11 +98,7 @@ all-allowed-spec =
     Inv-loop
     μ-loop
     loop-holds
-    mul-at
-    add-at
     field-requires
-    cast-value
-    add-field
     field-requires-2
     cast-number
     element-copy-out-is-allowed

@@ -24,18 +24,18 @@ shared-slice-read-width c = search needs
 cast-width : tie.Need-cast-width Inv-loop μ-loop
 cast-width c =
     let l = c .before .before .loop in
-    omega (arith, next-narrow (l .inv) (omega arith))
+    omega (arith, next-narrow (l .inv .left) (omega arith))
 
 field-requires : tie.Need-field-requires Inv-loop μ-loop
 field-requires c κs =
     let l = c .before .before .loop in
-    let n = next-narrow (l .inv) (omega arith) in
-    omega (arith, next-inside (l .inv) (omega arith))
+    let n = next-narrow (l .inv .left) (omega arith) in
+    omega (arith, next-inside (l .inv .left) (omega arith))
 
 cast-out : tie.Need-cast-out Inv-loop μ-loop
 cast-out c =
     let l = c .before .before .before .loop in
-    let n = next-narrow (l .inv) (omega arith) in
+    let n = next-narrow (l .inv .left) (omega arith) in
     omega (arith, pow-mono n)
 
 mul-out : tie.Need-mul-out Inv-loop μ-loop
@@ -47,7 +47,7 @@ slice-write-out c = search needs
 add-from : tie.Need-add-from Inv-loop μ-loop
 add-from c =
     let l = c .before .before .before .loop in
-    omega (arith, next-inside (l .inv) (omega arith))
+    omega (arith, next-inside (l .inv .left) (omega arith))
 
 add-i : tie.Need-add-i Inv-loop μ-loop
 add-i c = search needs

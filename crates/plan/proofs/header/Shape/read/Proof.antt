@@ -18,7 +18,7 @@ slice-aggregate-read-2 c = search needs
 
 read-requires : tie.Need-read-requires
 unfolding noWider
-read-requires c κs = record { inside = omega arith; near = omega arith; narrow = tt; places = refl }
+read-requires c κs = (record { inside = omega arith; near = omega arith; narrow = tt }, refl)
 
 slice-aggregate-of : tie.Need-slice-aggregate-of
 slice-aggregate-of c = search needs
