@@ -1,26 +1,19 @@
--- The five bytes of an answer as they are stored, and the zeroed workspace.
--- It stands on the definitions alone.
-use mathlib.Core.Path.{_≡_, _∙_, subst}
+-- An answer as it is written, and the zeroed workspace.
+-- It stands on the laws of the writer and of stamped values.
+use mathlib.Core.Path.{_≡_, refl, subst}
 use mathlib.Core.List.{List, [], _∷_, _++_}
 use Prim.Native.Nat.{ℕ, _+_, _*_, _/_, _%_, _≤_, _<_}
-use native.Mathlib.Nat.{div-div-eq-div-mul}
 use native.Mathlib.Omega.{arith}
-use lib.ListN.{length, set, drop, replicate}
-use lib.Seq.{sets-eq}
+use lib.ListN.{length, drop, replicate}
+use Rattle.bits.specs.Field.{Bytes}
+use Rattle.bits.specs.Layout.{packedBits}
+use Rattle.bits.specs.Writing.{Wrote}
+use Rattle.bits.proofs.Packing.{packed-small, packed-length}
+use Rattle.bits.proofs.Started.{wrote-start}
 use Rattle.register.specs.Plan.{Read, stamped, valueOf, numberOf}
 use Rattle.register.specs.Reading.{Answer}
-use Rattle.answers.specs.Answers.{bytesOf, packed, answerBytes}
+use Rattle.answers.specs.Answers.{answerWidths, answerSize, answerWith, answerBytes}
 use Rattle.answers.specs.Workspace.{workspaceSize, zeroed}
-
-bytes-five : (v : ℕ) → bytesOf 5 v ≡ v / 4294967296 % 256 ∷ v / 16777216 % 256 ∷ v / 65536 % 256 ∷ v / 256 % 256 ∷ v % 256 ∷ []
-unfolding bytesOf
-bytes-five v = simp div-div-eq-div-mul
-
-stored-five : (l : List ℕ) (v : ℕ) → 5 ≤ length l
-    → set (set (set (set (set l 0 (v / 4294967296 % 256)) 1 (v / 16777216 % 256)) 2 (v / 65536 % 256)) 3 (v / 256 % 256)) 4 (v % 256)
-    ≡ bytesOf 5 v ++ drop 5 l
-stored-five l v h =
-    rw bytes-five (sets-eq (v / 4294967296 % 256 ∷ v / 16777216 % 256 ∷ v / 65536 % 256 ∷ v / 256 % 256 ∷ v % 256 ∷ []) l 0 h)
 
 module _ (begun reader value number count : ℕ) (small : value < 65536) where
   abbrev read : Read
@@ -29,18 +22,19 @@ module _ (begun reader value number count : ℕ) (small : value < 65536) where
   abbrev answer : Answer
   answer = record { pair = stamped 16 value number; count = count }
 
-  packed-is : packed 16 read answer ≡ ((((begun * 8 + reader) * 65536 + value) * 256 + number) * 32 + count) * 2
-  unfolding packed valueOf numberOf stamped
-  packed-is =
+  numbers-are : answerWith 16 read answer ≡ begun ∷ reader ∷ value ∷ number ∷ count ∷ 0 ∷ []
+  unfolding valueOf numberOf stamped
+  numbers-are =
       let v : (number * 65536 + value) % 65536 ≡ value = omega arith in
       let n : (number * 65536 + value) / 65536 ≡ number = omega arith in
       rw (v, n)
 
-  pub stored : (l : List ℕ) (v : ℕ) → 5 ≤ length l → v ≡ ((((begun * 8 + reader) * 65536 + value) * 256 + number) * 32 + count) * 2
-      → set (set (set (set (set l 0 (v / 4294967296 % 256)) 1 (v / 16777216 % 256)) 2 (v / 65536 % 256)) 3 (v / 256 % 256)) 4 (v % 256)
-      ≡ answerBytes 16 read answer ++ drop 5 l
+  pub stored : (a b : List ℕ) → Wrote a b 0 (packedBits (answerWidths 16) (begun ∷ reader ∷ value ∷ number ∷ count ∷ 0 ∷ [])) → Bytes a → Bytes b → answerSize 16 ≤ length a
+      → b ≡ answerBytes 16 read answer ++ drop (answerSize 16) a
   unfolding answerBytes
-  stored l v h e = stored-five l v h ∙ rw (e, packed-is)
+  stored a b W f g room =
+      let xs : List ℕ = begun ∷ reader ∷ value ∷ number ∷ count ∷ 0 ∷ [] in
+      rw numbers-are (wrote-start a b (packedBits (answerWidths 16) xs) 5 W (packed-small (answerWidths 16) xs) f g (packed-length (answerWidths 16) xs refl) room)
 
 -- a workspace whose first bytes are zero, once there are enough of them
 pub zeroed-at : (n : ℕ) (l w : List ℕ) → n ≡ workspaceSize → w ≡ replicate n 0 ++ drop n l → w ≡ zeroed l

@@ -1,9 +1,9 @@
 -- The answers' bytes (document 01, 'The plan, packed': 'An answer has 40 bits').
 use mathlib.Core.List.{List, [], _∷_, _++_}
-use Prim.Native.Nat.{ℕ, zero, suc, _+_, _*_, _/_, _%_, _^_}
+use Prim.Native.Nat.{ℕ, _*_}
 use lib.ListN.{getD}
 use Rattle.bits.specs.Fill.{bytesFor}
-use Rattle.bits.specs.Layout.{total, numbersAt}
+use Rattle.bits.specs.Layout.{total, numbersAt, packedBits, inBytes}
 use Rattle.register.specs.Plan.{Plan, Read, stamped, valueOf, numberOf}
 use Rattle.register.specs.Reading.{Answer, answerOf}
 use Rattle.plan.specs.Packed.{planOf}
@@ -19,17 +19,12 @@ answerBits w = total (answerWidths w)
 abbrev pub answerSize : ℕ → ℕ
 answerSize w = bytesFor (answerBits w)
 
--- a number as n bytes, the highest first
-unfoldable pub bytesOf : ℕ → ℕ → List ℕ
-bytesOf zero x = []
-bytesOf (suc n) x = bytesOf n (x / 256) ++ (x % 256 ∷ [])
-
--- the answer of a read, as one number
-unfoldable pub packed : ℕ → Read → Answer → ℕ
-packed w r a = ((((r .begun * 2 ^ 3 + r .reader) * 2 ^ w + valueOf w (a .pair)) * 2 ^ 8 + numberOf w (a .pair)) * 2 ^ 5 + a .count) * 2
+-- the answer of a read: its numbers in packed order, and its bytes
+abbrev pub answerWith : ℕ → Read → Answer → List ℕ
+answerWith w r a = r .begun ∷ r .reader ∷ valueOf w (a .pair) ∷ numberOf w (a .pair) ∷ a .count ∷ 0 ∷ []
 
 unfoldable pub answerBytes : ℕ → Read → Answer → List ℕ
-answerBytes w r a = bytesOf (answerSize w) (packed w r a)
+answerBytes w r a = inBytes (packedBits (answerWidths w) (answerWith w r a))
 
 -- 'Answers stand in order of begin, then screen; each answer is written at its own five bytes.' Operations stand in that order.
 unfoldable pub answersFor : ℕ → Plan → List Read → List ℕ

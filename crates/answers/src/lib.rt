@@ -40,26 +40,14 @@ pub fn field(answers: &[u8], i: usize, number: usize) -> u32
     records::field(answers, Shape::ANSWER_BITS * i, &WIDTHS, number)
 }
 
-// The bits of an answer, as one number.
-fn packed(begun: u8, reader: u8, value: u32, number: u8, count: u32) -> u64
-    ensures { λ r. ⌜ r ≡ ((((begun * 8 + reader) * 65536 + value) * 256 + number) * 32 + count) * 2 ⌝ }
-{
-    let read = (begun as u64) * 8 + reader as u64;
-    (((read * 65536 + value as u64) * 256 + number as u64) * 32 + count as u64) * 2
-}
-
 // Writes the answer of a read at the start of its part of the answer buffer, which is the part from ANSWER_BYTES times the read's index.
 pub fn write(out: &mut [u8], begun: u8, reader: u8, value: u32, number: u8, count: u32)
     requires { ⌜ (answerSize 16 ≤ length (now out)) × (value < 2 ^ 16) ⌝ }
     ensures { λ _. ⌜ now (out .exit) ≡ answerBytes 16 (record { begun = begun; reader = reader })
         (record { pair = stamped 16 value number; count = count }) ++ drop (answerSize 16) (now (out .entry)) ⌝ }
 {
-    let v = packed(begun, reader, value, number, count);
-    out[0] = (v / 4294967296 % 256) as u8;
-    out[1] = (v / 16777216 % 256) as u8;
-    out[2] = (v / 65536 % 256) as u8;
-    out[3] = (v / 256 % 256) as u8;
-    out[4] = (v % 256) as u8;
+    let numbers = [begun as u32, reader as u32, value, number as u32, count, 0];
+    packing::put_fields(out, 0, &WIDTHS, &numbers);
 }
 
 // Zeroes as much of the workspace as Play and Look may use.

@@ -8,6 +8,7 @@ use native.Mathlib.Omega.{arith}
 use lib.ListN.{length, take, drop, length-append}
 use lib.Seq.{take-at, drop-append-add}
 use Rattle.bits.specs.Layout.{total, records, numbersAt, fits, packedBits}
+use Rattle.bits.proofs.Numbers.{numbers-length}
 
 pub total-append : (a b : List ℕ) → total (a ++ b) ≡ total a + total b
 total-append [] b = omega arith
@@ -33,10 +34,6 @@ module _ (vs : List ℕ) where
   unfolding records
   length-records zero = omega arith
   length-records (suc m) = rw (length-append, length-records m) (omega arith)
-
-pub numbers-length : (vs s : List ℕ) (at : ℕ) → length (numbersAt vs s at) ≡ length vs
-numbers-length [] s at = refl
-numbers-length (v ∷ vs) s at = rw (numbers-length vs s (at + v))
 
 pub numbers-append : (a b s : List ℕ) (at : ℕ) → numbersAt (a ++ b) s at ≡ numbersAt a s at ++ numbersAt b s (at + total a)
 numbers-append [] b s at = rw add-zero

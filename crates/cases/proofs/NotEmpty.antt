@@ -89,11 +89,11 @@ six-facts = refl
 -- The theorem for each, and Judge's yes to what Play writes of it.
 pub four-point : PointThree 16 four-periods
 unfolding factsOf
-four-point = pointThree 16 refl four-periods 2 (ap (λ (x : Facts). x .outcome) four-facts)
+four-point = pointThree 16 four-periods 2 (ap (λ (x : Facts). x .outcome) four-facts)
 
 pub six-point : PointThree 16 six-periods
 unfolding factsOf
-six-point = pointThree 16 refl six-periods 1 (ap (λ (x : Facts). x .outcome) six-facts)
+six-point = pointThree 16 six-periods 1 (ap (λ (x : Facts). x .outcome) six-facts)
 
 pub four-judged : (answers workspace : List ℕ) → 10 ≤ length answers → 60000 ≤ length workspace
     → judgeOf 16 four-periods (take 10 (playOf 16 four-periods answers workspace .answers)) ≡ result true

@@ -54,7 +54,7 @@ module _ (s : List ℕ) (m : ℕ) (e : plan-specs.Check.checkOf 16 s ≡ plan-sp
 
   -- every answer fits its fields
   pub answer-fits : (r : register-specs.Plan.Read) → register-specs.Lists.In r (P .reads) → simulator-laws.AnswerBytes.FieldsFit 16 r (register-specs.Reading.answerOf P r)
-  answer-fits r i = simulator-laws.Judged.fits 16 s (plan-laws.Accept.accepted 16 s m e) r i (simulator-laws.PointThree.pointThree 16 refl s m e .served r i)
+  answer-fits r i = simulator-laws.Judged.fits 16 s (plan-laws.Accept.accepted 16 s m e) r i (simulator-laws.PointThree.pointThree 16 s m e .served r i)
 
   fields-are : (i : ℕ) → i < m → answerIn (answersOf 16 s) i ≡ fieldsOf (readOf P i) (register-specs.Reading.answerOf P (readOf P i))
   unfolding answerIn answerField answerFields answersOf
@@ -62,7 +62,7 @@ module _ (s : List ℕ) (m : ℕ) (e : plan-specs.Check.checkOf 16 s ≡ plan-sp
       let n = inside i l in
       let F = answer-fits (readOf P i) (plan-laws.Tests.getD-in (P .reads) i none n) in
       let whole : i < length (answersFor 16 P (P .reads)) / answerSize 16 = omega (arith, answers-length 16 P (P .reads)) in
-      rw (lt-ltb _ _ whole) (ap fieldsIn (simulator-laws.AnswerBytes.numbers-of 16 P refl (P .reads) none i n F))
+      rw (lt-ltb _ _ whole) (ap fieldsIn (simulator-laws.AnswerBytes.numbers-of 16 P (P .reads) none i n F))
 
   line-is : (i : ℕ) → i < m → lineFor (2 * P .delta) (answerIn (answersOf 16 s) i) ≡ lineOf 16 P (readOf P i)
   unfolding lineFor lineOf

@@ -13,7 +13,7 @@ use Rattle.bits.specs.Fill.{bytesFor}
 use Rattle.bits.specs.Layout.{fits}
 use Rattle.bits.specs.Writing.{Wrote}
 use Rattle.bits.proofs.Packing.{fits-at}
-use Rattle.bits.proofs.Fresh.{fresh}
+use Rattle.bits.proofs.Started.{fresh}
 use Rattle.plan.specs.Widths as widths
 use Rattle.plan.specs.Header.{Header, headerOf, bitLength, moves, delayCount}
 use Rattle.plan.specs.Limits.{impliedBytes}

@@ -1,2 +1,1 @@
 pub mod Underway
-pub mod Fits

@@ -68,7 +68,7 @@ module _ (w : ℕ) (s : List ℕ) (A : plan-laws.Accept.Accepted w s) where
       }
 
   -- Judge's yes to all answers, in three tests
-  module _ (whole : w % 8 ≡ 0) (served : (r : Read) → In r (planOf w s .reads) → register-specs.Promise.Served (planOf w s) r) where
+  module _ (served : (r : Read) → In r (planOf w s .reads) → register-specs.Promise.Served (planOf w s) r) where
     abbrev none : Read
     none = record { begun = 0; reader = 0 }
 
@@ -84,7 +84,7 @@ module _ (w : ℕ) (s : List ℕ) (A : plan-laws.Accept.Accepted w s) where
         let P : Plan = planOf w s in
         let r : Read = readOf P i in
         let F = read-fits i l in
-        rw (begin-of w P whole (P .reads) none i l F, reader-of w P whole (P .reads) none i l F, zero-of w P whole (P .reads) none i l F)
+        rw (begin-of w P (P .reads) none i l F, reader-of w P (P .reads) none i l F, zero-of w P (P .reads) none i l F)
         (register-laws.Logic.and-i (eqb (r .begun) (r .begun)) (eqb (r .reader) (r .reader) && eqb 0 0) (eqb-refl (r .begun))
         (register-laws.Logic.and-i (eqb (r .reader) (r .reader)) (eqb 0 0) (eqb-refl (r .reader)) tt))
 
@@ -92,7 +92,7 @@ module _ (w : ℕ) (s : List ℕ) (A : plan-laws.Accept.Accepted w s) where
     unfolding answerAllowed answersOf
     all-allowed i l =
         let P : Plan = planOf w s in
-        rw (pair-of w P whole (P .reads) none i l (read-fits i l), served (readOf P i) (read-in i l) .regular) tt
+        rw (pair-of w P (P .reads) none i l (read-fits i l), served (readOf P i) (read-in i l) .regular) tt
 
     pub judge-yes : judgeOf w s (answersOf w s) ≡ plan-specs.Check.result true
     unfolding judgeOf judgeAfter

@@ -1,8 +1,8 @@
--- Point 3, whole: every plan that Check accepts has it, at every width of whole bytes; and what request Four adds for the cue just set.
+-- Point 3, whole: every plan that Check accepts has it, at every width; and what request Four adds for the cue just set.
 -- It composes the register's theorems, what Check accepts and Judge's yes, and argues nothing else.
 use mathlib.Core.Path.{_≡_}
 use mathlib.Core.List.{List}
-use Prim.Native.Nat.{ℕ, _%_}
+use Prim.Native.Nat.{ℕ}
 use Rattle.register.specs.Lists.{In}
 use Rattle.register.specs.Plan.{Write, Read, writeEnd}
 use Rattle.register.specs.Promise.{Served, OwedJustSet}
@@ -16,11 +16,11 @@ use Rattle.simulator.specs.PointThree.{PointThree}
 use Rattle.simulator.proofs.Judged.{judge-yes}
 use Rattle.simulator.proofs.Played.{play-writes}
 
-pub pointThree : (w : ℕ) → w % 8 ≡ 0 → (s : List ℕ) (m : ℕ) → checkOf w s ≡ result m → PointThree w s
-pointThree w whole s m e =
+pub pointThree : (w : ℕ) (s : List ℕ) (m : ℕ) → checkOf w s ≡ result m → PointThree w s
+pointThree w s m e =
     let A : Accepted w s = accepted w s m e in
     let all : (r : Read) → In r (planOf w s .reads) → Served (planOf w s) r = λ r i. served (planOf w s) (good w s (A .playable)) (enough w s A) r i in
-    record { served = all; judged = λ answers workspace k h. rw (play-writes w s A answers workspace k h) (judge-yes w s A whole all) }
+    record { served = all; judged = λ answers workspace k h. rw (play-writes w s A answers workspace k h) (judge-yes w s A all) }
 
 pub justSetOwed : (w : ℕ) (s : List ℕ) (m : ℕ) → checkOf w s ≡ result m → (r : Read) → In r (planOf w s .reads)
     → (u : Write) → In u (planOf w s .writes) → writeEnd (planOf w s) u ≡ r .begun → OwedJustSet (planOf w s) r u

@@ -23,7 +23,7 @@ reads-few s m e = omega (arith, reads-counted 16 s m e, few-reads 16 s, in-range
 point-after : (s answers workspace : List ℕ) (k : ℕ) (o : Outcome ℕ) → checkOf 16 s ≡ o → playAfter 16 s answers workspace o .outcome ≡ result k → PointThree 16 s
 unfolding playAfter
 point-after s answers workspace k (refused n) e q = let z : _≡_ {A = ℕ} 0 1 = cc in absurd (omega arith)
-point-after s answers workspace k (result m) e q = pointThree 16 refl s m e
+point-after s answers workspace k (result m) e q = pointThree 16 s m e
 
 module _ (s answers workspace : List ℕ) (p : Played) (is : p ≡ playOf 16 s answers workspace) where
   plays : (k : ℕ) → p .outcome ≡ result k → playOf 16 s answers workspace .outcome ≡ result k

@@ -10,17 +10,17 @@ use lib.ListN.{length, getD}
 use denote.Ref.{now}
 use borrow.Author.Needs.{needs}
 use Rattle.bits.specs.Layout.{fits}
-use Rattle.records.proofs.Fits.{fits-length, fits-at}
+use Rattle.bits.proofs.Packing.{fits-length, fits-at}
 use Rattle.plan.specs.Widths.{headerWidths}
 use Rattle.plan.proofs.header.Shape.of.Statement.{statement}
 use Rattle.plan.proofs.header.Shape.of.Tie as tie
 
 -- each field is there, and fits the type that it is cast to
 inside : (x : List ℕ) → fits (headerWidths 16) x ≡ true → (i : ℕ) → T (ltb i 10) → i < length x
-inside x h i l = rw (fits-length (headerWidths 16) x (rw h tt)) (ltb→lt i 10 l)
+inside x h i l = rw (fits-length (headerWidths 16) x h) (ltb→lt i 10 l)
 
 fitting : (x : List ℕ) → fits (headerWidths 16) x ≡ true → (i : ℕ) → T (ltb i 10) → (w : ℕ) → T (leb (getD (headerWidths 16) i 0) w) → getD x i 0 < 2 ^ w
-fitting x h i l w n = lt-of-lt-of-le (fits-at (headerWidths 16) x (rw h tt) i (ltb→lt i 10 l)) (pow-mono (leb→le _ _ n))
+fitting x h i l w n = lt-of-lt-of-le (fits-at (headerWidths 16) x h i (ltb→lt i 10 l)) (pow-mono (leb→le _ _ n))
 
 shared-slice-read-t3 : tie.Need-shared-slice-read-t3
 shared-slice-read-t3 c = search (needs, inside)

@@ -4,7 +4,7 @@ use native.Mathlib.Omega.{arith}
 use denote.Ref.{now}
 use borrow.Author.Needs.{needs}
 use Rattle.records.specs.Records.{noWider}
-use Rattle.records.proofs.Fits.{numbers-fit}
+use Rattle.bits.proofs.Packing.{fits-numbers}
 use Rattle.plan.specs.Widths.{headerWidths}
 use Rattle.plan.specs.Header.{headerFrom, headerOf}
 use Rattle.plan.proofs.header.Shape.read.Statement.{statement}
@@ -26,7 +26,7 @@ slice-aggregate-of c = search needs
 of-requires : tie.Need-of-requires
 of-requires c κs =
     let a = c .before .before .before .before .before .before .args in
-    rw (c .before .before .read .ensures) (numbers-fit (headerWidths 16) (now (a .plan)) 0)
+    rw (c .before .before .read .ensures) (fits-numbers (headerWidths 16) (now (a .plan)) 0)
 
 returns : tie.Need-returns
 unfolding headerOf

@@ -1,19 +1,20 @@
--- Bits written over bytes that were all zero. It stands on the laws of packing.
+-- Bits written from the first bit on: over bytes that were all zero, and as many as fill whole bytes. It stands on the laws of packing.
 use mathlib.Core.Path.{_≡_, _∙_, ap, sym}
 use mathlib.Core.Logic.{inr}
-use mathlib.Core.List.{List}
+use mathlib.Core.List.{List, _++_}
 use Prim.Native.Nat.{ℕ, _+_, _*_, _-_, _/_, _%_, _^_, _≤_, _<_}
 use native.Mathlib.Nat.{zero-add, zero-div}
 use native.Mathlib.Decide.{decLt}
 use native.Mathlib.Omega.{arith}
 use lib.Dec.{lit<, lit≤}
-use lib.ListN.{length, getD, take, replicate, length-replicate, getD-replicate, List·getD-eq-default}
-use lib.Seq.{getD-take, length-take-le}
+use lib.ListN.{length, getD, take, drop, replicate, length-replicate, length-drop, getD-replicate, take-append-drop, List·getD-eq-default}
+use lib.Seq.{getD-take, getD-drop, length-take-le}
 use Rattle.bits.specs.Field.{bitOf, Bytes}
 use Rattle.bits.specs.Fill.{bytesFor}
 use Rattle.bits.specs.Layout.{inBytes}
 use Rattle.bits.specs.Writing.{Wrote}
 use Rattle.bits.proofs.Filling.{fill-units}
+use Rattle.bits.proofs.Laws.{bit-part}
 use Rattle.bits.proofs.Bits.{same-bits}
 use Rattle.bits.proofs.Packing.{Small, in-length, in-small, in-bit}
 
@@ -53,3 +54,26 @@ fresh n t bits W small bytes h =
       | no k ↦ W .other i (inr (omega arith)) ∙ bit-zero n i ∙ sym (List·getD-eq-default bits 0 {n = i} (omega arith))
     ]
     ∙ sym (in-bit bits small i))
+
+-- bits of whole bytes, written over any bytes: those are the first bytes, and the rest is as it was
+module _ (a b bits : List ℕ) (n : ℕ) (W : Wrote a b 0 bits) (small : Small bits) (bytes-a : Bytes a) (bytes-b : Bytes b) (whole : length bits ≡ 8 * n) (room : n ≤ length a) where
+  front : take n b ≡ inBytes bits
+  front =
+      let units = fill-units 8 (length bits) (lit≤ tt) in
+      let size : bytesFor (length bits) ≡ n = rw whole (omega arith) in
+      let long : length (take n b) ≡ n = length-take-le n b (omega (arith, W .size)) in
+      same-bits (take n b) (inBytes bits) (bytes-taken b n (omega (arith, W .size)) bytes-b) (in-small bits small) (long ∙ sym size ∙ sym (in-length bits small)) (λ i l.
+      bit-taken b n i (omega arith)
+      ∙ ap (λ (j : ℕ). bitOf b j) (sym (zero-add i))
+      ∙ W .inside i (omega arith)
+      ∙ sym (in-bit bits small i))
+
+  back : drop n b ≡ drop n a
+  back =
+      same-bits (drop n b) (drop n a) (λ i. rw getD-drop (bytes-b (n + i))) (λ i. rw getD-drop (bytes-a (n + i))) (rw (length-drop, length-drop, W .size)) (λ i l.
+      bit-part b n i
+      ∙ W .other (8 * n + i) (inr (omega arith))
+      ∙ sym (bit-part a n i))
+
+  pub wrote-start : b ≡ inBytes bits ++ drop n a
+  wrote-start = sym (take-append-drop n b) ∙ rw (front, back)
