@@ -8,8 +8,9 @@ whose reads begin around the ends of writes.
 
 For each plan: Check and the header's numbers; the text that the program prints, also as the wrapper
 decodes the answers; Play with lent bytes of several lengths; Looks in and out of range, with pair
-buffers of every length, and of a small plan every Look; Judge of right, altered and malformed answers.
-Results and every lent byte are compared.
+buffers of every length, and of a small plan every Look; Judge of right, altered and malformed answers;
+Pack of the plan's lists, right and bent, into buffers of several lengths, where the lists of an accepted
+plan have to give its bytes and these the lists again.  Results and every lent byte are compared.
 
 Builds what it needs with `rt` and `cargo`; LIB_DIR names a folder with another libcapi.a to compare.
 Prints what differs, then one line with the counts; the exit status is 1 if anything differs."""
@@ -37,9 +38,10 @@ PAIR_BUFFERS = range(12)
 FAR = (2 ** 32, 2 ** 64 - 1)
 # Servers times ticks of a plan that is looked at everywhere, at most: all that are generated small.
 LOOKED_AT = 16 * 24
-# Requests that are answered by one run of the library.
-TOGETHER = 5_000
+# Bytes of the requests that are answered by one run of the library, about.
+TOGETHER = 50_000_000
 MOST_SHOWN = 20
+COMPARED = "Check", "Play", "Look", "Judge", "text printed", "text decoded", "Pack"
 
 
 def lent(length):
@@ -68,12 +70,16 @@ def numbers(*values):
     return struct.pack(f">{len(values)}Q", *values)
 
 
+def listed(values):
+    return string(struct.pack(f">{len(values)}I", *values))
+
+
 class Comparison:
     """Requests with the answers that the other program gives, and what came of them."""
 
     def __init__(self, oracle, seed):
         self.oracle, self.rng = oracle, random.Random(seed)
-        self.waiting = []
+        self.waiting, self.waiting_bytes = [], 0
         self.counts, self.refusals = collections.Counter(), collections.Counter()
         self.different = 0
 
@@ -82,8 +88,9 @@ class Comparison:
     def ask(self, name, what, record, wanted, count=1):
         self.counts[what] += count
         if wanted.startswith("refused"):
-            self.refusals[int(wanted.split()[1])] += 1
+            self.refusals[what, int(wanted.split()[1])] += 1
         self.waiting.append((f"{name}, {what}", record, wanted))
+        self.waiting_bytes += len(record)
 
     def check(self, name, plan):
         said = self.oracle.said(self.oracle.check(plan),
@@ -150,6 +157,51 @@ class Comparison:
             begin, reader, zero = rng.choice([(rng.randrange(128), reader, zero), (begin, rng.randrange(8), zero), (begin, reader, 1)])
         return answers[:at] + self.oracle.pack_answer(begin, reader, value, number, named, zero) + answers[at + ANSWER:]
 
+    def pack(self, name, lists, length):
+        """The other program's result, for a buffer of that length."""
+        buffer = lent(length)
+        result = self.oracle.pack(lists, buffer)
+        said = self.oracle.said(result, lambda plan: f"bytes {len(plan)}")
+        self.counts["Pack done"] += said.startswith("bytes")
+        self.ask(name, "Pack", b"k" + b"".join(map(listed, lists)) + numbers(length), f"{said} {hexed(buffer)}")
+        return result
+
+    def bent(self, lists):
+        """Lists with one thing changed: a number too wide or near, two records' order, or a length."""
+        rng, which = self.rng, self.rng.randrange(5)
+        bent, widths = [list(values) for values in lists], self.oracle.widths[which]
+        values, way = bent[which], rng.choice(["wide", "near", "order", "length"])
+        at = rng.choice([0, len(values) - 1, rng.randrange(len(values))]) if values else 0
+        width = widths[at % len(widths)]
+        if way == "wide" and values:
+            values[at] = rng.choice([1 << width, values[at] | 1 << rng.randrange(width, 32), 2 ** 32 - 1])
+        elif way == "near" and values:
+            values[at] = max(0, values[at] + rng.choice([-1, 1]))
+        elif way == "order" and len(values) > len(widths):
+            first = at // len(widths) * len(widths)
+            record = values[first:first + len(widths)]
+            del values[first:first + len(widths)]
+            values[:0] = record
+        else:
+            more = rng.choice([1, len(widths)])
+            bent[which] = rng.choice([values + [0] * more, values[:-more], []])
+        return bent
+
+    def about_lists(self, name, plan, accepted):
+        lists = self.oracle.lists(plan)
+        if lists is None:
+            return
+        packed = self.pack(name, lists, len(plan))
+        if accepted:
+            self.counts["packed again"] += 1
+            self.compare(f"{name}, packed from its lists", packed, plan)
+            self.compare(f"{name}, the lists of what is packed", self.oracle.lists(packed), lists)
+            self.pack(name, lists, len(plan) + self.rng.randrange(1, 100))
+            self.pack(name, lists, len(plan) - 1)
+        for bent in [self.bent(lists), self.bent(lists), self.oracle.bent_lists(self.rng, plan)]:
+            self.counts["bent"] += bent != lists
+            self.pack(name, bent, len(plan) + self.rng.choice([0, 0, 0, -1, 9]))
+
     def all_about(self, name, plan):
         self.check(name, plan)
         self.text(name, plan)
@@ -160,7 +212,8 @@ class Comparison:
             self.about_accepted(name, plan, reads)
         else:
             self.about_refused(name, plan)
-        if len(self.waiting) >= TOGETHER:
+        self.about_lists(name, plan, accepted)
+        if self.waiting_bytes >= TOGETHER:
             self.settle()
 
     def about_refused(self, name, plan):
@@ -193,7 +246,7 @@ class Comparison:
         assert len(lines) == len(self.waiting), (len(lines), len(self.waiting))
         for (about, _, wanted), line in zip(self.waiting, lines):
             self.compare(about, line, wanted)
-        self.waiting = []
+        self.waiting, self.waiting_bytes = [], 0
 
     def compare(self, about, got, wanted):
         if got != wanted:
@@ -201,13 +254,21 @@ class Comparison:
             if self.different <= MOST_SHOWN:
                 print(f"{about}: got {got[:300]!r}, wanted {wanted[:300]!r}")
 
+    def refused(self, operations):
+        """How often each refusal came from these operations."""
+        times = collections.Counter()
+        for (what, number), count in self.refusals.items():
+            times[number] += count if what in operations else 0
+        return ", ".join(f"{number}: {count}" for number, count in sorted(times.items()) if count)
+
     def summary(self):
         count = self.counts
-        asked = ", ".join(f"{what} {count[what]}" for what in ("Check", "Play", "Look", "Judge", "text printed", "text decoded"))
-        refused = ", ".join(f"{number}: {times}" for number, times in sorted(self.refusals.items()))
+        asked = ", ".join(f"{what} {count[what]}" for what in COMPARED)
         return (f"{count['accepted'] + count['refused']} plans, {count['accepted']} accepted and {count['refused']} refused; "
                 f"compared: {asked}; every Look of {count['looked at everywhere']} plans; "
-                f"Judge yes {count['Judge yes']}, no {count['Judge no']}; refusals {refused}; "
+                f"Judge yes {count['Judge yes']}, no {count['Judge no']}; refusals {self.refused(COMPARED[:-1])}; "
+                f"lists of {count['packed again']} accepted plans packed to their bytes and read again, {count['bent']} bent lists, "
+                f"Pack done {count['Pack done']}, refusals {self.refused(['Pack'])}; "
                 f"{self.different} different")
 
 

@@ -6,6 +6,7 @@ import sys
 
 DEPTH = 3           # pairs in a store
 LOOSE = True        # request Four: a write that ends as a read begins has finished before it
+LARGEST = 2 ** 32 - 1       # number of a list
 
 
 def read(*path):
@@ -22,12 +23,17 @@ class Oracle:
         import generate02
         import hall02
         import operations02
+        import oracle02
         import rehearsal
         self.folder, self.form = folder, forms.FORM_ONE
         self.builder, self.forms, self.generate, self.generate02 = builder, forms, generate, generate02
-        self.hall02, self.operations, self.rehearsal = hall02, operations02, rehearsal
+        self.hall02, self.operations, self.oracle02, self.rehearsal = hall02, operations02, oracle02, rehearsal
         self.workspace_bytes = operations02.WORKSPACE_BYTES
         self.conditions = [hall02.HELD, hall02.CURING, hall02.SOUND]
+
+        form = self.form
+        self.widths = [[bits for _, bits in fields]
+                       for fields in (form.header, form.placement, form.operation, form.forgery, form.delay)]
 
     def vectors(self):
         """Its own plans by name: the rehearsed cases, one for every refusal and wrong turn, large ones."""
@@ -100,3 +106,19 @@ class Oracle:
 
     def pack_answer(self, *fields):
         return self.forms.pack_answer(self.form, *fields)
+
+    def lists(self, plan):
+        """A plan read field by field: five lists.  None if it hasn't the length that its header implies."""
+        try:
+            return self.forms.lists_of(self.unpacked(plan))
+        except (ValueError, ZeroDivisionError):
+            return None
+
+    def pack(self, lists, buffer):
+        """The plan's bytes, which then also stand in the buffer."""
+        return self.forms.write_plan(self.form, lists, buffer)
+
+    def bent_lists(self, rng, plan):
+        """The plan's lists as its own generator bends them, right ones among them."""
+        text = self.generate02.some_lists(rng, self.form, plan)
+        return [[min(number, LARGEST) for number in numbers] for numbers in self.oracle02.lists_in(text.encode())]

@@ -1,17 +1,17 @@
-/* A replicated register under mobile Byzantine faults, rehearsed from a packed plan.
+/* A replicated register under mobile Byzantine faults, rehearsed from a packed plan; and the packing.
  *
  * Link with target/staticlib/libcapi.a, which `rt staticlib capi` writes.  docs/FORMATS.md has the
- * bytes of plans and answers and the numbers of the refusals.
+ * bytes of plans and answers, the lists that a plan is packed from and the numbers of the refusals.
  *
- * All functions take any bytes and any lengths.  A pointer must be valid for its length and not
- * null, also where the length is 0; lent bytes that are written must overlap nothing else in the
- * same call.
+ * All functions take any bytes, any numbers and any lengths.  A pointer must be valid for its length
+ * and not null, also where the length is 0; lent bytes that are written must overlap nothing else in
+ * the same call.
  *
- * Of check, play, look and judge a result of REGISTER_REFUSED or more is a refusal:
+ * Of check, play, look, judge and pack a result of REGISTER_REFUSED or more is a refusal:
  * REGISTER_REFUSED plus its number.  A refusal leaves all lent bytes as they were.
  *
- * Stack: play takes under 32 KB, look under 38 KB, the other functions under 3 KB (measured with the longest
- * plan, on x86-64).  Nothing is allocated.
+ * Stack: play takes under 32 KB, look and pack under 38 KB, the other functions under 3 KB (measured
+ * with the longest plan, on x86-64).  Nothing is allocated.
  * Threads: there is no global state and nothing is kept between calls.  Calls may run at once if
  * none writes to bytes that another one uses.
  */
@@ -47,15 +47,16 @@ extern "C" {
 #define REGISTER_PAIR 3
 #define REGISTER_PAIRS 9
 
-/* What a refusal's number is added to: no other result of these four functions is as large. */
+/* What a refusal's number is added to: no other result of these five functions is as large. */
 #define REGISTER_REFUSED 16777216
 
-/* Where several apply it is the lowest. */
+/* Where several apply it is the lowest.  Of a list, a number too wide for its field is the refusal of
+ * its part: 2 and 5 to 8. */
 enum register_refusal {
-    REGISTER_PLAN_SHORT = 1,        /* plan under 8 bytes */
-    REGISTER_HEADER = 2,            /* a header field outside its range */
+    REGISTER_PLAN_SHORT = 1,        /* plan under 8 bytes; never from pack */
+    REGISTER_HEADER = 2,            /* a header field outside its range; pack: or not ten of them */
     REGISTER_TOO_FEW_SERVERS = 3,   /* fewer than the faults ask for */
-    REGISTER_PLAN_LENGTH = 4,       /* length other than the header implies */
+    REGISTER_PLAN_LENGTH = 4,       /* length of the plan, or of a list, other than the header implies */
     REGISTER_PLACEMENT = 5,         /* too many servers, or one that isn't there */
     REGISTER_OPERATION = 6,         /* order, party, value, overlap or end */
     REGISTER_FORGERY = 7,           /* order, tick, sender or receiver */
@@ -65,7 +66,7 @@ enum register_refusal {
     REGISTER_OUT_OF_RANGE = 11,     /* look: no such server or tick */
     REGISTER_ANSWERS_LENGTH = 12,   /* judge: length other than 5 times the reads */
     REGISTER_OTHER_READ = 13,       /* judge: begin, reader or zero bit isn't that of the read */
-    REGISTER_BUFFER_SHORT = 14      /* the buffer is shorter than the plan */
+    REGISTER_BUFFER_SHORT = 14      /* pack: the buffer is shorter than the plan */
 };
 
 /* Checks a plan.  Returns its number of reads. */
@@ -128,6 +129,29 @@ enum register_header_field {
 /* Reads a number of a plan's header.  Returns 0 for a plan under 8 bytes, and for any other field.
  * Nothing is checked: the numbers of an accepted plan are in their ranges. */
 size_t register_header(const uint8_t *plan, size_t plan_length, size_t field);
+
+/* Packs a plan from five lists of numbers, one number for each field in packed order:
+ *
+ *   header      ten: the fields of enum register_header_field in their order, then 0
+ *   placements  one for each movement below H: the faulty servers as a number of 16 bits, in which
+ *               server 0 is the top bit, 32768, server 1 the next, 16384, and so on
+ *   operations  three for each: tick, party (0 the writer, else the reader), value (0 for a read)
+ *   forgeries   five for each: tick, sender, receiver, value, number.  Servers are 0 to n - 1, the
+ *               writer n, reader r is n + r
+ *   delays      one for each tick, sender and receiver, in that order, the parties numbered as under
+ *               forgeries: 1 to δ, or 0 where no messages go from the one to the other
+ *
+ * The lengths count numbers, not bytes.  A list of no numbers may have any pointer that is not null.
+ *
+ * The plan stands at the start of out, and later bytes of out stay; REGISTER_LONGEST_PLAN has room for
+ * any.  Returns the number of its bytes.  Check accepts what pack writes, and pack refuses what check
+ * would, by the same numbers, and last of all a buffer that is too short (14). */
+size_t register_pack(const uint32_t *header, size_t header_length,
+                     const uint32_t *placements, size_t placements_length,
+                     const uint32_t *operations, size_t operations_length,
+                     const uint32_t *forgeries, size_t forgeries_length,
+                     const uint32_t *delays, size_t delays_length,
+                     uint8_t *out, size_t out_length);
 
 /* The limits above as the library has them. */
 size_t register_most_bytes(void);       /* REGISTER_LONGEST_PLAN */

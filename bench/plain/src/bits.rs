@@ -36,6 +36,43 @@ impl<'a> Fields<'a> {
     }
 }
 
+/// Puts one field after the other.
+#[derive(Default)]
+pub struct Packer {
+    bytes: Vec<u8>,
+    /// Bits that don't fill a byte yet, under eight.
+    waiting: u64,
+    width: usize,
+}
+
+impl Packer {
+    /// Puts the low bits of a number, at most 32.
+    fn put(&mut self, number: u32, width: usize) {
+        let low = u64::from(number) & ((1 << width) - 1);
+        self.waiting = self.waiting << width | low;
+        self.width += width;
+        while self.width >= 8 {
+            self.width -= 8;
+            self.bytes.push((self.waiting >> self.width) as u8);
+        }
+    }
+
+    /// Puts numbers in fields of these widths, which come again and again.
+    pub fn put_all(&mut self, numbers: &[u32], widths: &[usize]) {
+        for (&number, &width) in numbers.iter().zip(widths.iter().cycle()) {
+            self.put(number, width);
+        }
+    }
+
+    /// The bytes, the last one filled with zero bits.
+    pub fn finish(mut self) -> Vec<u8> {
+        if self.width > 0 {
+            self.put(0, 8 - self.width);
+        }
+        self.bytes
+    }
+}
+
 #[cfg(test)]
 mod tests {
     use super::*;
@@ -55,5 +92,20 @@ mod tests {
                 assert_eq!(field(&bytes, at, width), one_by_one(&bytes, at, width));
             }
         }
+    }
+
+    #[test]
+    fn what_is_put_is_taken() {
+        let widths: Vec<usize> = (1..=32).collect();
+        let numbers: Vec<u32> = (0..100).map(|i: u32| i.wrapping_mul(2_654_435_761)).collect();
+        let mut bits = Packer::default();
+        bits.put_all(&numbers, &widths);
+        let bytes = bits.finish();
+        let mut fields = Fields::new(&bytes, 0);
+        for (&number, &width) in numbers.iter().zip(widths.iter().cycle()) {
+            assert_eq!(fields.take(width), u64::from(number) & ((1 << width) - 1));
+        }
+        let fill = 8 * bytes.len() - fields.at;
+        assert!(fill < 8 && (fill == 0 || fields.take(fill) == 0));
     }
 }

@@ -1,15 +1,17 @@
-//! Check, Play, Look and Judge of docs/RULES.md as an ordinary program: the yardstick for the
-//! proved library's speed, and the other side of its differential tests. It shares no code
-//! with the library and makes no use of facts proved there.
+//! Check, Play, Look and Judge of docs/RULES.md, and Pack of docs/FORMATS.md, as an ordinary
+//! program: the yardstick for the proved library's speed, and the other side of its differential
+//! tests. It shares no code with the library and makes no use of facts proved there.
 
 #![forbid(unsafe_code)]
 
 pub mod bits;
 mod cluster;
 pub mod judge;
+mod pack;
 pub mod plan;
 mod server;
 
+pub use pack::Lists;
 pub use plan::Stamped;
 
 use cluster::Cluster;
@@ -19,7 +21,7 @@ use plan::Plan;
 pub const WORKSPACE_BYTES: usize = 60_000;
 
 /// A refusal by its published number.
-#[derive(Clone, Copy, Debug, PartialEq, Eq)]
+#[derive(Clone, Copy, Debug, PartialEq, Eq, PartialOrd, Ord)]
 pub struct Refused(pub u8);
 
 pub type Outcome<T> = Result<T, Refused>;
@@ -93,4 +95,12 @@ pub fn judge(plan: &[u8], answers: &[u8]) -> Outcome<bool> {
         return Err(Refused(13));
     }
     Ok(answered.all(|(read, answer)| judge::is_regular(&plan, read, answer)))
+}
+
+/// The number of bytes of the packed plan, which stands at the start of the buffer.
+pub fn pack(lists: &Lists, out: &mut [u8]) -> Outcome<usize> {
+    let plan = pack::packed(lists)?;
+    let place = out.get_mut(..plan.len()).ok_or(Refused(14))?;
+    place.copy_from_slice(&plan);
+    Ok(plan.len())
 }

@@ -9,6 +9,7 @@ pub const MOST_TICKS: usize = 128;
 pub const MOST_OPERATIONS: usize = 255;
 const MOST_FORGERIES: usize = 1024;
 
+pub const HEADER_WIDTHS: [usize; 10] = [5, 2, 4, 6, 3, 8, 16, 8, 11, 1];
 pub const HEADER_BYTES: usize = 8;
 pub const PLACEMENT_BITS: usize = 16;
 pub const OPERATION_BITS: usize = 26;
@@ -52,31 +53,41 @@ impl Header {
         if bytes.len() < HEADER_BYTES {
             return Err(Refused(1));
         }
-        let header = Header::unpack(bytes)?;
-        if header.servers < (header.k() + 3) * header.faulty + 1 {
-            return Err(Refused(3));
-        }
+        let header = Header::unpack(bytes)?.with_enough_servers()?;
         if bytes.len() != header.final_bits_at().div_ceil(8) {
             return Err(Refused(4));
         }
         Ok(header)
     }
 
+    pub fn with_enough_servers(self) -> Result<Self, Refused> {
+        if self.servers < (self.k() + 3) * self.faulty + 1 {
+            Err(Refused(3))
+        } else {
+            Ok(self)
+        }
+    }
+
     fn unpack(bytes: &[u8]) -> Result<Self, Refused> {
         let mut fields = Fields::new(bytes, 0);
-        let mut next = |width| fields.take(width) as usize;
+        Header::from_fields(HEADER_WIDTHS.map(|width| fields.take(width) as usize))
+    }
+
+    /// The header that the fields say, the zero bit last, if all are in their ranges.
+    pub fn from_fields(fields: [usize; 10]) -> Result<Self, Refused> {
+        let [servers, faulty, delta, period, readers, ticks, initial, operations, forgeries, zero] =
+            fields;
         let header = Header {
-            servers: next(5),
-            faulty: next(2),
-            delta: next(4),
-            period: next(6),
-            readers: next(3),
-            ticks: next(8),
-            initial: next(16) as u16,
-            operations: next(8),
-            forgeries: next(11),
+            servers,
+            faulty,
+            delta,
+            period,
+            readers,
+            ticks,
+            initial: initial as u16,
+            operations,
+            forgeries,
         };
-        let zero = next(1);
         let in_range = (1..=MOST_SERVERS).contains(&header.servers)
             && header.delta >= 1
             && header.period >= header.delta

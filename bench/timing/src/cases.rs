@@ -1,6 +1,7 @@
 //! The plans that are measured: busy ones, in which nobody rests.
 
 use plans::{Forgery, Operation, Parts, Random};
+use register::Lists;
 
 #[derive(Clone, Copy)]
 pub struct Shape {
@@ -39,9 +40,25 @@ pub const NAMED: [(&str, Shape); 9] = [
     ),
 ];
 
-/// The packed plan: each party begins as soon as it may, the agents move on in turn at every
+/// A plan, packed and as lists.
+pub struct Case {
+    pub plan: Vec<u8>,
+    pub lists: Lists,
+}
+
+impl Case {
+    pub fn new(shape: Shape) -> Self {
+        let parts = parts(shape);
+        let plan = parts.pack();
+        assert!(plain::check(&plan).is_ok());
+        let plans::Lists { header, placements, operations, forgeries, delays } = parts.lists();
+        Case { plan, lists: Lists { header, placements, operations, forgeries, delays } }
+    }
+}
+
+/// A plan's parts: each party begins as soon as it may, the agents move on in turn at every
 /// movement, delays are random, forgeries stand all over the ticks.
-pub fn plan(shape: Shape) -> Vec<u8> {
+fn parts(shape: Shape) -> Parts {
     let mut parts = Parts {
         servers: shape.servers,
         faulty: shape.faulty,
@@ -64,9 +81,7 @@ pub fn plan(shape: Shape) -> Vec<u8> {
     parts.operations = operations(&parts);
     parts.forgeries = forgeries(&parts, shape.forgeries);
     parts.delays = delays(&parts);
-    let packed = parts.pack();
-    assert!(plain::check(&packed).is_ok());
-    packed
+    parts
 }
 
 fn operations(parts: &Parts) -> Vec<Operation> {

@@ -1,6 +1,6 @@
-//! timing [ROUNDS]: prints, as tables, the times of Check, Play, Look and Judge of the library, of
-//! the plain one and of the rival, in one run and on the same bytes, how they grow, and the stack
-//! of Play.
+//! timing [ROUNDS]: prints, as tables, the times of Check, Play, Look, Judge and Pack of the library,
+//! of the plain one and of the rival, in one run and on the same plans, how they grow, Pack beside
+//! Check, and the stack of Play and Pack.
 
 mod cases;
 mod measure;
@@ -9,7 +9,7 @@ mod stack;
 
 use std::process::ExitCode;
 
-use cases::{Shape, LONGEST, MIDDLE, NAMED};
+use cases::{Case, Shape, LONGEST, MIDDLE, NAMED};
 use measure::Times;
 use operations::Measured;
 
@@ -19,19 +19,26 @@ const AT_ONCE: usize = 20;
 
 struct Row {
     name: String,
-    plan: Vec<u8>,
+    case: Case,
     /// By operation.
-    measured: [Measured; 4],
+    measured: [Measured; operations::ALL.len()],
 }
 
 impl Row {
     fn new(name: String, shape: Shape) -> Self {
-        Row { name, plan: cases::plan(shape), measured: Default::default() }
+        Row { name, case: Case::new(shape), measured: Default::default() }
+    }
+
+    /// The library's times of an operation.
+    fn library(&self, operation: &str) -> Times {
+        let place = operations::ALL.iter().position(|&name| name == operation);
+        let measured = &self.measured[place.expect("the operation is measured")];
+        measured.library.times().expect("samples were taken")
     }
 
     fn add(&mut self, rounds: usize) {
         for (operation, measured) in operations::ALL.iter().zip(&mut self.measured) {
-            measured.add(operation, &self.plan, rounds);
+            measured.add(operation, &self.case, rounds);
         }
     }
 }
@@ -72,14 +79,14 @@ fn print_operations(rows: &[Row], rounds: usize) {
     println!("Spread: the middle half of the samples, in hundredths of the median.\n");
     println!("| plan | bytes | operation | library | plain | rival | library/plain | library/rival | spread |");
     println!("|---|---:|---|---:|---:|---:|---:|---:|---:|");
-    for Row { name, plan, measured } in rows {
+    for Row { name, case, measured } in rows {
         for (operation, measured) in operations::ALL.iter().zip(measured) {
             let library = measured.library.times().expect("samples were taken").median;
             let [_, to_plain, to_rival] =
                 cells(measured, |other| format!("{:.2}", library / other.median));
             println!(
                 "| {name} | {} | {operation} | {} | {to_plain} | {to_rival} | {} |",
-                plan.len(),
+                case.plan.len(),
                 cells(measured, microseconds).join(" | "),
                 cells(measured, |times| format!("{:.0}", times.spread())).join(" / "),
             );
@@ -89,26 +96,44 @@ fn print_operations(rows: &[Row], rounds: usize) {
 
 fn print_growth(rows: &[Row]) {
     println!("\nGrowth, from 16 servers (f=3, δ=4, Δ=6), 2 readers, 128 ticks, 512 forgeries: library / plain / rival in microseconds.\n");
-    println!("| changed | Check | Play | Look | Judge |");
-    println!("|---|---:|---:|---:|---:|");
+    println!("| changed | {} |", operations::ALL.join(" | "));
+    println!("|---|{}", "---:|".repeat(operations::ALL.len()));
     for Row { name, measured, .. } in rows {
         let row = measured.each_ref().map(|measured| cells(measured, microseconds).join(" / "));
         println!("| {name} | {} |", row.join(" | "));
     }
 }
 
+fn print_pack(rows: &[Row]) {
+    println!("\nThe library's Pack beside its Check of the same plan, in microseconds. Pack makes the tests of Check too.\n");
+    println!("| plan | bytes | Pack | Check | Pack/Check |");
+    println!("|---|---:|---:|---:|---:|");
+    for row in rows {
+        let (pack, check) = (row.library("Pack"), row.library("Check"));
+        println!(
+            "| {} | {} | {} | {} | {:.2} |",
+            row.name,
+            row.case.plan.len(),
+            microseconds(pack),
+            microseconds(check),
+            pack.median / check.median,
+        );
+    }
+}
+
 fn print_stack() {
+    let what = ["Play library", "Play plain", "Play rival", "Pack library", "Pack plain"];
     let taken =
-        stack::taken().map(|(name, bytes)| format!("{name} {:.0} KB", bytes as f64 / 1024.0));
-    println!("\nStack that Play of the longest plan takes, to about 1 KB:");
-    println!("{} (the last two also allocate).", taken.join(", "));
+        stack::taken(what).map(|(what, bytes)| format!("{what} {:.0} KB", bytes as f64 / 1024.0));
+    println!("\nStack that the longest plan takes, to about 1 KB:");
+    println!("{} (plain and rival also allocate).", taken.join(", "));
 }
 
 fn main() -> ExitCode {
     let words: Vec<String> = std::env::args().skip(1).collect();
     let words: Vec<&str> = words.iter().map(String::as_str).collect();
-    let longest = cases::plan(LONGEST);
-    assert_eq!(longest.len(), 34_362);
+    let longest = Case::new(LONGEST);
+    assert_eq!(longest.plan.len(), register::LONGEST_PLAN);
     let rounds = match words[..] {
         [] => Some(101),
         [rounds] => rounds.parse().ok(),
@@ -134,6 +159,7 @@ fn main() -> ExitCode {
     }
     print_operations(&named, rounds);
     print_growth(&growth);
+    print_pack(&named);
     print_stack();
     ExitCode::SUCCESS
 }

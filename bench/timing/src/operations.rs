@@ -1,10 +1,11 @@
 //! The operations of the three programs, with equal results and lent bytes of their own.
 
+use crate::cases::Case;
 use crate::measure::{measure, Call, Samples};
 
-pub const ALL: [&str; 4] = ["Check", "Play", "Look", "Judge"];
+pub const ALL: [&str; 5] = ["Check", "Play", "Look", "Judge", "Pack"];
 
-/// The samples of the three; the rival has no Judge.
+/// The samples of the three; the rival has no Judge and no Pack.
 #[derive(Clone, Default)]
 pub struct Measured {
     pub library: Samples,
@@ -23,15 +24,27 @@ fn lent<const N: usize>(plan: &[u8]) -> [Lent; N] {
     [(); N].map(|()| Lent { answers: vec![0; answers], workspace: vec![0; plain::WORKSPACE_BYTES] })
 }
 
+/// The lists as the plain program takes them.
+pub fn for_plain(lists: &register::Lists) -> plain::Lists<'_> {
+    let register::Lists { header, placements, operations, forgeries, delays } = lists;
+    plain::Lists { header, placements, operations, forgeries, delays }
+}
+
 impl Measured {
-    /// Adds so many samples. Look is after the last tick; Judge gets true answers.
-    pub fn add(&mut self, operation: &str, plan: &[u8], rounds: usize) {
+    /// Adds so many samples. Look is after the last tick; Judge gets true answers; Pack gets a buffer
+    /// just long enough.
+    pub fn add(&mut self, operation: &str, case: &Case, rounds: usize) {
         match operation {
-            "Check" => self.check(plan, rounds),
-            "Play" => self.play(plan, rounds),
-            "Look" => self.look(plan, rounds),
-            _ => self.judge(plan, rounds),
+            "Check" => self.check(&case.plan, rounds),
+            "Play" => self.play(&case.plan, rounds),
+            "Look" => self.look(&case.plan, rounds),
+            "Judge" => self.judge(&case.plan, rounds),
+            _ => self.pack(case, rounds),
         }
+    }
+
+    fn add_two(&mut self, rounds: usize, calls: [Call; 2]) {
+        measure(rounds, calls, [&mut self.library, &mut self.plain]);
     }
 
     fn add_three(&mut self, rounds: usize, calls: [Call; 3]) {
@@ -70,7 +83,14 @@ impl Measured {
         plain::play(plan, &mut answers, &mut workspace).unwrap();
         let mut library = || usize::from(register::judge(plan, &answers).unwrap());
         let mut plain = || usize::from(plain::judge(plan, &answers).unwrap());
-        let samples = [&mut self.library, &mut self.plain];
-        measure(rounds, [&mut library, &mut plain], samples);
+        self.add_two(rounds, [&mut library, &mut plain]);
+    }
+
+    fn pack(&mut self, Case { plan, lists }: &Case, rounds: usize) {
+        let (mut a, mut b) = (vec![0; plan.len()], vec![0; plan.len()]);
+        let mut library = || register::pack(lists, &mut a).unwrap();
+        let mut plain = || plain::pack(&for_plain(lists), &mut b).unwrap();
+        self.add_two(rounds, [&mut library, &mut plain]);
+        assert!(a == *plan && b == *plan, "packed plans differ");
     }
 }

@@ -1,11 +1,14 @@
-//! The stack that Play takes: how much less room is left beside it than beside nothing. Each try
-//! is a process of its own, as an overflow ends the process.
+//! The stack that an operation takes: how much less room is left beside it than beside nothing. Each
+//! try is a process of its own, as an overflow ends the process.
 
 use std::hint::black_box;
 use std::process::{Command, Stdio};
 
 use plain::judge::ANSWER_BYTES;
 use plain::plan::MOST_OPERATIONS;
+
+use crate::cases::Case;
+use crate::operations::for_plain;
 
 /// The stack of the thread that tries.
 const STACK: usize = 4 << 20;
@@ -24,15 +27,19 @@ fn beneath(frames: usize, call: &mut dyn FnMut()) {
     black_box(&mut room);
 }
 
-/// Runs one of the programs, or nothing, beneath so many frames. The lent bytes are elsewhere.
-pub fn attempt(what: &str, frames: usize, plan: Vec<u8>) {
+/// Runs an operation of one of the programs, or nothing, beneath so many frames. The lent bytes are
+/// elsewhere.
+pub fn attempt(what: &str, frames: usize, Case { plan, lists }: Case) {
     let what = what.to_string();
     let mut answers = vec![0; ANSWER_BYTES * MOST_OPERATIONS];
     let mut workspace = vec![0; plain::WORKSPACE_BYTES];
+    let mut out = vec![0; plan.len()];
     let mut call = move || match what.as_str() {
-        "library" => drop(black_box(register::play(&plan, &mut answers, &mut workspace))),
-        "plain" => drop(black_box(plain::play(&plan, &mut answers, &mut workspace))),
-        "rival" => drop(black_box(rival::play(&plan, &mut answers, &mut workspace))),
+        "Play library" => drop(black_box(register::play(&plan, &mut answers, &mut workspace))),
+        "Play plain" => drop(black_box(plain::play(&plan, &mut answers, &mut workspace))),
+        "Play rival" => drop(black_box(rival::play(&plan, &mut answers, &mut workspace))),
+        "Pack library" => drop(black_box(register::pack(&lists, &mut out))),
+        "Pack plain" => drop(black_box(plain::pack(&for_plain(&lists), &mut out))),
         _ => (),
     };
     let thread = std::thread::Builder::new().stack_size(STACK);
@@ -60,10 +67,9 @@ fn most_frames(what: &str) -> usize {
     low
 }
 
-/// About how many bytes of stack Play of the longest plan takes, by program.
-pub fn taken() -> [(&'static str, usize); 3] {
+/// About how many bytes of stack the longest plan takes, for each of these operations of a program.
+pub fn taken<const N: usize>(what: [&'static str; N]) -> [(&'static str, usize); N] {
     let beside_nothing = most_frames("nothing");
     let frame = STACK / beside_nothing;
-    ["library", "plain", "rival"]
-        .map(|program| (program, (beside_nothing - most_frames(program)) * frame))
+    what.map(|what| (what, (beside_nothing - most_frames(what)) * frame))
 }

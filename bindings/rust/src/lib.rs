@@ -1,5 +1,6 @@
 //! A replicated register under mobile Byzantine faults, rehearsed from a packed plan: a safe
-//! wrapper of the proved library. `docs/FORMATS.md` has the bytes of plans and answers.
+//! wrapper of the proved library. `docs/FORMATS.md` has the bytes of plans and answers, and the
+//! lists that [`pack`] takes; a [`Draft`] makes a plan from typed parts.
 //!
 //! ```
 //! use register::{answers, check, judge, play, Plan, ANSWER_BYTES, WORKSPACE_BYTES};
@@ -17,23 +18,28 @@
 //! # Ok::<(), register::Refusal>(())
 //! ```
 //!
-//! Every function takes any bytes of any length and never panics. A refused call changes no lent
-//! byte. The library keeps nothing between calls and allocates nothing; calls may run at once on
-//! several threads. [`play`] takes under 32 KB of stack, [`look`] under 38 KB, the other functions under 3 KB.
+//! Every function takes any bytes and numbers of any length and never panics. A refused call changes
+//! no lent byte. The library keeps nothing between calls and allocates nothing; calls may run at once
+//! on several threads. [`play`] takes under 32 KB of stack, [`look`] and [`pack`] under 38 KB, the
+//! other functions under 3 KB.
 
 #![warn(missing_docs)]
 
 mod answer;
+mod draft;
 mod limits;
+mod lists;
 mod plan;
 mod raw;
 mod refusal;
 mod seen;
 
 pub use answer::{answers, Answer};
+pub use draft::{Draft, Forgery, Operation, Party};
 pub use limits::{
     ANSWER_BYTES, LONGEST_INPUT, LONGEST_PLAN, MOST_READS, PAIRS_BYTES, PAIR_BYTES, WORKSPACE_BYTES,
 };
+pub use lists::Lists;
 pub use plan::Plan;
 pub use refusal::Refusal;
 pub use seen::{Condition, Seen, Stamped};
@@ -82,4 +88,35 @@ pub fn look_into(
 /// none did), and that of a write that ended after it and began by the read's end.
 pub fn judge(plan: &[u8], answers: &[u8]) -> Result<bool, Refusal> {
     refusal::number_or_refusal(raw::judge(plan, answers)).map(|yes| yes == 1)
+}
+
+/// Packs a plan from lists of numbers: the number of its bytes. They stand at the start of `out`, and
+/// later bytes are unchanged; [`LONGEST_PLAN`] bytes have room for any plan. [`check`] accepts what is
+/// packed.
+///
+/// ```
+/// use register::{check, pack, Lists, Refusal};
+///
+/// // One server and one read; examples/first.plan.
+/// let mut lists = Lists {
+///     header: vec![1, 0, 1, 1, 1, 3, 7, 1, 0, 0],
+///     placements: vec![0, 0, 0],
+///     operations: vec![0, 1, 0],
+///     forgeries: vec![],
+///     delays: [0, 0, 1, 1, 0, 0, 1, 0, 0].repeat(3),
+/// };
+/// let mut out = [0; 100];
+/// let length = pack(&lists, &mut out)?;
+/// assert_eq!(out[..length], *include_bytes!("../../../examples/first.plan"));
+/// assert_eq!(check(&out[..length]), Ok(1));
+///
+/// // Reader 1 would read beyond the last tick.
+/// lists.operations[0] = 1;
+/// assert_eq!(pack(&lists, &mut out), Err(Refusal::Operation));
+/// # Ok::<(), Refusal>(())
+/// ```
+pub fn pack(lists: &Lists, out: &mut [u8]) -> Result<usize, Refusal> {
+    let Lists { header, placements, operations, forgeries, delays } = lists;
+    let result = raw::pack(header, placements, operations, forgeries, delays, out);
+    refusal::number_or_refusal(result)
 }

@@ -22,6 +22,11 @@ pub const LONGEST_INPUT: usize = 34_438;
 /// The most reads of an accepted plan.
 pub const MOST_READS: usize = 168;
 
+/// The most servers, readers and ticks of an accepted plan.
+pub(crate) const MOST_SERVERS: usize = 16;
+pub(crate) const MOST_READERS: usize = 4;
+pub(crate) const MOST_TICKS: usize = 128;
+
 #[cfg(test)]
 mod tests {
     use super::*;
@@ -66,9 +71,10 @@ mod tests {
 
     #[test]
     fn no_header_implies_more() {
-        let (moves, operations, forgeries, ticks, parties) = (128, 255, 1024, 128, 16 + 1 + 4);
-        let bits =
-            64 + 16 * moves + 26 * operations + 40 * forgeries + 4 * ticks * parties * parties;
+        let (moves, operations, forgeries) = (MOST_TICKS, 255, 1024);
+        let parties = MOST_SERVERS + 1 + MOST_READERS;
+        let delays = MOST_TICKS * parties * parties;
+        let bits = 64 + 16 * moves + 26 * operations + 40 * forgeries + 4 * delays;
         assert_eq!(LONGEST_INPUT, usize::div_ceil(bits, 8) + 1);
     }
 }

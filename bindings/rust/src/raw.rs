@@ -60,6 +60,20 @@ mod library {
             field: usize,
         ) -> usize;
         pub fn register_header(plan: *const u8, plan_length: usize, field: usize) -> usize;
+        pub fn register_pack(
+            header: *const u32,
+            header_length: usize,
+            placements: *const u32,
+            placements_length: usize,
+            operations: *const u32,
+            operations_length: usize,
+            forgeries: *const u32,
+            forgeries_length: usize,
+            delays: *const u32,
+            delays_length: usize,
+            out: *mut u8,
+            out_length: usize,
+        ) -> usize;
     }
 }
 
@@ -121,4 +135,31 @@ pub fn answer(answers: &[u8], index: usize, field: AnswerField) -> usize {
 pub fn header(plan: &[u8], field: HeaderField) -> usize {
     // SAFETY: the pointer and length are a slice's.
     unsafe { library::register_header(plan.as_ptr(), plan.len(), field as usize) }
+}
+
+pub fn pack(
+    header: &[u32],
+    placements: &[u32],
+    operations: &[u32],
+    forgeries: &[u32],
+    delays: &[u32],
+    out: &mut [u8],
+) -> usize {
+    // SAFETY: the pointers and lengths are slices', and the one to write to is exclusive.
+    unsafe {
+        library::register_pack(
+            header.as_ptr(),
+            header.len(),
+            placements.as_ptr(),
+            placements.len(),
+            operations.as_ptr(),
+            operations.len(),
+            forgeries.as_ptr(),
+            forgeries.len(),
+            delays.as_ptr(),
+            delays.len(),
+            out.as_mut_ptr(),
+            out.len(),
+        )
+    }
 }

@@ -4,23 +4,24 @@ use std::error::Error;
 use std::fmt;
 
 /// Why a call was refused; where several apply it is the one of the lowest number. A refusal changes
-/// no lent byte.
+/// no lent byte. To [`pack`](crate::pack), a number too wide for its field is the refusal of its
+/// part.
 #[derive(Clone, Copy, Debug, PartialEq, Eq, Hash)]
 pub enum Refusal {
     /// The plan has under 8 bytes.
     PlanShort = 1,
-    /// A header field is outside its range.
+    /// A header field is outside its range, or a list of them hasn't ten.
     Header = 2,
     /// There are fewer servers than the faults ask for.
     TooFewServers = 3,
-    /// The plan's length is other than its header implies.
+    /// The length of the plan, or of a list, is other than the header implies.
     PlanLength = 4,
     /// A placement has too many servers, or one that isn't there.
     Placement = 5,
     /// An operation is out of order, has a wrong party or value, overlaps another of its party or
     /// ends too late.
     Operation = 6,
-    /// A forged message is out of order or has a wrong tick, sender or receiver.
+    /// A forged message is out of order or has a wrong tick, sender, receiver, value or number.
     Forgery = 7,
     /// A delay is out of range, or a final bit is set.
     Delay = 8,
@@ -66,15 +67,17 @@ impl Refusal {
     pub fn meaning(self) -> &'static str {
         match self {
             Refusal::PlanShort => "the plan has under 8 bytes",
-            Refusal::Header => "a header field is outside its range",
+            Refusal::Header => "a header field is outside its range, or a list of them hasn't ten",
             Refusal::TooFewServers => "there are fewer servers than the faults ask for",
-            Refusal::PlanLength => "the plan's length is other than its header implies",
+            Refusal::PlanLength => {
+                "the length of the plan, or of a list, is other than the header implies"
+            }
             Refusal::Placement => "a placement has too many servers, or one that isn't there",
             Refusal::Operation => {
                 "an operation is out of order, has a wrong party or value, overlaps another of its party or ends too late"
             }
             Refusal::Forgery => {
-                "a forged message is out of order or has a wrong tick, sender or receiver"
+                "a forged message is out of order or has a wrong tick, sender, receiver, value or number"
             }
             Refusal::Delay => "a delay is out of range, or a final bit is set",
             Refusal::AnswersShort => "the buffer for answers has under 5 bytes for each read",

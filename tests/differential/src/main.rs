@@ -1,11 +1,13 @@
 //! differential [PLANS [SEED]]: the library, through its wrapper, against the plain one.
 //!
 //! Results and every lent byte are compared on random plans, accepted and damaged, with lent bytes
-//! too short and too long, looks in and out of range, and answers true, changed and malformed.
-//! A plan that shows a difference is kept under target/differ/ of this package.
+//! too short and too long, looks in and out of range, and answers true, changed and malformed; and
+//! on as many random lists of numbers to pack, right and bent.
+//! What shows a difference is kept under target/differ/ of this package.
 
 mod answers;
 mod lent;
+mod packing;
 mod results;
 mod tally;
 mod trial;
@@ -13,8 +15,9 @@ mod trial;
 use std::process::ExitCode;
 use std::time::Instant;
 
-use plans::{accepted, damaged, Random, Size};
+use plans::{accepted, damaged, some_lists, Lists, Random, Size};
 
+use packing::Packing;
 use tally::Tally;
 use trial::Bench;
 
@@ -30,11 +33,65 @@ fn plan(random: &mut Random) -> (Vec<u8>, bool) {
     }
 }
 
-fn keep(seed: u64, plan: &[u8]) -> String {
+fn lists(random: &mut Random) -> Lists {
+    let size = if random.once_in(30) { Size::Any } else { Size::Small };
+    some_lists(random, size)
+}
+
+/// The name of the file in which the contents are kept.
+fn keep(name: &str, contents: &[u8]) -> String {
     let folder = concat!(env!("CARGO_MANIFEST_DIR"), "/target/differ");
-    let name = format!("{folder}/{seed}.plan");
-    let kept = std::fs::create_dir_all(folder).and_then(|()| std::fs::write(&name, plan));
+    let name = format!("{folder}/{name}");
+    let kept = std::fs::create_dir_all(folder).and_then(|()| std::fs::write(&name, contents));
     kept.map_or_else(|error| error.to_string(), |()| name)
+}
+
+/// What is compared, and what came of it.
+struct Comparison {
+    bench: Bench,
+    packing: Packing,
+    tally: Tally,
+    bytes: usize,
+    different: usize,
+}
+
+impl Comparison {
+    fn new() -> Self {
+        let mut random = Random::new(1);
+        Comparison {
+            bench: Bench::new(&mut random),
+            packing: Packing::new(&mut random),
+            tally: Tally::default(),
+            bytes: 0,
+            different: 0,
+        }
+    }
+
+    fn plan(&mut self, seed: u64) {
+        let mut random = Random::new(seed);
+        let (plan, made_well) = plan(&mut random);
+        self.bytes += plan.len();
+        assert!(!made_well || plain::check(&plan).is_ok(), "seed {seed}: a plan was made wrongly");
+        if let Err(difference) = self.bench.compare(&mut random, &plan, &mut self.tally) {
+            self.differs(seed, &difference, &format!("{seed}.plan"), &plan);
+        }
+    }
+
+    fn lists(&mut self, seed: u64) {
+        let mut random = Random::new(!seed);
+        let lists = lists(&mut random);
+        if let Err(difference) = self.packing.compare(&mut random, &lists, &mut self.tally) {
+            let text = packing::text(&lists);
+            self.differs(seed, &difference, &format!("{seed}.lists"), text.as_bytes());
+        }
+    }
+
+    fn differs(&mut self, seed: u64, difference: &str, name: &str, contents: &[u8]) {
+        self.different += 1;
+        if self.different <= MOST_SHOWN {
+            println!("seed {seed}: {difference}\n  kept as {}", keep(name, contents));
+        }
+    }
 }
 
 /// How many plans, and the first one's seed; nothing if an argument is wrong.
@@ -55,21 +112,12 @@ fn main() -> ExitCode {
         return ExitCode::from(2);
     };
     let began = Instant::now();
-    let mut bench = Bench::new(&mut Random::new(1));
-    let mut tally = Tally::default();
-    let (mut different, mut bytes) = (0, 0);
+    let mut comparison = Comparison::new();
     for seed in first..first + count {
-        let mut random = Random::new(seed);
-        let (plan, made_well) = plan(&mut random);
-        bytes += plan.len();
-        assert!(!made_well || plain::check(&plan).is_ok(), "seed {seed}: a plan was made wrongly");
-        if let Err(difference) = bench.compare(&mut random, &plan, &mut tally) {
-            different += 1;
-            if different <= MOST_SHOWN {
-                println!("seed {seed}: {difference}\n  the plan is {}", keep(seed, &plan));
-            }
-        }
+        comparison.plan(seed);
+        comparison.lists(seed);
     }
+    let Comparison { tally, bytes, different, .. } = comparison;
     println!("results by number of the refusal, and the rest:");
     tally.print();
     let missing = tally.missing();
@@ -77,7 +125,7 @@ fn main() -> ExitCode {
         println!("never came up: {}", missing.join(", "));
     }
     println!(
-        "{count} plans from seed {first}, {bytes} bytes, {different} different, {:.1} s",
+        "{count} plans from seed {first}, {bytes} bytes, and as many lists to pack, {different} different, {:.1} s",
         began.elapsed().as_secs_f64()
     );
     if different == 0 && (count < 10_000 || missing.is_empty()) {

@@ -28,6 +28,10 @@ pub fn said<R: Numbered>(result: Result<usize, R>) -> String {
     result.map_or_else(refused, |reads| format!("reads {reads}"))
 }
 
+pub fn written<R: Numbered>(result: Result<usize, R>) -> String {
+    result.map_or_else(refused, |bytes| format!("bytes {bytes}"))
+}
+
 pub fn judged<R: Numbered>(result: Result<bool, R>) -> String {
     result.map_or_else(refused, |yes| if yes { "yes" } else { "no" }.to_string())
 }

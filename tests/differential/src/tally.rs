@@ -6,9 +6,10 @@ use std::collections::BTreeMap;
 pub struct Tally(BTreeMap<&'static str, BTreeMap<String, u64>>);
 
 impl Tally {
-    /// Counts a result; all numbers of reads are one kind.
+    /// Counts a result; all numbers of reads are one kind, and all numbers of bytes.
     pub fn count(&mut self, operation: &'static str, result: &str) {
-        let kind = if result.starts_with("reads") { "reads" } else { result };
+        let counted = ["reads", "bytes"].into_iter().find(|kind| result.starts_with(kind));
+        let kind = counted.unwrap_or(result);
         let kinds = self.0.entry(operation).or_default();
         match kinds.get_mut(kind) {
             Some(count) => *count += 1,
@@ -28,11 +29,12 @@ impl Tally {
 
     /// Refusals that never came up.
     pub fn missing(&self) -> Vec<String> {
-        let wanted: [(&str, &[u32]); 4] = [
+        let wanted: [(&str, &[u32]); 5] = [
             ("check", &[1, 2, 3, 4, 5, 6, 7, 8]),
             ("play", &[1, 2, 3, 4, 5, 6, 7, 8, 9, 10]),
             ("look", &[1, 2, 3, 4, 5, 6, 7, 8, 10, 11]),
             ("judge", &[1, 2, 3, 4, 5, 6, 7, 8, 12, 13]),
+            ("pack", &[2, 3, 4, 5, 6, 7, 8, 14]),
         ];
         let came_up = |operation, number: u32| {
             let kinds = self.0.get(operation);

@@ -213,11 +213,11 @@ fn workspace_length(random: &mut Random) -> usize {
     }
 }
 
-fn same<T: PartialEq + std::fmt::Debug>(about: &str, got: T, wanted: T) -> Result<(), String> {
+pub fn same<T: PartialEq + std::fmt::Debug>(about: &str, got: T, wanted: T) -> Result<(), String> {
     holds(got == wanted, &format!("{about}: the library says {got:?}, plain {wanted:?}"))
 }
 
-fn holds(fact: bool, otherwise: &str) -> Result<(), String> {
+pub fn holds(fact: bool, otherwise: &str) -> Result<(), String> {
     if fact {
         Ok(())
     } else {

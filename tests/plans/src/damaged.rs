@@ -9,16 +9,31 @@ pub fn damaged(random: &mut Random, size: Size) -> Vec<u8> {
     let mut parts = accepted(random, size);
     match random.below(12) {
         0 => return cut_or_lengthened(random, parts.pack()),
-        1 => change_header(random, &mut parts),
-        2 => change_counts(random, &mut parts),
-        3 | 4 => change_placement(random, &mut parts),
-        5 | 6 => change_operation(random, &mut parts),
-        7 | 8 => change_forgery(random, &mut parts),
-        9 => change_delay(random, &mut parts),
         10 => return flipped(random, parts.pack()),
-        _ => return noise(random),
+        11 => return noise(random),
+        kind => change(random, &mut parts, kind),
     }
     parts.pack()
+}
+
+/// The parts of a plan that has most likely a fault.
+pub fn spoilt(random: &mut Random, size: Size) -> Parts {
+    let mut parts = accepted(random, size);
+    let kind = random.between(1, 9);
+    change(random, &mut parts, kind);
+    parts
+}
+
+/// A change by its kind, 1 to 9.
+fn change(random: &mut Random, parts: &mut Parts, kind: usize) {
+    match kind {
+        1 => change_header(random, parts),
+        2 => change_counts(random, parts),
+        3 | 4 => change_placement(random, parts),
+        5 | 6 => change_operation(random, parts),
+        7 | 8 => change_forgery(random, parts),
+        _ => change_delay(random, parts),
+    }
 }
 
 fn cut_or_lengthened(random: &mut Random, mut bytes: Vec<u8>) -> Vec<u8> {

@@ -3,11 +3,15 @@
 #![forbid(unsafe_code)]
 
 mod accepted;
+mod bent;
 mod damaged;
+mod lists;
 mod parts;
 mod random;
 
 pub use accepted::{accepted, Size};
+pub use bent::some_lists;
 pub use damaged::damaged;
+pub use lists::Lists;
 pub use parts::{Forgery, Operation, Parts};
 pub use random::Random;

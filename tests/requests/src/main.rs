@@ -1,8 +1,9 @@
 //! Answers many requests with the proved library: for each record on standard input one line on
 //! standard output.
 //!
-//! A record is a letter, then the plan and, where the letter asks for it, more; numbers are 8 bytes,
-//! big-endian, and byte strings have their length before them.
+//! A record is a letter, then what the letter asks for; numbers are 8 bytes, big-endian, and byte
+//! strings have their length before them. A list is a byte string with 4 bytes for each of its
+//! numbers, big-endian.
 //!   c plan                   Check, and the numbers of the header
 //!   p plan                   the lines that the program prints, joined by `|`
 //!   b plan buffer workspace  Play into lent bytes of those lengths
@@ -10,16 +11,19 @@
 //!                            Look with lent bytes of those lengths
 //!   t plan                   every look
 //!   j plan answers           Judge
-//! Lent bytes start as 1, 2, 3 .. modulo 251. Those of answers and pairs are printed in hex, a workspace
-//! as `kept` if no byte has changed, `cleared` if the first 60,000 are zero and the rest unchanged.
+//!   k header placements operations forgeries delays buffer
+//!                            Pack of these lists into a lent buffer of that length
+//! Lent bytes start as 1, 2, 3 .. modulo 251. Those of answers, pairs and packed plans are printed in hex,
+//! a workspace as `kept` if no byte has changed, `cleared` if the first 60,000 are zero and the rest
+//! unchanged.
 
 mod records;
 
 use std::io::{self, Read, Write};
 
 use register::{
-    answers, check, judge, look, look_into, play, Condition, Plan, Refusal, ANSWER_BYTES,
-    WORKSPACE_BYTES,
+    answers, check, judge, look, look_into, pack, play, Condition, Lists, Plan, Refusal,
+    ANSWER_BYTES, WORKSPACE_BYTES,
 };
 
 use records::Records;
@@ -29,7 +33,9 @@ fn lent(length: usize) -> Vec<u8> {
 }
 
 fn hex(bytes: &[u8]) -> String {
-    bytes.iter().fold("x".to_string(), |text, byte| format!("{text}{byte:02x}"))
+    let digits = bytes.iter().flat_map(|byte| [byte >> 4, byte & 15]);
+    let digits = digits.filter_map(|digit| char::from_digit(digit.into(), 16));
+    std::iter::once('x').chain(digits).collect()
 }
 
 fn state(workspace: &[u8]) -> &'static str {
@@ -128,9 +134,25 @@ fn judged(plan: &[u8], answers: &[u8]) -> Result<String, Refusal> {
     judge(plan, answers).map(|yes| if yes { "yes" } else { "no" }.to_string())
 }
 
+fn packed(lists: &Lists, buffer: usize) -> String {
+    let mut buffer = lent(buffer);
+    let result = pack(lists, &mut buffer);
+    let said = result.map_or_else(refused, |bytes| format!("bytes {bytes}"));
+    format!("{said} {}", hex(&buffer))
+}
+
 /// The answer to the first of the records; nothing if it is none.
 fn answer(records: &mut Records) -> Option<String> {
-    let letter = records.letter()?;
+    match records.letter()? {
+        b'k' => {
+            let lists = records.lists()?;
+            Some(packed(&lists, records.number()?))
+        }
+        letter => about_a_plan(letter, records),
+    }
+}
+
+fn about_a_plan(letter: u8, records: &mut Records) -> Option<String> {
     let plan = records.string()?;
     let result = match letter {
         b'c' => checked(plan),

@@ -1,5 +1,7 @@
 //! Records taken from bytes, front to back.
 
+use register::Lists;
+
 pub struct Records<'a>(&'a [u8]);
 
 impl<'a> Records<'a> {
@@ -23,6 +25,21 @@ impl<'a> Records<'a> {
     pub fn string(&mut self) -> Option<&'a [u8]> {
         let length = self.number()?;
         self.bytes(length)
+    }
+
+    pub fn lists(&mut self) -> Option<Lists> {
+        Some(Lists {
+            header: self.list()?,
+            placements: self.list()?,
+            operations: self.list()?,
+            forgeries: self.list()?,
+            delays: self.list()?,
+        })
+    }
+
+    fn list(&mut self) -> Option<Vec<u32>> {
+        let numbers = self.string()?.chunks(4);
+        numbers.map(|number| number.try_into().ok().map(u32::from_be_bytes)).collect()
     }
 
     fn bytes(&mut self, length: usize) -> Option<&'a [u8]> {
