@@ -8,6 +8,7 @@ use native.Mathlib.Omega.{arith}
 use lib.Dec.{T, eqb, eqb→eq}
 use lib.ListN.{length}
 use Rattle.bits.specs.Field.{bitOf, fieldOf}
+use Rattle.bits.specs.Layout
 use Rattle.register.specs.Lists
 use Rattle.register.specs.Plan
 use Rattle.register.specs.Server
@@ -25,11 +26,12 @@ use Rattle.simulator.specs.Look
 use Rattle.simulator.specs.Judge
 use Rattle.decimal.specs.Decimal
 use Rattle.lines.specs.Text
+use Rattle.cases.specs.Hex
 use Rattle.cases.specs.Starred as S
 
 -- every definition that a row computes with, opened under one name
 unfoldable pub opened : List ℕ → Check.Outcome ℕ
-unfolding bitOf fieldOf Lists.count Lists.anyUpTo Lists.allUpTo Lists.tabFrom Lists.flat Lists.any Lists.filter Lists.distinct Lists.highest Lists.sameList Plan.stamped Plan.valueOf Plan.numberOf Plan.kOf Plan.isMove Server.claimOf Server.has Server.pairsOf Server.insert Server.insertAll Server.takeIn Server.quorum Server.votedIn Server.deliver Server.stage1 Server.stage2 Server.moved Server.stage3 Server.stage4 Cluster.sentIn Cluster.writesIn Cluster.readsIn Cluster.votesFrom Cluster.forgedIn Cluster.votesIn Cluster.step Cluster.serverOf Cluster.tick Cluster.cluster Reading.sameRead Reading.replyFrom Reading.forgedTo Reading.noted Reading.notedBy Reading.countIn Reading.best Reading.answerFrom Regular.finished Regular.concurrent Regular.lastFinished Regular.allowed Header.headerOf Header.moves Parts.inPlacement Parts.operationOf Parts.forgeryOf Parts.delayOf Parts.operationsOf Parts.isLink Parts.writesFrom Parts.readsFrom Packed.planOf Check.headerInRange Check.enoughServers Check.endOf Check.placementStands Check.operationRises Check.operationWaits Check.operationStands Check.readOpen Check.forgeryRises Check.forgeryStands Check.delayStands Check.finalBitsZero Check.placementsStand Check.operationsStand Check.forgeriesStand Check.delaysStand Check.checkOf Answers.bytesOf Answers.packed Answers.answerBytes Answers.answersFor Answers.answersOf Answers.beginIn Answers.readerIn Answers.pairIn Answers.zeroIn Look.conditionOf Look.shownBy Judge.answerFits Judge.answerAllowed Judge.judgeAfter Judge.judgeOf Decimal.digitsWithin Decimal.decimalOf Text.lineWith Text.lineOf Text.linesFor Text.textAfter Text.textOf S.k-one S.k-two S.period-short S.five S.four S.six S.five-two S.no-reads S.one-read S.written S.takeover S.just-set S.just-written S.from-the-start S.reads-one S.starred S.ended-as-begun
+unfolding bitOf fieldOf Lists.count Lists.anyUpTo Lists.allUpTo Lists.tabFrom Lists.flat Lists.any Lists.filter Lists.distinct Lists.highest Lists.sameList Plan.stamped Plan.valueOf Plan.numberOf Plan.kOf Plan.isMove Server.claimOf Server.has Server.pairsOf Server.insert Server.insertAll Server.takeIn Server.quorum Server.votedIn Server.deliver Server.stage1 Server.stage2 Server.moved Server.stage3 Server.stage4 Cluster.sentIn Cluster.writesIn Cluster.readsIn Cluster.votesFrom Cluster.forgedIn Cluster.votesIn Cluster.step Cluster.serverOf Cluster.tick Cluster.cluster Reading.sameRead Reading.replyFrom Reading.forgedTo Reading.noted Reading.notedBy Reading.countIn Reading.best Reading.answerFrom Regular.finished Regular.concurrent Regular.lastFinished Regular.allowed Header.headerOf Header.moves Parts.inPlacement Parts.operationOf Parts.forgeryOf Parts.delayOf Parts.operationsOf Parts.isLink Parts.writesFrom Parts.readsFrom Packed.planOf Check.headerInRange Check.enoughServers Check.endOf Check.placementStands Check.operationRises Check.operationWaits Check.operationStands Check.readOpen Check.forgeryRises Check.forgeryStands Check.delayStands Check.finalBitsZero Check.placementsStand Check.operationsStand Check.forgeriesStand Check.delaysStand Check.checkOf Layout.bitsOf Layout.packedBits Layout.wordOf Layout.bytesOf Layout.inBytes Hex.hex Answers.answerBytes Answers.answersFor Answers.answersOf Answers.beginIn Answers.readerIn Answers.pairIn Answers.zeroIn Look.conditionOf Look.shownBy Judge.answerFits Judge.answerAllowed Judge.judgeAfter Judge.judgeOf Decimal.digitsWithin Decimal.decimalOf Text.lineWith Text.lineOf Text.linesFor Text.textAfter Text.textOf S.k-one S.k-two S.period-short S.five S.four S.six S.five-two S.no-reads S.one-read S.written S.takeover S.just-set S.just-written S.from-the-start S.reads-one S.starred S.ended-as-begun
 opened s = Check.checkOf 16 s
 
 -- Tests for equality, each with the law that it is one.
