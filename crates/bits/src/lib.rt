@@ -1,5 +1,5 @@
 ghost use mathlib.Core.Path.{_≡_};
-ghost use Prim.Native.Nat.{_+_, _*_, _-_, _%_, _^_, _≤_, _<_};
+ghost use Prim.Native.Nat.{_+_, _*_, _-_, _/_, _%_, _^_, _≤_, _<_};
 ghost use lib.ListN.{length};
 ghost use Rattle.bits.specs.Field.{fieldOf};
 ghost use Rattle.bits.specs.Fill.{fill};
@@ -79,16 +79,30 @@ pub fn behind(x: u64, width: usize, y: u64) -> u64
     (x << width) + y % (1 << width)
 }
 
-// Writes the lowest `width` bits of the number into those from bit `at` on; every other bit stays:
-// the bytes that hold them are put together anew, of the bits above, the field and the bits below.
+// Writes a field into the n bytes from the one that holds its first bit on. They are put together anew, of the bits above, the field and the bits below.
+fn put_in(out: &mut [u8], at: usize, width: usize, value: u64, n: usize)
+    requires { ⌜ (width ≤ 57) × (at % 8 + width ≤ 8 * n) × (8 * n < at % 8 + width + 64) × (n ≤ 8) × (at / 8 + n ≤ length (now out)) ⌝ }
+    ensures { λ _. ⌜ Wrote (now (out .entry)) (now (out .exit)) at (bitsOf width value) ⌝ }
+{
+    let low = 8 * n - at % 8 - width;
+    let all = bytes_from(out, at / 8, n);
+    let above = behind(all >> low >> width, width, value);
+    put_bytes(out, at / 8, n, behind(above, low, all));
+}
+
+// Writes the lowest `width` bits of the number into those from bit `at` on; every other bit stays. Where eight bytes are there, it takes so many: the
+// compiler makes one load and one store of them.
 pub fn put(out: &mut [u8], at: usize, width: usize, value: u64)
     requires { ⌜ (width ≤ 57) × (at + width ≤ 8 * length (now out)) × (at < 2 ^ 60) ⌝ }
     ensures { λ _. ⌜ Wrote (now (out .entry)) (now (out .exit)) at (bitsOf width value) ⌝ }
 {
-    let off = at % 8;
-    let low = fill(off + width);
-    let n = (off + width + low) / 8;
-    let all = bytes_from(out, at / 8, n);
-    let above = behind(all >> low >> width, width, value);
-    put_bytes(out, at / 8, n, behind(above, low, all));
+    if width == 0 {
+        return;
+    }
+    if out.len() < at / 8 + 8 {
+        let used = at % 8 + width;
+        put_in(out, at, width, value, (used + fill(used)) / 8);
+        return;
+    }
+    put_in(out, at, width, value, 8);
 }

@@ -5,7 +5,7 @@ use mathlib.Core.List.{List}
 use Prim.Native.Nat.{ℕ, _+_, _*_, _-_, _≤_}
 use native.Mathlib.Omega.{arith}
 use lib.ListN.{length, take, drop, getD, length-drop, length-take, List·getD-eq-default}
-use lib.Seq.{take-all, getD-take}
+use lib.Seq.{take-all}
 use Rattle.bits.proofs.Numbers.{numbers-part}
 use Rattle.answers.specs.Answers.{answerSize, answerWidths, answerNumbers}
 

@@ -2,7 +2,7 @@
 -- It stands on what Check accepts and on where the operations stand in the plan's bits.
 use mathlib.Core.Path.{_≡_, sym, ap}
 use mathlib.Core.List.{List}
-use Prim.Native.Nat.{ℕ, _+_, _*_, _≤_, _<_}
+use Prim.Native.Nat.{ℕ, _≤_, _<_}
 use native.Mathlib.Omega.{arith}
 use lib.ListN.{getD}
 use Rattle.register.specs.Lists.{tab, allUpTo}

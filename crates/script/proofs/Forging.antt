@@ -7,12 +7,10 @@ use native.Mathlib.Nat.{add-assoc}
 use native.Mathlib.Omega.{arith}
 use lib.ListN.{length, take, drop, length-drop}
 use lib.Seq.{take-all}
-use Rattle.bits.specs.Field.{fieldOf}
-use Rattle.bits.proofs.Laws.{field-lt, field-part}
-use Rattle.register.specs.Plan.{Forgery, stamped}
+use Rattle.bits.proofs.Laws.{field-part}
+use Rattle.register.specs.Plan.{Forgery}
 use Rattle.plan.specs as plan-specs
 use Rattle.plan.specs.Header.{Header, headerOf, operationAt}
-use Rattle.register.proofs.Stamped.{value-stamped, number-stamped}
 use Rattle.plan.proofs.Accept.{in-range}
 use Rattle.serving.specs as serving-specs
 use Rattle.calendar.specs.Layout.{places}

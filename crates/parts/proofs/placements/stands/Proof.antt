@@ -1,5 +1,4 @@
 -- `placements::stands` meets its contract: the ones are counted by the machine.
-use Prim.Native.Nat.{_+_, _*_}
 use native.Mathlib.Omega.{arith}
 use lib.Pow.{pow-mono}
 use borrow.Author.Tests.{lt-leb, le-leb}

@@ -1,5 +1,5 @@
 -- `header::Shape::of` meets its contract: each number fits, by the widths.
-use mathlib.Core.Path.{_≡_, refl}
+use mathlib.Core.Path.{_≡_}
 use mathlib.Core.Bool.{true}
 use mathlib.Core.List.{List}
 use Prim.Native.Nat.{ℕ, _^_, _<_}
@@ -7,7 +7,6 @@ use native.Mathlib.Nat.{lt-of-lt-of-le}
 use lib.Dec.{T, ltb, leb, ltb→lt, leb→le}
 use lib.Pow.{pow-mono}
 use lib.ListN.{length, getD}
-use denote.Ref.{now}
 use borrow.Author.Needs.{needs}
 use Rattle.bits.specs.Layout.{fits}
 use Rattle.bits.proofs.Packing.{fits-length, fits-at}
