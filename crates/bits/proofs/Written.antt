@@ -89,16 +89,17 @@ pub behind-lt : {x : ℕ} (j w y : ℕ) → x < 2 ^ j → x * 2 ^ w + y % 2 ^ w 
 behind-lt j w y h = rw pow-add (digits-lt h (mod-lt y (pow-pos w)))
 
 -- a field that is put between its neighbours, which are taken out of the whole and put back
-pub wrote-field : {s t : List ℕ} (p x w y value : ℕ)
-    → Wrote s t p (bitsOf (x + w + y) ((fieldOf s p (x + w + y) / 2 ^ y / 2 ^ w * 2 ^ w + value % 2 ^ w) * 2 ^ y + fieldOf s p (x + w + y) % 2 ^ y))
+pub wrote-field : {s t : List ℕ} (p m x w y value : ℕ) → m ≡ x + w + y
+    → Wrote s t p (bitsOf m ((fieldOf s p m / 2 ^ y / 2 ^ w * 2 ^ w + value % 2 ^ w) * 2 ^ y + fieldOf s p m % 2 ^ y))
     → Wrote s t (p + x) (bitsOf w value)
-wrote-field {s} {t} p x w y value f =
+wrote-field {s} {t} p m x w y value e g =
+    let f = rw e at g in
     let above = fieldOf s p x in
     let below = fieldOf s (p + (x + w)) y in
     let bits : bitsOf (x + w + y) ((above * 2 ^ w + value % 2 ^ w) * 2 ^ y + below) ≡ bitsOf x above ++ (bitsOf w value ++ bitsOf y below) =
     rw (bits-split (x + w) y (above * 2 ^ w + value % 2 ^ w) below (field-lt s (p + (x + w)) y), bits-split x w above (value % 2 ^ w) (mod-lt value (pow-pos w)), bits-low, append-assoc) in
     rw (length-bitsOf x above) at
     (wrote-inside (bitsOf x above) (bitsOf w value) (bitsOf y below)
-    (rw (field-above s p x w y, ← field-last s p (x + w) y, bits) at f)
+    (rw (field-above s p (x + w + y) x w y refl, ← field-last s p (x + w) y, bits) at f)
     (λ i h. bits-field s p x i (rw length-bitsOf at h))
     (λ i h. rw (length-bitsOf, length-bitsOf, add-assoc p x w) (bits-field s (p + (x + w)) y i (rw length-bitsOf at h))))
