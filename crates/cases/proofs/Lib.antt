@@ -1,3 +1,4 @@
 pub mod Starred
 pub mod NotEmpty
 pub mod JustSet
+pub mod Packed
