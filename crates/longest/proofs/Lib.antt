@@ -1,3 +1,3 @@
-pub mod Parts
 pub mod Passes
+pub mod Parts
 pub mod Longest

@@ -1,38 +1,22 @@
--- What the parts of the longest plan hold, computed part by part: each test looks at a few bytes.
+-- What the tests of Check ask of the longest plan's lists, computed: each looks at a few numbers.
 -- It stands on the definition of the plan.
 use mathlib.Core.Path.{_≡_, refl}
 use mathlib.Core.Bool.{Bool, true, not, _&&_, _||_}
-use Prim.Native.Nat.{ℕ, _+_, _*_, _-_, _/_, _%_}
+use Prim.Native.Nat.{ℕ, _+_, _*_, _-_, _/_, _%_, _^_}
 use lib.Dec.{leb, ltb, eqb}
-use Rattle.bits.specs.Field.{bitOf, fieldOf}
-use Rattle.register.specs.Lists.{allUpTo, count, tabFrom}
-use Rattle.register.specs.Plan.{kOf}
-use Rattle.plan.specs.Header.{Header, moves, bitLength}
-use Rattle.plan.specs.Limits.{impliedBytes}
-use Rattle.plan.specs.Parts.{Operation}
 use Rattle.bits.specs.Fill.{bytesFor}
+use Rattle.bits.specs.Layout.{fits}
+use Rattle.register.specs.Lists.{allUpTo, count}
+use Rattle.register.specs.Plan.{kOf}
+use Rattle.plan.specs.Widths.{operationWidths}
+use Rattle.plan.specs.Header.{Header, headerFrom, moves, bitLength}
+use Rattle.plan.specs.Limits.{impliedBytes}
+use Rattle.plan.specs.Parts.{Operation, operationFrom}
 use Rattle.plan.specs.Check.{headerInRange, enoughServers, endOf}
-use Rattle.longest.specs.Longest.{headerBytes, placement, begunAt, partyOf, operationWord, operationsWord, operationBytes, forgeryBytes}
+use Rattle.longest.specs.Longest.{begunAt, partyOf, operationNumbers, longestLists}
 
 abbrev pub header : Header
-header = record {
-  n = 16;
-  f = 1;
-  delta = 1;
-  period = 1;
-  readers = 4;
-  ticks = 128;
-  initial = 0;
-  operations = 232;
-  forgeries = 1024;
-  zero-bit = 0;
-}
-
-pub header-fields : (fieldOf headerBytes 0 5 ≡ 16) × (fieldOf headerBytes 5 2 ≡ 1) × (fieldOf headerBytes 7 4 ≡ 1) × (fieldOf headerBytes 11 6 ≡ 1)
-    × (fieldOf headerBytes 17 3 ≡ 4) × (fieldOf headerBytes 20 8 ≡ 128) × (fieldOf headerBytes 28 16 ≡ 0) × (fieldOf headerBytes 44 8 ≡ 232)
-    × (fieldOf headerBytes 52 11 ≡ 1024) × (fieldOf headerBytes 63 1 ≡ 0)
-unfolding fieldOf bitOf headerBytes
-header-fields = (refl, refl, refl, refl, refl, refl, refl, refl, refl, refl)
+header = headerFrom (longestLists .header)
 
 pub in-range : headerInRange header ≡ true
 unfolding headerInRange
@@ -66,30 +50,24 @@ unfolding headerInRange moves
 implied-reached = (refl, refl)
 
 -- one faulty server
-pub one-faulty : count (λ b. eqb (fieldOf placement b 1) 1) 16 ≡ 1
-unfolding fieldOf bitOf placement count
+pub one-faulty : count (λ b. eqb (0x8000 / 2 ^ (15 - b) % 2) 1) 16 ≡ 1
+unfolding count
 one-faulty = refl
-
-pub zero-faulty : eqb (fieldOf placement 0 1) 1 ≡ true
-unfolding fieldOf bitOf placement
-zero-faulty = refl
 
 -- operation i, and its place in the order
 abbrev pub operation : ℕ → Operation
-operation i = record { at = begunAt i; party = partyOf i; value = 0 }
+operation i = operationFrom (operationNumbers i)
 
 abbrev pub key : ℕ → ℕ
 key i = begunAt i * 8 + partyOf i
 
-unfoldable pub decodes : ℕ → Bool
-decodes i =
-    eqb (fieldOf (operationBytes (i / 4)) (26 * (i % 4)) 7) (begunAt i)
-    && (eqb (fieldOf (operationBytes (i / 4)) (26 * (i % 4) + 7) 3) (partyOf i)
-    && eqb (fieldOf (operationBytes (i / 4)) (26 * (i % 4) + 10) 16) 0)
+-- its numbers fit
+unfoldable pub narrow : ℕ → Bool
+narrow i = fits (operationWidths 16) (operationNumbers i)
 
-pub all-decode : allUpTo 232 decodes ≡ true
-unfolding allUpTo decodes fieldOf bitOf tabFrom operationBytes operationsWord operationWord begunAt partyOf
-all-decode = refl
+pub all-narrow : allUpTo 232 narrow ≡ true
+unfolding allUpTo narrow fits begunAt partyOf
+all-narrow = refl
 
 unfoldable pub stands : ℕ → Bool
 stands i =
@@ -105,14 +83,3 @@ all-stand = refl
 pub reads : count (λ j. not (eqb (partyOf j) 0)) 232 ≡ 168
 unfolding count partyOf
 reads = refl
-
-unfoldable pub forges : ℕ → Bool
-forges i =
-    eqb (fieldOf (forgeryBytes i) 0 7) (i / 8)
-    && (eqb (fieldOf (forgeryBytes i) 7 4) 0
-    && (eqb (fieldOf (forgeryBytes i) 11 5) (i % 8 + 1)
-    && (eqb i 0 || ltb (fieldOf (forgeryBytes (i - 1)) 0 40) (fieldOf (forgeryBytes i) 0 40))))
-
-pub all-forge : allUpTo 1024 forges ≡ true
-unfolding allUpTo forges fieldOf bitOf forgeryBytes
-all-forge = refl
