@@ -7,7 +7,7 @@ use Rattle.plan.specs.Check.{refused, result}
 use Rattle.bits.specs.Layout as Layout
 use Rattle.lists.specs.Lists as lists
 use Rattle.pack.specs.Pack as pack
-use Rattle.pack.specs.Pack.{Packed, packOf}
+use Rattle.pack.specs.Pack.{packOf}
 use Rattle.cases.specs.Starred as S
 use Rattle.cases.specs.Lists.{firstLists, nineNumbers, wideParty}
 use Rattle.cases.proofs.Starred.{opened}

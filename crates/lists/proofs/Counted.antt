@@ -1,12 +1,12 @@
 -- The reads of a plan are those that its list of operations says.
 -- It stands on the law of a record among others, and on that of the reads of a plan.
-use mathlib.Core.Path.{_≡_, _∙_, refl, ap, sym}
+use mathlib.Core.Path.{_≡_, _∙_, ap, sym}
 use mathlib.Core.Bool.{not}
 use mathlib.Core.List.{List}
 use Prim.Native.Nat.{ℕ, _+_, _*_, _<_}
 use native.Mathlib.Omega.{arith}
 use lib.Dec.{eqb, lit<}
-use lib.ListN.{length, getD, take, drop}
+use lib.ListN.{length, getD, drop}
 use lib.Seq.{getD-take, getD-drop}
 use Rattle.bits.specs.Layout.{total, numbersAt}
 use Rattle.bits.proofs.Records.{record-at}

@@ -1,15 +1,14 @@
 -- Lists packed and read back, and a plan read and packed again, for every width of a value.
 -- It stands on the laws of packing by lists of widths.
-use mathlib.Core.Path.{_≡_, _∙_, refl, ap, sym, subst}
+use mathlib.Core.Path.{_≡_, _∙_, refl, ap, sym}
 use mathlib.Core.Bool.{true}
 use mathlib.Core.List.{List, [], _++_, append-assoc, append-nil}
-use Prim.Native.Nat.{ℕ, zero, suc, _+_, _*_}
+use Prim.Native.Nat.{ℕ, _+_, _*_}
 use native.Mathlib.Omega.{arith}
 use lib.Dec.{lit<}
 use lib.ListN.{length, length-append}
-use Rattle.bits.specs.Field.{fieldOf}
-use Rattle.bits.specs.Fill.{fill, bytesFor}
-use Rattle.bits.specs.Layout.{total, records, numbersAt, fits, bitsOf, packedBits, inBytes}
+use Rattle.bits.specs.Fill.{bytesFor}
+use Rattle.bits.specs.Layout.{total, records, numbersAt, fits, packedBits}
 use Rattle.bits.proofs.Packing as packing
 use Rattle.bits.proofs.Packing.{Small}
 use Rattle.bits.proofs.Records as record-laws

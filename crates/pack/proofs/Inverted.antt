@@ -2,29 +2,24 @@
 -- It stands on the laws of the lists, and on what Check accepts.
 use mathlib.Core.Path.{_≡_, _∙_, refl, ap, sym}
 use mathlib.Core.Bool.{true, _&&_, and-eq-true-iff}
-use mathlib.Core.List.{List, _++_}
-use Prim.Native.Nat.{ℕ, _*_, _≤_}
+use mathlib.Core.List.{List}
+use Prim.Native.Nat.{ℕ, _≤_}
 use native.Mathlib.Omega.{arith}
-use lib.Dec.{T, leb, eqb, eqb→eq}
-use lib.ListN.{length, drop}
+use lib.ListN.{length}
 use borrow.Author.Tests.{le-leb, eq-eqb, eqb-true}
-use Rattle.bits.specs.Field.{fieldOf, Bytes}
-use Rattle.bits.specs.Fill.{fill, bytesFor}
-use Rattle.bits.proofs.Packing.{in-final}
-use Rattle.register.proofs.Logic.{T-eq}
-use Rattle.plan.specs.Header.{Header, headerOf, headerBits, bitLength}
+use Rattle.bits.specs.{Field.fieldOf, Field.Bytes, Fill.fill, Fill.bytesFor}
+use Rattle.bits.proofs.{Packing.in-final}
+use Rattle.register.proofs.{Logic.T-eq}
+use Rattle.plan.specs.{Header.headerOf, Header.headerBits, Header.bitLength, Check.result, Check.checkOf}
 use Rattle.plan.specs.Check as check
-use Rattle.plan.specs.Check.{result, checkOf}
 use Rattle.plan.proofs.Accept as accept
-use Rattle.plan.proofs.Final.{bytes-rounded}
-use Rattle.lists.specs.Lists as lists
-use Rattle.lists.specs.Lists.{Lists, listed, listsOf, packedPlan, planBits, readsListed}
+use Rattle.plan.proofs.{Final.bytes-rounded}
+use Rattle.lists.specs.{Lists.Lists, Lists.listed, Lists.listsOf, Lists.packedPlan, Lists.planBits, Lists.readsListed}
 use Rattle.lists.proofs.Inverse as inverse
 use Rattle.lists.proofs.Again as again
-use Rattle.lists.proofs.Counted.{reads-listed}
-use Rattle.pack.specs.Pack.{lengthsImplied, packTests, packInto, packOf}
-use Rattle.pack.specs.Inverse.{PacksWell, IsPacking}
-use Rattle.pack.proofs.Tests.{Passed, tests-passed, passes-tests, outcome-tests}
+use Rattle.lists.proofs.{Counted.reads-listed}
+use Rattle.pack.specs.{Pack.lengthsImplied, Pack.packInto, Pack.packOf, Inverse.PacksWell, Inverse.IsPacking}
+use Rattle.pack.proofs.{Tests.Passed, Tests.tests-passed, Tests.passes-tests, Tests.outcome-tests}
 
 -- lists that fit have the lengths that the header implies
 fit-lengths : (w : ℕ) (l : Lists) → inverse.Fit w l → lengthsImplied w (listed w l) l ≡ true

@@ -1,30 +1,22 @@
 -- What the tests of the header and of the lengths leave: the lists packed into zero bytes are a plan that the parts' tests can be asked of.
 -- It stands on the laws of the lists and of bits written over zeros.
-use mathlib.Core.Path.{_≡_, _∙_, refl, ap, sym}
+use mathlib.Core.Path.{_≡_, _∙_, sym}
 use mathlib.Core.Bool.{Bool, true, _&&_, and-eq-true-iff}
-use mathlib.Core.List.{List, []}
+use mathlib.Core.List.{List}
 use Prim.Native.Nat.{ℕ, _*_, _≤_}
 use native.Mathlib.Omega.{arith}
 use lib.Dec.{eqb, lit<}
 use lib.ListN.{length, take, replicate}
 use borrow.Author.Tests.{eqb-true}
-use Rattle.bits.specs.Field.{Bytes}
-use Rattle.bits.specs.Fill.{bytesFor}
-use Rattle.bits.specs.Layout.{fits}
-use Rattle.bits.specs.Writing.{Wrote}
-use Rattle.bits.proofs.Packing.{fits-at}
-use Rattle.bits.proofs.Started.{fresh}
+use Rattle.bits.specs.{Field.Bytes, Fill.bytesFor, Layout.fits, Writing.Wrote}
+use Rattle.bits.proofs.{Packing.fits-at, Started.fresh}
 use Rattle.plan.specs.Widths as widths
-use Rattle.plan.specs.Header.{Header, headerOf, bitLength, moves, delayCount}
-use Rattle.plan.specs.Limits.{impliedBytes}
+use Rattle.plan.specs.{Header.Header, Header.headerOf, Header.bitLength, Header.moves, Header.delayCount, Limits.impliedBytes, Shape.Ranged, Shape.Sized}
 use Rattle.plan.specs.Check as check
-use Rattle.plan.specs.Shape.{Ranged, Sized}
-use Rattle.plan.proofs.Ranges.{ranged}
-use Rattle.plan.proofs.Sizes.{sizes, implied-few}
-use Rattle.lists.specs.Lists.{Lists, Full, listed, planBits, packedPlan}
+use Rattle.plan.proofs.{Ranges.ranged, Sizes.sizes, Sizes.implied-few}
+use Rattle.lists.specs.{Lists.Lists, Lists.Full, Lists.listed, Lists.planBits, Lists.packedPlan}
 use Rattle.lists.proofs.Inverse as inverse
-use Rattle.pack.specs.Pack.{lengthsImplied, partTests, packTests, packInto, packOf}
-use Rattle.pack.specs.Numbered.{partsFrom, Listed}
+use Rattle.pack.specs.{Pack.lengthsImplied, Pack.partTests, Pack.packTests, Pack.packInto, Pack.packOf, Numbered.partsFrom, Numbered.Listed}
 
 -- equal lengths, as the test has them
 same : (a b : ℕ) (rest : Bool) → eqb a b && rest ≡ true → (a ≡ b) × (rest ≡ true)

@@ -1,22 +1,21 @@
 -- The tests of Pack as facts, both ways.
 -- It stands on the definition of Pack.
-use mathlib.Core.Path.{_≡_, _∙_, refl, ap, sym}
+use mathlib.Core.Path.{_≡_, refl}
 use mathlib.Core.Bool.{Bool, true, _&&_, and-eq-true-iff}
 use mathlib.Core.List.{List}
-use Prim.Native.Nat.{ℕ, _*_, _≤_}
-use lib.Dec.{T, leb, eqb, leb→le}
+use Prim.Native.Nat.{ℕ}
+use lib.Dec.{leb}
 use lib.ListN.{length}
 use Rattle.bits.specs.Layout.{fits}
 use Rattle.register.proofs.Logic.{T-eq}
 use Rattle.plan.specs.Widths as widths
-use Rattle.plan.specs.Header.{Header, moves}
 use Rattle.plan.specs.Check as check
 use Rattle.plan.specs.Check.{Outcome, refused, result, unless}
 use Rattle.plan.proofs.Tests.{passed}
 use Rattle.lists.specs.Lists as lists
 use Rattle.lists.specs.Lists.{Lists, listed, packedPlan}
 use Rattle.lists.proofs.Inverse.{Fit}
-use Rattle.pack.specs.Pack.{Packed, lengthsImplied, partTests, packTests, packInto, packOf}
+use Rattle.pack.specs.Pack.{lengthsImplied, partTests, packTests, packInto, packOf}
 
 -- what all tests say together
 pub record Passed (w : ℕ) (l : Lists) (room : ℕ) : Type 0 where

@@ -1,8 +1,8 @@
 -- What the five writes leave, from the header that is listed: the plan's bits.
 -- It stands on the law of the parts written one behind the other.
-use mathlib.Core.Path.{_≡_, _∙_, sym}
+use mathlib.Core.Path.{_≡_, _∙_}
 use mathlib.Core.List.{List}
-use Prim.Native.Nat.{ℕ, _*_}
+use Prim.Native.Nat.{ℕ}
 use native.Mathlib.Nat.{one-mul}
 use lib.ListN.{length}
 use Rattle.bits.specs.Layout.{records, packedBits}

@@ -1,24 +1,17 @@
 -- `pack` meets its contract: the tests of the header and of the lengths, then those of the plan that the lists are packed to.
 use mathlib.Core.Path.{_≡_, _∙_, sym}
 use mathlib.Core.Bool.{true}
-use mathlib.Core.List.{List}
 use Prim.Native.Nat.{ℕ}
 use denote.Ref.{now}
 use lib.ListN.{take, length-replicate}
 use lib.Seq.{length-take-le}
 use native.Mathlib.Omega.{arith}
 use borrow.Author.Tests.{not-true, not-false}
-use Rattle.bits.specs.Layout.{fits}
-use Rattle.plan.specs.Widths.{headerWidths}
-use Rattle.plan.specs.Header.{Header}
-use Rattle.plan.specs.Limits.{impliedBytes}
-use Rattle.plan.specs.Check.{headerInRange, enoughServers}
-use Rattle.plan.specs.Shape.{shape}
-use Rattle.plan.proofs.Chain.{found}
-use Rattle.plan.proofs.Sizes.{implied-few}
-use Rattle.lists.specs.Lists.{Lists, Full, listed, packedPlan}
-use Rattle.pack.specs.Pack.{lengthsImplied, partTests, packTests, packInto, packOf}
-use Rattle.pack.specs.Numbered.{listsFrom, partsFrom, Listed}
+use Rattle.bits.specs.{Layout.fits}
+use Rattle.plan.specs.{Widths.headerWidths, Header.Header, Limits.impliedBytes, Check.headerInRange, Check.enoughServers, Shape.shape}
+use Rattle.plan.proofs.{Chain.found, Sizes.implied-few}
+use Rattle.lists.specs.{Lists.Lists, Lists.Full, Lists.listed, Lists.packedPlan}
+use Rattle.pack.specs.{Pack.lengthsImplied, Pack.partTests, Pack.packTests, Pack.packInto, Pack.packOf, Numbered.listsFrom, Numbered.partsFrom, Numbered.Listed}
 use Rattle.pack.proofs.Ready as ready
 use borrow.Author.Needs.{needs}
 use Rattle.pack.proofs.pack.Statement.{statement}
