@@ -52,4 +52,4 @@ shown-below s t b l =
 
 -- of Pack
 pub bytes-below : (l : Lists) (out : List ℕ) (m : ℕ) → packOf 16 l out .outcome ≡ result m → m < refusedFrom
-bytes-below l out m e = let p = packed-well 16 l out m e in omega (arith, p .bytes, longest (packedPlan 16 l) (readsListed l) (p .checked))
+bytes-below l out m e = let p = packed-well 16 l out m e in omega (arith, p .bytes, longest (packedPlan 16 l) (readsListed 16 l) (p .checked))

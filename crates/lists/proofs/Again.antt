@@ -34,7 +34,7 @@ module _ (w : ℕ) (s : List ℕ) where
   unfolding cut
   part vs at n e = rw (← e) (packed-numbers vs s at)
 
-  pub listed-same : listed w (listsOf w s) ≡ headerOf w s
+  pub listed-same : listed (listsOf w s) ≡ headerOf w s
   unfolding listsOf headerOf
   listed-same = refl
 
@@ -56,10 +56,10 @@ module _ (w : ℕ) (s : List ℕ) where
   all-bits =
       rw (
         part (widths.headerWidths w) 0 (header.headerBits w) refl,
-        part (lists.placementsWidths w h) (header.placementAt w 0) P (total-records widths.placementWidths (moves h)),
+        part (lists.placementsWidths h) (header.placementAt w 0) P (total-records widths.placementWidths (moves h)),
         part (lists.operationsWidths w h) (header.operationAt w h 0) O (total-records (widths.operationWidths w) (h .operations)),
         part (lists.forgeriesWidths w h) (header.forgeryAt w h 0) F (total-records (widths.forgeryWidths w) (h .forgeries)),
-        part (lists.delaysWidths w h) (header.delayAt w h 0 0 0) D (total-records widths.delayWidths (delayCount h)),
+        part (lists.delaysWidths h) (header.delayAt w h 0 0 0) D (total-records widths.delayWidths (delayCount h)),
         joins (header.forgeryAt w h 0) F D (header.delayAt w h 0 0 0) (omega arith),
         joins (header.operationAt w h 0) O (F + D) (header.forgeryAt w h 0) (omega arith),
         joins (header.placementAt w 0) P (O + (F + D)) (header.operationAt w h 0) (omega arith),

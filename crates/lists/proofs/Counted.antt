@@ -33,7 +33,7 @@ module _ (w : ℕ) (s : List ℕ) where
       ∙ ap (λ (xs : List ℕ). getD xs j 0) e
       ∙ ap (λ (at : ℕ). getD (numbersAt (operationWidths w) s at) j 0) place
 
-  pub reads-listed : length (planOf w s .reads) ≡ readsListed (listsOf w s)
+  pub reads-listed : length (planOf w s .reads) ≡ readsListed w (listsOf w s)
   unfolding planOf operationsOf operationOf listsOf headerOf h
   reads-listed =
       length-reads (h .operations) (operationOf w s h)

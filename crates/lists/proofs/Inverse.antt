@@ -20,21 +20,21 @@ use Rattle.lists.specs.Lists.{Lists, Full, listed, listsOf, planBits, pa
 -- every number fits its field, and there is one for each
 pub record Fit (w : ℕ) (l : Lists) : Type 0 where
   pub header : fits (widths.headerWidths w) (l .header) ≡ true
-  pub placements : fits (placementsWidths w (listed w l)) (l .placements) ≡ true
-  pub operations : fits (operationsWidths w (listed w l)) (l .operations) ≡ true
-  pub forgeries : fits (forgeriesWidths w (listed w l)) (l .forgeries) ≡ true
-  pub delays : fits (delaysWidths w (listed w l)) (l .delays) ≡ true
+  pub placements : fits (placementsWidths (listed l)) (l .placements) ≡ true
+  pub operations : fits (operationsWidths w (listed l)) (l .operations) ≡ true
+  pub forgeries : fits (forgeriesWidths w (listed l)) (l .forgeries) ≡ true
+  pub delays : fits (delaysWidths (listed l)) (l .delays) ≡ true
 
 -- so many records that fit have a number for each field, and so many bits
 records-full : (m : ℕ) (vs xs : List ℕ) → fits (records m vs) xs ≡ true → length xs ≡ length vs * m
 records-full m vs xs f = packing.fits-length (records m vs) xs f ∙ record-laws.length-records vs m
 
-pub fit-full : (w : ℕ) (l : Lists) → Fit w l → Full w (listed w l) l
+pub fit-full : (w : ℕ) (l : Lists) → Fit w l → Full w (listed l) l
 fit-full w l f = record {
-  placements = records-full (moves (listed w l)) widths.placementWidths (l .placements) (f .placements);
-  operations = records-full (listed w l .operations) (widths.operationWidths w) (l .operations) (f .operations);
-  forgeries = records-full (listed w l .forgeries) (widths.forgeryWidths w) (l .forgeries) (f .forgeries);
-  delays = records-full (delayCount (listed w l)) widths.delayWidths (l .delays) (f .delays);
+  placements = records-full (moves (listed l)) widths.placementWidths (l .placements) (f .placements);
+  operations = records-full (listed l .operations) (widths.operationWidths w) (l .operations) (f .operations);
+  forgeries = records-full (listed l .forgeries) (widths.forgeryWidths w) (l .forgeries) (f .forgeries);
+  delays = records-full (delayCount (listed l)) widths.delayWidths (l .delays) (f .delays);
 }
 
 records-total : (m : ℕ) (vs xs : List ℕ) → length xs ≡ length vs * m → length (packedBits (records m vs) xs) ≡ total vs * m
@@ -46,31 +46,31 @@ module _ (w : ℕ) (l : Lists) where
   H = packedBits (widths.headerWidths w) (l .header)
 
   abbrev pub P : List ℕ
-  P = packedBits (placementsWidths w (listed w l)) (l .placements)
+  P = packedBits (placementsWidths (listed l)) (l .placements)
 
   abbrev pub O : List ℕ
-  O = packedBits (operationsWidths w (listed w l)) (l .operations)
+  O = packedBits (operationsWidths w (listed l)) (l .operations)
 
   abbrev pub F : List ℕ
-  F = packedBits (forgeriesWidths w (listed w l)) (l .forgeries)
+  F = packedBits (forgeriesWidths w (listed l)) (l .forgeries)
 
   abbrev pub D : List ℕ
-  D = packedBits (delaysWidths w (listed w l)) (l .delays)
+  D = packedBits (delaysWidths (listed l)) (l .delays)
 
   small-H : Small H
   small-H = packing.packed-small (widths.headerWidths w) (l .header)
 
   small-P : Small P
-  small-P = packing.packed-small (placementsWidths w (listed w l)) (l .placements)
+  small-P = packing.packed-small (placementsWidths (listed l)) (l .placements)
 
   small-O : Small O
-  small-O = packing.packed-small (operationsWidths w (listed w l)) (l .operations)
+  small-O = packing.packed-small (operationsWidths w (listed l)) (l .operations)
 
   small-F : Small F
-  small-F = packing.packed-small (forgeriesWidths w (listed w l)) (l .forgeries)
+  small-F = packing.packed-small (forgeriesWidths w (listed l)) (l .forgeries)
 
   small-D : Small D
-  small-D = packing.packed-small (delaysWidths w (listed w l)) (l .delays)
+  small-D = packing.packed-small (delaysWidths (listed l)) (l .delays)
 
   -- what stands behind the operations, the placements, the header; what stands before the operations, the forgeries, the delays
   small-FD : Small (F ++ D)
@@ -107,53 +107,53 @@ module _ (w : ℕ) (l : Lists) where
   header-back f =
       part-back (widths.headerWidths w) (l .header) [] (P ++ (O ++ (F ++ D))) 0 f (λ i. lit< tt) small-POFD refl refl
 
-  pub header-same : fits (widths.headerWidths w) (l .header) ≡ true → headerOf w (packedPlan w l) ≡ listed w l
+  pub header-same : fits (widths.headerWidths w) (l .header) ≡ true → headerOf w (packedPlan w l) ≡ listed l
   unfolding headerOf
   header-same f = ap header.headerFrom (header-back f)
 
   h : Header
-  h = listed w l
+  h = listed l
 
   -- the same bits, joined from the left
   three : (X : List ℕ) → ((H ++ P) ++ O) ++ X ≡ H ++ (P ++ (O ++ X))
   three X = append-assoc (H ++ P) O X ∙ append-assoc H P (O ++ X)
 
-  module _ (fit : fits (widths.headerWidths w) (l .header) ≡ true) (full : Full w (listed w l) l) where
+  module _ (fit : fits (widths.headerWidths w) (l .header) ≡ true) (full : Full w (listed l) l) where
     -- where each part ends
     pub end-H : length H ≡ header.headerBits w
     end-H = packing.packed-length (widths.headerWidths w) (l .header) (packing.fits-length (widths.headerWidths w) (l .header) fit)
 
-    pub end-P : length (H ++ P) ≡ header.placementAt w (moves (listed w l))
-    end-P = length-append H P ∙ rw (end-H, records-total (moves (listed w l)) widths.placementWidths (l .placements) (full .placements))
+    pub end-P : length (H ++ P) ≡ header.placementAt w (moves (listed l))
+    end-P = length-append H P ∙ rw (end-H, records-total (moves (listed l)) widths.placementWidths (l .placements) (full .placements))
 
-    pub end-O : length ((H ++ P) ++ O) ≡ header.operationAt w (listed w l) (listed w l .operations)
-    end-O = length-append (H ++ P) O ∙ rw (end-P, records-total (listed w l .operations) (widths.operationWidths w) (l .operations) (full .operations))
+    pub end-O : length ((H ++ P) ++ O) ≡ header.operationAt w (listed l) (listed l .operations)
+    end-O = length-append (H ++ P) O ∙ rw (end-P, records-total (listed l .operations) (widths.operationWidths w) (l .operations) (full .operations))
 
-    pub end-F : length (((H ++ P) ++ O) ++ F) ≡ header.forgeryAt w (listed w l) (listed w l .forgeries)
-    end-F = length-append ((H ++ P) ++ O) F ∙ rw (end-O, records-total (listed w l .forgeries) (widths.forgeryWidths w) (l .forgeries) (full .forgeries))
+    pub end-F : length (((H ++ P) ++ O) ++ F) ≡ header.forgeryAt w (listed l) (listed l .forgeries)
+    end-F = length-append ((H ++ P) ++ O) F ∙ rw (end-O, records-total (listed l .forgeries) (widths.forgeryWidths w) (l .forgeries) (full .forgeries))
 
-    end-D : length ((((H ++ P) ++ O) ++ F) ++ D) ≡ bitLength w (listed w l)
-    end-D = length-append (((H ++ P) ++ O) ++ F) D ∙ rw (end-F, records-total (delayCount (listed w l)) widths.delayWidths (l .delays) (full .delays))
+    end-D : length ((((H ++ P) ++ O) ++ F) ++ D) ≡ bitLength w (listed l)
+    end-D = length-append (((H ++ P) ++ O) ++ F) D ∙ rw (end-F, records-total (delayCount (listed l)) widths.delayWidths (l .delays) (full .delays))
 
     pub left-same : (((H ++ P) ++ O) ++ F) ++ D ≡ planBits w l
     unfolding planBits
     left-same = append-assoc ((H ++ P) ++ O) F D ∙ three (F ++ D)
 
-    pub plan-length : length (planBits w l) ≡ bitLength w (listed w l)
+    pub plan-length : length (planBits w l) ≡ bitLength w (listed l)
     plan-length = ap length (sym left-same) ∙ end-D
 
-    pub plan-bytes : length (packedPlan w l) ≡ bytesFor (bitLength w (listed w l))
+    pub plan-bytes : length (packedPlan w l) ≡ bytesFor (bitLength w (listed l))
     unfolding packedPlan
     plan-bytes = packing.in-length (planBits w l) plan-small ∙ ap bytesFor plan-length
 
   module _ (fit : Fit w l) where
-    full : Full w (listed w l) l
+    full : Full w (listed l) l
     full = fit-full w l fit
 
-    placements-back : numbersAt (placementsWidths w h) (packedPlan w l) (header.placementAt w 0) ≡ l .placements
+    placements-back : numbersAt (placementsWidths h) (packedPlan w l) (header.placementAt w 0) ≡ l .placements
     unfolding planBits h
     placements-back =
-        part-back (placementsWidths w h) (l .placements) H (O ++ (F ++ D)) (header.placementAt w 0) (fit .placements) small-H small-OFD refl (omega (arith, end-H (fit .header) full))
+        part-back (placementsWidths h) (l .placements) H (O ++ (F ++ D)) (header.placementAt w 0) (fit .placements) small-H small-OFD refl (omega (arith, end-H (fit .header) full))
 
     operations-back : numbersAt (operationsWidths w h) (packedPlan w l) (header.operationAt w h 0) ≡ l .operations
     unfolding planBits h
@@ -167,12 +167,12 @@ module _ (w : ℕ) (l : Lists) where
         part-back (forgeriesWidths w h) (l .forgeries) ((H ++ P) ++ O) D (header.forgeryAt w h 0) (fit .forgeries) small-HPO small-D
         (three (F ++ D)) (omega (arith, end-O (fit .header) full))
 
-    delays-back : numbersAt (delaysWidths w h) (packedPlan w l) (header.delayAt w h 0 0 0) ≡ l .delays
+    delays-back : numbersAt (delaysWidths h) (packedPlan w l) (header.delayAt w h 0 0 0) ≡ l .delays
     unfolding planBits h
     delays-back =
         let last : (((H ++ P) ++ O) ++ F) ++ (D ++ []) ≡ H ++ (P ++ (O ++ (F ++ D))) =
         rw append-nil (append-assoc ((H ++ P) ++ O) F D ∙ three (F ++ D)) in
-        part-back (delaysWidths w h) (l .delays) (((H ++ P) ++ O) ++ F) [] (header.delayAt w h 0 0 0) (fit .delays) small-HPOF (λ i. lit< tt)
+        part-back (delaysWidths h) (l .delays) (((H ++ P) ++ O) ++ F) [] (header.delayAt w h 0 0 0) (fit .delays) small-HPOF (λ i. lit< tt)
         last (omega (arith, end-F (fit .header) full))
 
     -- 'A packed plan, read field by field, gives the lists it came from'

@@ -20,13 +20,13 @@ then a b c at x y W e X =
     let f : at ≡ 0 + length x = sym e ∙ sym (zero-add (length x)) in
     wrote-then {at = 0} W (rw f at X)
 
-module _ (w : ℕ) (l : Lists) (fit : fits (headerWidths w) (l .header) ≡ true) (full : Full w (listed w l) l) where
+module _ (w : ℕ) (l : Lists) (fit : fits (headerWidths w) (l .header) ≡ true) (full : Full w (listed l) l) where
   pub plan-written : (a b c d e f : List ℕ)
       → Wrote a b 0 (inverse.H w l)
       → Wrote b c (headerBits w) (inverse.P w l)
-      → Wrote c d (placementAt w (moves (listed w l))) (inverse.O w l)
-      → Wrote d e (operationAt w (listed w l) (listed w l .operations)) (inverse.F w l)
-      → Wrote e f (forgeryAt w (listed w l) (listed w l .forgeries)) (inverse.D w l)
+      → Wrote c d (placementAt w (moves (listed l))) (inverse.O w l)
+      → Wrote d e (operationAt w (listed l) (listed l .operations)) (inverse.F w l)
+      → Wrote e f (forgeryAt w (listed l) (listed l .forgeries)) (inverse.D w l)
       → Wrote a f 0 (planBits w l)
   plan-written a b c d e f W1 W2 W3 W4 W5 =
       let V2 = then a b c _ _ _ W1 (inverse.end-H w l fit full) W2 in

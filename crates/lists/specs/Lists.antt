@@ -19,18 +19,17 @@ pub record Lists : Type 0 where
   pub delays : List ℕ
 
 -- the widths of the fields of a part, for as many records as the header implies
-module _ (w : ℕ) (h : Header) where
-  abbrev pub placementsWidths : List ℕ
-  placementsWidths = records (moves h) placementWidths
+abbrev pub placementsWidths : Header → List ℕ
+placementsWidths h = records (moves h) placementWidths
 
-  abbrev pub operationsWidths : List ℕ
-  operationsWidths = records (h .operations) (operationWidths w)
+abbrev pub operationsWidths : ℕ → Header → List ℕ
+operationsWidths w h = records (h .operations) (operationWidths w)
 
-  abbrev pub forgeriesWidths : List ℕ
-  forgeriesWidths = records (h .forgeries) (forgeryWidths w)
+abbrev pub forgeriesWidths : ℕ → Header → List ℕ
+forgeriesWidths w h = records (h .forgeries) (forgeryWidths w)
 
-  abbrev pub delaysWidths : List ℕ
-  delaysWidths = records (delayCount h) delayWidths
+abbrev pub delaysWidths : Header → List ℕ
+delaysWidths h = records (delayCount h) delayWidths
 
 -- a plan 'read field by field'
 unfoldable pub listsOf : ℕ → List ℕ → Lists
@@ -38,33 +37,33 @@ listsOf w s =
     let h : Header = headerOf w s in
     record {
       header = numbersAt (headerWidths w) s 0;
-      placements = numbersAt (placementsWidths w h) s (placementAt w 0);
+      placements = numbersAt (placementsWidths h) s (placementAt w 0);
       operations = numbersAt (operationsWidths w h) s (operationAt w h 0);
       forgeries = numbersAt (forgeriesWidths w h) s (forgeryAt w h 0);
-      delays = numbersAt (delaysWidths w h) s (delayAt w h 0 0 0);
+      delays = numbersAt (delaysWidths h) s (delayAt w h 0 0 0);
     }
 
-module _ (w : ℕ) (l : Lists) where
-  -- the header that a list says
-  abbrev pub listed : Header
-  listed = headerFrom (l .header)
+-- the header that its list says
+abbrev pub listed : Lists → Header
+listed l = headerFrom (l .header)
 
+module _ (w : ℕ) (l : Lists) where
   -- all bits before the final ones; of a number too wide the lowest bits
   unfoldable pub planBits : List ℕ
   planBits =
       packedBits (headerWidths w) (l .header)
-      ++ (packedBits (placementsWidths w listed) (l .placements)
-      ++ (packedBits (operationsWidths w listed) (l .operations)
-      ++ (packedBits (forgeriesWidths w listed) (l .forgeries)
-      ++ packedBits (delaysWidths w listed) (l .delays))))
+      ++ (packedBits (placementsWidths (listed l)) (l .placements)
+      ++ (packedBits (operationsWidths w (listed l)) (l .operations)
+      ++ (packedBits (forgeriesWidths w (listed l)) (l .forgeries)
+      ++ packedBits (delaysWidths (listed l)) (l .delays))))
 
   -- 'the packed plan'
   unfoldable pub packedPlan : List ℕ
   packedPlan = inBytes planBits
 
 -- the operations that are reads: their second number, the party, is not 0
-abbrev pub readsListed : Lists → ℕ
-readsListed l = count (λ i. not (eqb (getD (l .operations) (length (operationWidths 0) * i + 1) 0) 0)) (headerFrom (l .header) .operations)
+abbrev pub readsListed : ℕ → Lists → ℕ
+readsListed w l = count (λ i. not (eqb (getD (l .operations) (length (operationWidths w) * i + 1) 0) 0)) (listed l .operations)
 
 -- each part has a number for each field that the header implies
 pub record Full (w : ℕ) (h : Header) (l : Lists) : Type 0 where

@@ -22,7 +22,7 @@ use Rattle.pack.specs.{Pack.lengthsImplied, Pack.packInto, Pack.packOf, 
 use Rattle.pack.proofs.{Tests.Passed, Tests.tests-passed, Tests.passes-tests, Tests.outcome-tests}
 
 -- lists that fit have the lengths that the header implies
-fit-lengths : (w : ℕ) (l : Lists) → inverse.Fit w l → lengthsImplied w (listed w l) l ≡ true
+fit-lengths : (w : ℕ) (l : Lists) → inverse.Fit w l → lengthsImplied w (listed l) l ≡ true
 unfolding lengthsImplied
 fit-lengths w l f =
     let g = inverse.fit-full w l f in
@@ -33,21 +33,21 @@ module _ (w : ℕ) (l : Lists) (room : ℕ) (p : Passed w l room) where
   s : List ℕ
   s = packedPlan w l
 
-  same-header : headerOf w s ≡ listed w l
+  same-header : headerOf w s ≡ listed l
   unfolding s
   same-header = inverse.header-same w l (p .fit .header)
 
-  size : length s ≡ bytesFor (bitLength w (listed w l))
+  size : length s ≡ bytesFor (bitLength w (listed l))
   unfolding s
   size = inverse.plan-bytes w l (p .fit .header) (inverse.fit-full w l (p .fit))
 
   header-long : bytesFor (headerBits w) ≤ length s
-  header-long = rw (size, bytes-rounded (headerBits w), bytes-rounded (bitLength w (listed w l))) (omega arith)
+  header-long = rw (size, bytes-rounded (headerBits w), bytes-rounded (bitLength w (listed l))) (omega arith)
 
-  final-zero : check.finalBitsZero w s (listed w l) ≡ true
+  final-zero : check.finalBitsZero w s (listed l) ≡ true
   unfolding check.finalBitsZero s packedPlan
   final-zero =
-      let n = bitLength w (listed w l) in
+      let n = bitLength w (listed l) in
       let e = inverse.plan-length w l (p .fit .header) (inverse.fit-full w l (p .fit)) in
       let z : fieldOf s n (fill 8 n) ≡ 0 = rw (← e) (in-final (planBits w l) (inverse.plan-small w l) (fill 8 (length (planBits w l)))) in
       eq-eqb (fieldOf s n (fill 8 n)) 0 z
@@ -73,7 +73,7 @@ module _ (w : ℕ) (l : Lists) (room : ℕ) (p : Passed w l room) where
       let back = inverse.lists-back w l (p .fit) in
       record {
         bytes = refl;
-        checked = accept.accepts w s accepted ∙ ap result (reads-listed w s ∙ ap readsListed back);
+        checked = accept.accepts w s accepted ∙ ap result (reads-listed w s ∙ ap (readsListed w) back);
         fields = back;
       }
 

@@ -30,7 +30,7 @@ lengths-full h l e =
     let r3 = same (length (l .forgeries)) (5 * h .forgeries) _ (r2 .1) in
     record { placements = r1 .0; operations = r2 .0; forgeries = r3 .0; delays = eqb-true (length (l .delays)) (1 * delayCount h) (r3 .1) }
 
-module _ (l : Lists) (h : Header) (is : h ≡ listed 16 l) (fit : fits (widths.headerWidths 16) (l .header) ≡ true) (in-range : check.headerInRange h ≡ true) where
+module _ (l : Lists) (h : Header) (is : h ≡ listed l) (fit : fits (widths.headerWidths 16) (l .header) ≡ true) (in-range : check.headerInRange h ≡ true) where
   pub listed-ranged : Ranged h
   listed-ranged = ranged h in-range (rw is (omega (arith, fits-at (widths.headerWidths 16) (l .header) fit 7 (lit< tt))))
 
@@ -38,7 +38,7 @@ module _ (l : Lists) (h : Header) (is : h ≡ listed 16 l) (fit : fits (widths.h
   listed-as e = record { header = is; fit = fit; ranged = listed-ranged; full = lengths-full h l e }
 
 module _ (l : Lists) (h : Header) (p : Listed l h) where
-  full : Full 16 (listed 16 l) l
+  full : Full 16 (listed l) l
   full = let z = p .full in rw (p .header) at z
 
   size : length (packedPlan 16 l) ≡ bytesFor (bitLength 16 h)
@@ -59,9 +59,9 @@ module _ (l : Lists) (h : Header) (p : Listed l h) where
   plan-header = p .header ∙ sym (inverse.header-same 16 l (p .fit))
 
   -- what is left of Pack is the parts' tests, which do not look at the list of the header
-  parts-left : check.headerInRange (listed 16 l) ≡ true → check.enoughServers (listed 16 l) ≡ true → lengthsImplied 16 (listed 16 l) l ≡ true → (out : List ℕ)
+  parts-left : check.headerInRange (listed l) ≡ true → check.enoughServers (listed l) ≡ true → lengthsImplied 16 (listed l) l ≡ true → (out : List ℕ)
       → packOf 16 l out
-      ≡ packInto (packedPlan 16 l) out (partTests 16 (listed 16 l) (packedPlan 16 l) (partsFrom (l .placements) (l .operations) (l .forgeries) (l .delays)) (length out))
+      ≡ packInto (packedPlan 16 l) out (partTests 16 (listed l) (packedPlan 16 l) (partsFrom (l .placements) (l .operations) (l .forgeries) (l .delays)) (length out))
   unfolding packOf packTests partTests
   parts-left r s e out = rw (p .fit, r, s, e)
 

@@ -20,13 +20,13 @@ use Rattle.pack.specs.Pack.{lengthsImplied, partTests, packTests, packIn
 -- what all tests say together
 pub record Passed (w : ℕ) (l : Lists) (room : ℕ) : Type 0 where
   pub fit : Fit w l
-  pub in-range : check.headerInRange (listed w l) ≡ true
-  pub enough : check.enoughServers (listed w l) ≡ true
-  pub lengths : lengthsImplied w (listed w l) l ≡ true
-  pub placements : check.placementsStand w (packedPlan w l) (listed w l) ≡ true
-  pub operations : check.operationsStand w (packedPlan w l) (listed w l) ≡ true
-  pub forgeries : check.forgeriesStand w (packedPlan w l) (listed w l) ≡ true
-  pub delays : check.delaysStand w (packedPlan w l) (listed w l) ≡ true
+  pub in-range : check.headerInRange (listed l) ≡ true
+  pub enough : check.enoughServers (listed l) ≡ true
+  pub lengths : lengthsImplied w (listed l) l ≡ true
+  pub placements : check.placementsStand w (packedPlan w l) (listed l) ≡ true
+  pub operations : check.operationsStand w (packedPlan w l) (listed l) ≡ true
+  pub forgeries : check.forgeriesStand w (packedPlan w l) (listed l) ≡ true
+  pub delays : check.delaysStand w (packedPlan w l) (listed l) ≡ true
   pub long : leb (length (packedPlan w l)) room ≡ true
 
 -- a chain with a result passed both parts of its first test
@@ -40,15 +40,15 @@ module _ (w : ℕ) (l : Lists) where
   pub tests-passed : (room m : ℕ) → packTests w l room ≡ result m → Passed w l room × (m ≡ length (packedPlan w l))
   unfolding packTests partTests
   tests-passed room m e =
-      let h = listed w l in
+      let h = listed l in
       let s = packedPlan w l in
       let r2 = passed-both (fits (widths.headerWidths w) (l .header)) (check.headerInRange h) 2 _ m e in
       let r3 = passed (check.enoughServers h) 3 _ m (r2 .2) in
-      let r4 = passed (lengthsImplied w (listed w l) l) 4 _ m (r3 .1) in
-      let r5 = passed-both (fits (lists.placementsWidths w h) (l .placements)) (check.placementsStand w s h) 5 _ m (r4 .1) in
+      let r4 = passed (lengthsImplied w (listed l) l) 4 _ m (r3 .1) in
+      let r5 = passed-both (fits (lists.placementsWidths h) (l .placements)) (check.placementsStand w s h) 5 _ m (r4 .1) in
       let r6 = passed-both (fits (lists.operationsWidths w h) (l .operations)) (check.operationsStand w s h) 6 _ m (r5 .2) in
       let r7 = passed-both (fits (lists.forgeriesWidths w h) (l .forgeries)) (check.forgeriesStand w s h) 7 _ m (r6 .2) in
-      let r8 = passed-both (fits (lists.delaysWidths w h) (l .delays)) (check.delaysStand w s h) 8 _ m (r7 .2) in
+      let r8 = passed-both (fits (lists.delaysWidths h) (l .delays)) (check.delaysStand w s h) 8 _ m (r7 .2) in
       let r14 = passed (leb (length s) room) 14 (result (length s)) m (r8 .2) in
       let last : result (length s) ≡ result m = r14 .1 in (
         record {
@@ -61,7 +61,7 @@ module _ (w : ℕ) (l : Lists) where
           };
           in-range = r2 .1;
           enough = T-eq (check.enoughServers h) (r3 .0);
-          lengths = T-eq (lengthsImplied w (listed w l) l) (r4 .0);
+          lengths = T-eq (lengthsImplied w (listed l) l) (r4 .0);
           placements = r5 .1;
           operations = r6 .1;
           forgeries = r7 .1;

@@ -22,6 +22,6 @@ pub all-written : (l : Lists) (h : Header) (p : Listed l h) (m at-o at-f at-d : 
     → Wrote e f at-d (packedBits (records (length (l .delays)) widths.delayWidths) (l .delays))
     → Wrote a f 0 (planBits 16 l)
 all-written l h p m at-o at-f at-d a b c d e f em eo ef ed W1 W2 W3 W4 W5 =
-    let full : Full 16 (listed 16 l) l = let z = p .full in rw (p .header) at z in
-    let count : length (l .delays) ≡ delayCount (listed 16 l) = full .delays ∙ one-mul (delayCount (listed 16 l)) in
+    let full : Full 16 (listed l) l = let z = p .full in rw (p .header) at z in
+    let count : length (l .delays) ≡ delayCount (listed l) = full .delays ∙ one-mul (delayCount (listed l)) in
     plan-written 16 l (p .fit) full a b c d e f W1 (rw (em, p .header) at W2) (rw (eo, p .header) at W3) (rw (ef, p .header) at W4) (rw (ed, p .header, count) at W5)

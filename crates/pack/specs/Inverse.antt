@@ -11,7 +11,7 @@ use Rattle.pack.specs.Pack.{packOf}
 -- Lists that are packed: the plan passes Check with the reads that are listed, and 'read field by field, gives the lists it came from'.
 pub record PacksWell (w : ℕ) (l : Lists) (m : ℕ) : Type 0 where
   pub bytes : m ≡ length (packedPlan w l)
-  pub checked : checkOf w (packedPlan w l) ≡ result (readsListed l)
+  pub checked : checkOf w (packedPlan w l) ≡ result (readsListed w l)
   pub fields : listsOf w (packedPlan w l) ≡ l
 
 -- An accepted plan: its lists are packed to it, given room, and 'each accepted plan is the only packing of its lists'.

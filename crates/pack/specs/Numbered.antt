@@ -33,7 +33,7 @@ packed (Refused r) = refused (refusalNumber r)
 
 -- the tests 2 to 4 are passed: h is the header that is listed
 pub record Listed (l : Lists) (h : Header) : Type 0 where
-  pub header : h ≡ listed 16 l
+  pub header : h ≡ listed l
   pub fit : fits (headerWidths 16) (l .header) ≡ true
   pub ranged : Ranged h
   pub full : Full 16 h l

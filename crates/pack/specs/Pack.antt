@@ -29,10 +29,10 @@ lengthsImplied w h l =
 -- part'. '14: the buffer is shorter than the plan; last check'
 unfoldable pub partTests : ℕ → Header → List ℕ → Lists → ℕ → Outcome ℕ
 partTests w h s l room =
-    unless (fits (lists.placementsWidths w h) (l .placements) && check.placementsStand w s h) 5
+    unless (fits (lists.placementsWidths h) (l .placements) && check.placementsStand w s h) 5
     (unless (fits (lists.operationsWidths w h) (l .operations) && check.operationsStand w s h) 6
     (unless (fits (lists.forgeriesWidths w h) (l .forgeries) && check.forgeriesStand w s h) 7
-    (unless (fits (lists.delaysWidths w h) (l .delays) && check.delaysStand w s h) 8
+    (unless (fits (lists.delaysWidths h) (l .delays) && check.delaysStand w s h) 8
     (unless (leb (length s) room) 14
     (result (length s))))))
 
@@ -46,7 +46,7 @@ module _ (w : ℕ) (l : Lists) where
   -- is 2': a list that does not fit the header's ten fields
   unfoldable pub packTests : ℕ → Outcome ℕ
   packTests room =
-      let h : Header = listed w l in
+      let h : Header = listed l in
       unless (fits (headerWidths w) (l .header) && check.headerInRange h) 2
       (unless (check.enoughServers h) 3
       (unless (lengthsImplied w h l) 4

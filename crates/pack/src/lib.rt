@@ -99,7 +99,7 @@ fn write(
 // Do the placements fit, and stand in the plan that they are packed to.
 fn placements_pass(plan: &[u8], h: Shape, placements: &[u32]) -> bool
     requires { ⌜ Sized (now plan) (shape h) × (length (now placements) ≡ 1 * moves (shape h)) ⌝ }
-    ensures { λ r. ⌜ r ≡ fits (placementsWidths 16 (shape h)) (now (placements .entry)) && placementsStand 16 (now (plan .entry)) (shape h) ⌝ }
+    ensures { λ r. ⌜ r ≡ fits (placementsWidths (shape h)) (now (placements .entry)) && placementsStand 16 (now (plan .entry)) (shape h) ⌝ }
 {
     both(
         packing::fits_all(&Shape::PLACEMENT_WIDTHS, placements, h.moves()),
@@ -130,7 +130,7 @@ fn forgeries_pass(plan: &[u8], h: Shape, forgeries: &[u32]) -> bool
 
 fn delays_pass(plan: &[u8], h: Shape, delays: &[u32]) -> bool
     requires { ⌜ Sized (now plan) (shape h) × (length (now delays) ≡ 1 * delayCount (shape h)) ⌝ }
-    ensures { λ r. ⌜ r ≡ fits (delaysWidths 16 (shape h)) (now (delays .entry)) && delaysStand 16 (now (plan .entry)) (shape h) ⌝ }
+    ensures { λ r. ⌜ r ≡ fits (delaysWidths (shape h)) (now (delays .entry)) && delaysStand 16 (now (plan .entry)) (shape h) ⌝ }
 {
     both(nibbles::fit(delays), delays::all_stand(plan, h))
 }

@@ -45,7 +45,7 @@ header4 c = header3 (c .before .before)
 fit1 : (c : tie.Else1) → fits (headerWidths 16) (lists1 c .header) ≡ true
 fit1 c = sym (c .before .is-header .ensures) ∙ not-false _ (c .if1 .left)
 
-same2 : (c : tie.Else2) → header2 c ≡ listed 16 (lists2 c)
+same2 : (c : tie.Else2) → header2 c ≡ listed (lists2 c)
 same2 c = c .before .before .of .ensures
 
 range2 : (c : tie.Else2) → headerInRange (header2 c) ≡ true
