@@ -14,7 +14,7 @@ use Rattle.bits.proofs.Packing.{Small}
 use Rattle.bits.proofs.Records as record-laws
 use Rattle.plan.specs.Widths as widths
 use Rattle.plan.specs.Header as header
-use Rattle.plan.specs.Header.{Header, headerOf, bitLength, moves, delayCount}
+use Rattle.plan.specs.Header.{headerOf, bitLength, moves, delayCount}
 use Rattle.lists.specs.Lists.{Lists, Full, listed, listsOf, planBits, packedPlan, placementsWidths, operationsWidths, forgeriesWidths, delaysWidths}
 
 -- every number fits its field, and there is one for each
@@ -111,9 +111,6 @@ module _ (w : ℕ) (l : Lists) where
   unfolding headerOf
   header-same f = ap header.headerFrom (header-back f)
 
-  h : Header
-  h = listed l
-
   -- the same bits, joined from the left
   three : (X : List ℕ) → ((H ++ P) ++ O) ++ X ≡ H ++ (P ++ (O ++ X))
   three X = append-assoc (H ++ P) O X ∙ append-assoc H P (O ++ X)
@@ -146,36 +143,47 @@ module _ (w : ℕ) (l : Lists) where
     unfolding packedPlan
     plan-bytes = packing.in-length (planBits w l) plan-small ∙ ap bytesFor plan-length
 
-  module _ (fit : Fit w l) where
-    full : Full w (listed l) l
-    full = fit-full w l fit
+    -- Where the numbers of a part fit, its fields in the packed plan are its list's, whatever the other lists hold: so a part's test of the
+    -- plan is a test of its list.
+    pub placements-back : fits (placementsWidths (listed l)) (l .placements) ≡ true
+        → numbersAt (placementsWidths (listed l)) (packedPlan w l) (header.placementAt w 0) ≡ l .placements
+    unfolding planBits
+    placements-back f = part-back (placementsWidths (listed l)) (l .placements) H (O ++ (F ++ D)) (header.placementAt w 0) f small-H small-OFD refl (omega (arith, end-H))
 
-    placements-back : numbersAt (placementsWidths h) (packedPlan w l) (header.placementAt w 0) ≡ l .placements
-    unfolding planBits h
-    placements-back =
-        part-back (placementsWidths h) (l .placements) H (O ++ (F ++ D)) (header.placementAt w 0) (fit .placements) small-H small-OFD refl (omega (arith, end-H (fit .header) full))
+    pub operations-back : fits (operationsWidths w (listed l)) (l .operations) ≡ true
+        → numbersAt (operationsWidths w (listed l)) (packedPlan w l) (header.operationAt w (listed l) 0) ≡ l .operations
+    unfolding planBits
+    operations-back f =
+        part-back (operationsWidths w (listed l)) (l .operations) (H ++ P) (F ++ D) (header.operationAt w (listed l) 0) f small-HP small-FD
+        (append-assoc H P (O ++ (F ++ D))) (omega (arith, end-P))
 
-    operations-back : numbersAt (operationsWidths w h) (packedPlan w l) (header.operationAt w h 0) ≡ l .operations
-    unfolding planBits h
-    operations-back =
-        part-back (operationsWidths w h) (l .operations) (H ++ P) (F ++ D) (header.operationAt w h 0) (fit .operations) small-HP small-FD
-        (append-assoc H P (O ++ (F ++ D))) (omega (arith, end-P (fit .header) full))
+    pub forgeries-back : fits (forgeriesWidths w (listed l)) (l .forgeries) ≡ true
+        → numbersAt (forgeriesWidths w (listed l)) (packedPlan w l) (header.forgeryAt w (listed l) 0) ≡ l .forgeries
+    unfolding planBits
+    forgeries-back f =
+        part-back (forgeriesWidths w (listed l)) (l .forgeries) ((H ++ P) ++ O) D (header.forgeryAt w (listed l) 0) f small-HPO small-D
+        (three (F ++ D)) (omega (arith, end-O))
 
-    forgeries-back : numbersAt (forgeriesWidths w h) (packedPlan w l) (header.forgeryAt w h 0) ≡ l .forgeries
-    unfolding planBits h
-    forgeries-back =
-        part-back (forgeriesWidths w h) (l .forgeries) ((H ++ P) ++ O) D (header.forgeryAt w h 0) (fit .forgeries) small-HPO small-D
-        (three (F ++ D)) (omega (arith, end-O (fit .header) full))
-
-    delays-back : numbersAt (delaysWidths h) (packedPlan w l) (header.delayAt w h 0 0 0) ≡ l .delays
-    unfolding planBits h
-    delays-back =
+    pub delays-back : fits (delaysWidths (listed l)) (l .delays) ≡ true
+        → numbersAt (delaysWidths (listed l)) (packedPlan w l) (header.delayAt w (listed l) 0 0 0) ≡ l .delays
+    unfolding planBits
+    delays-back f =
         let last : (((H ++ P) ++ O) ++ F) ++ (D ++ []) ≡ H ++ (P ++ (O ++ (F ++ D))) =
         rw append-nil (append-assoc ((H ++ P) ++ O) F D ∙ three (F ++ D)) in
-        part-back (delaysWidths h) (l .delays) (((H ++ P) ++ O) ++ F) [] (header.delayAt w h 0 0 0) (fit .delays) small-HPOF (λ i. lit< tt)
-        last (omega (arith, end-F (fit .header) full))
+        part-back (delaysWidths (listed l)) (l .delays) (((H ++ P) ++ O) ++ F) [] (header.delayAt w (listed l) 0 0 0) f small-HPOF (λ i. lit< tt)
+        last (omega (arith, end-F))
 
-    -- 'A packed plan, read field by field, gives the lists it came from'
-    pub lists-back : listsOf w (packedPlan w l) ≡ l
-    unfolding listsOf h
-    lists-back = rw (header-same (fit .header), header-back (fit .header), placements-back, operations-back, forgeries-back, delays-back)
+  -- 'A packed plan, read field by field, gives the lists it came from'
+  pub lists-back : Fit w l → listsOf w (packedPlan w l) ≡ l
+  unfolding listsOf
+  lists-back fit =
+      let f = fit .header in
+      let full = fit-full w l fit in
+      rw (
+        header-same f,
+        header-back f,
+        placements-back f full (fit .placements),
+        operations-back f full (fit .operations),
+        forgeries-back f full (fit .forgeries),
+        delays-back f full (fit .delays),
+      )
