@@ -1,10 +1,11 @@
 -- The tests of Pack as facts, both ways.
 -- It stands on the definition of Pack.
-use mathlib.Core.Path.{_≡_, refl}
-use mathlib.Core.Bool.{Bool, true, _&&_, and-eq-true-iff}
+use mathlib.Core.Path.{_≡_, _∙_, refl, sym}
+use mathlib.Core.Bool.{Bool, true, false, _&&_, and-eq-true-iff}
 use mathlib.Core.List.{List}
-use Prim.Native.Nat.{ℕ}
-use lib.Dec.{leb}
+use Prim.Native.Nat.{ℕ, _<_}
+use native.Mathlib.Omega.{arith}
+use lib.Dec.{leb, lit<}
 use lib.ListN.{length}
 use Rattle.bits.specs.Layout.{fits}
 use Rattle.register.proofs.Logic.{T-eq}
@@ -99,3 +100,26 @@ module _ (w : ℕ) (l : Lists) where
   pub outcome-tests : (out : List ℕ) → packOf w l out .outcome ≡ packTests w l (length out)
   unfolding packOf
   outcome-tests out = into-outcome (packedPlan w l) out (packTests w l (length out))
+
+-- a test that fails with another number than 1
+another : (b : Bool) (number : ℕ) (rest : Outcome ℕ) → (_≡_ {A = Outcome ℕ} (refused number) (refused 1) → ⊥) → (rest ≡ refused 1 → ⊥) → unless b number rest ≡ refused 1 → ⊥
+another true number rest n f e = f e
+another false number rest n f e = n e
+
+not-one : (number : ℕ) → 1 < number → _≡_ {A = Outcome ℕ} (refused number) (refused 1) → ⊥
+not-one number h e = let z : number ≡ 1 = cc in omega arith
+
+-- 'Here 1 never occurs'
+pub never-one : (w : ℕ) (l : Lists) (out : List ℕ) → packOf w l out .outcome ≡ refused 1 → ⊥
+unfolding packTests partTests
+never-one w l out e =
+    let done : result (length (packedPlan w l)) ≡ refused 1 → ⊥ = λ q. let z : _≡_ {A = ℕ} 0 1 = cc in omega arith in
+    another _ 2 _ (not-one 2 (lit< tt))
+    (another _ 3 _ (not-one 3 (lit< tt))
+    (another _ 4 _ (not-one 4 (lit< tt))
+    (another _ 5 _ (not-one 5 (lit< tt))
+    (another _ 6 _ (not-one 6 (lit< tt))
+    (another _ 7 _ (not-one 7 (lit< tt))
+    (another _ 8 _ (not-one 8 (lit< tt))
+    (another _ 14 _ (not-one 14 (lit< tt)) done)))))))
+    (sym (outcome-tests w l out) ∙ e)

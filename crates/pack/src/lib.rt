@@ -5,7 +5,7 @@ ghost use mathlib.Core.List.{_++_};
 ghost use Prim.Native.Nat.{_*_, _≤_};
 ghost use lib.ListN.{length, drop};
 ghost use Rattle.bits.specs.{Field.Bytes, Layout.fits, Writing.Wrote};
-ghost use Rattle.plan.specs.{Widths.headerWidths, Header.headerOf, Header.moves, Header.delayCount, Limits.impliedBytes, Check.placementsStand, Check.operationsStand, Check.forgeriesStand, Check.delaysStand, Shape.shape, Shape.Ranged, Shape.Sized};
+ghost use Rattle.plan.specs.{Widths.headerWidths, Widths.placementWidths, Widths.operationWidths, Widths.forgeryWidths, Widths.delayWidths, Header.headerOf, Header.moves, Header.delayCount, Limits.impliedBytes, Check.placementsStand, Check.operationsStand, Check.forgeriesStand, Check.delaysStand, Shape.shape, Shape.Ranged, Shape.Sized};
 ghost use Rattle.lists.specs.{Lists.Full, Lists.placementsWidths, Lists.operationsWidths, Lists.forgeriesWidths, Lists.delaysWidths, Lists.planBits};
 ghost use Rattle.pack.specs.{Pack.lengthsImplied, Pack.partTests, Pack.packInto, Pack.packOf, Numbered.listsFrom, Numbered.partsFrom, Numbered.packed, Numbered.Listed};
 use parts::forgeries;
@@ -98,7 +98,7 @@ fn write(
 
 // Do the placements fit, and stand in the plan that they are packed to.
 fn placements_pass(plan: &[u8], h: Shape, placements: &[u32]) -> bool
-    requires { ⌜ Sized (now plan) (shape h) × (length (now placements) ≡ 1 * moves (shape h)) ⌝ }
+    requires { ⌜ Sized (now plan) (shape h) × (length (now placements) ≡ length placementWidths * moves (shape h)) ⌝ }
     ensures { λ r. ⌜ r ≡ fits (placementsWidths (shape h)) (now (placements .entry)) && placementsStand 16 (now (plan .entry)) (shape h) ⌝ }
 {
     both(
@@ -108,7 +108,7 @@ fn placements_pass(plan: &[u8], h: Shape, placements: &[u32]) -> bool
 }
 
 fn operations_pass(plan: &[u8], h: Shape, operations: &[u32]) -> bool
-    requires { ⌜ Sized (now plan) (shape h) × (length (now operations) ≡ 3 * h .operations) ⌝ }
+    requires { ⌜ Sized (now plan) (shape h) × (length (now operations) ≡ length (operationWidths 16) * h .operations) ⌝ }
     ensures { λ r. ⌜ r ≡ fits (operationsWidths 16 (shape h)) (now (operations .entry)) && operationsStand 16 (now (plan .entry)) (shape h) ⌝ }
 {
     both(
@@ -119,7 +119,7 @@ fn operations_pass(plan: &[u8], h: Shape, operations: &[u32]) -> bool
 
 fn forgeries_pass(plan: &[u8], h: Shape, forgeries: &[u32]) -> bool
     requires { ⌜ Sized (now plan) (shape h) × (shape h ≡ headerOf 16 (now plan)) × (operationsStand 16 (now plan) (shape h) ≡ true)
-        × (length (now forgeries) ≡ 5 * h .forgeries) ⌝ }
+        × (length (now forgeries) ≡ length (forgeryWidths 16) * h .forgeries) ⌝ }
     ensures { λ r. ⌜ r ≡ fits (forgeriesWidths 16 (shape h)) (now (forgeries .entry)) && forgeriesStand 16 (now (plan .entry)) (shape h) ⌝ }
 {
     both(
@@ -129,7 +129,7 @@ fn forgeries_pass(plan: &[u8], h: Shape, forgeries: &[u32]) -> bool
 }
 
 fn delays_pass(plan: &[u8], h: Shape, delays: &[u32]) -> bool
-    requires { ⌜ Sized (now plan) (shape h) × (length (now delays) ≡ 1 * delayCount (shape h)) ⌝ }
+    requires { ⌜ Sized (now plan) (shape h) × (length (now delays) ≡ length delayWidths * delayCount (shape h)) ⌝ }
     ensures { λ r. ⌜ r ≡ fits (delaysWidths (shape h)) (now (delays .entry)) && delaysStand 16 (now (plan .entry)) (shape h) ⌝ }
 {
     both(nibbles::fit(delays), delays::all_stand(plan, h))
