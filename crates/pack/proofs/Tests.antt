@@ -109,17 +109,29 @@ another false number rest n f e = n e
 not-one : (number : ℕ) → 1 < number → _≡_ {A = Outcome ℕ} (refused number) (refused 1) → ⊥
 not-one number h e = let z : number ≡ 1 = cc in omega arith
 
+chain-not-one : (a b c d e f g h : Bool) (m : ℕ)
+    → unless a 2 (unless b 3 (unless c 4 (unless d 5 (unless e 6 (unless f 7 (unless g 8 (unless h 14 (result m)))))))) ≡ refused 1 → ⊥
+chain-not-one a b c d e f g h m =
+    let done : _≡_ {A = Outcome ℕ} (result m) (refused 1) → ⊥ = λ q. let z : _≡_ {A = ℕ} 0 1 = cc in omega arith in
+    another a 2 _ (not-one 2 (lit< tt))
+    (another b 3 _ (not-one 3 (lit< tt))
+    (another c 4 _ (not-one 4 (lit< tt))
+    (another d 5 _ (not-one 5 (lit< tt))
+    (another e 6 _ (not-one 6 (lit< tt))
+    (another f 7 _ (not-one 7 (lit< tt))
+    (another g 8 _ (not-one 8 (lit< tt))
+    (another h 14 (result m) (not-one 14 (lit< tt)) done)))))))
+
 -- 'Here 1 never occurs'
 pub never-one : (w : ℕ) (l : Lists) (out : List ℕ) → packOf w l out .outcome ≡ refused 1 → ⊥
 unfolding packTests partTests
 never-one w l out e =
-    let done : result (length (packedPlan w l)) ≡ refused 1 → ⊥ = λ q. let z : _≡_ {A = ℕ} 0 1 = cc in omega arith in
-    another _ 2 _ (not-one 2 (lit< tt))
-    (another _ 3 _ (not-one 3 (lit< tt))
-    (another _ 4 _ (not-one 4 (lit< tt))
-    (another _ 5 _ (not-one 5 (lit< tt))
-    (another _ 6 _ (not-one 6 (lit< tt))
-    (another _ 7 _ (not-one 7 (lit< tt))
-    (another _ 8 _ (not-one 8 (lit< tt))
-    (another _ 14 _ (not-one 14 (lit< tt)) done)))))))
+    let h = listed l in
+    let s = packedPlan w l in
+    chain-not-one (fits (widths.headerWidths w) (l .header) && check.headerInRange h) (check.enoughServers h) (lengthsImplied w h l)
+    (fits (lists.placementsWidths h) (l .placements) && check.placementsStand w s h)
+    (fits (lists.operationsWidths w h) (l .operations) && check.operationsStand w s h)
+    (fits (lists.forgeriesWidths w h) (l .forgeries) && check.forgeriesStand w s h)
+    (fits (lists.delaysWidths h) (l .delays) && check.delaysStand w s h)
+    (leb (length s) (length out)) (length s)
     (sym (outcome-tests w l out) ∙ e)

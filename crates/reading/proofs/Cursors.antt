@@ -6,9 +6,9 @@ use Prim.Native.Nat.{ℕ, zero, suc, _+_, _-_, _≤_, _<_}
 use native.Mathlib.Omega.{arith}
 use native.Mathlib.Decide.{decLe, ℕ-discrete}
 use lib.ListN.{length, getD, set, take, drop, length-set, length-drop, drop-of-length-le}
-use lib.Seq.{take-all, getD-set-same, getD-set-other}
+use lib.Seq.{getD-set-same, getD-set-other}
 use mathlib.Core.Bool.{true, false}
-use borrow.Rule.Slice.PartMut.{putMid, midOf}
+use borrow.Rule.Slice.PartMut.{putMid}
 use borrow.Author.Tests.{lt-ltb, ltb-false}
 use Rattle.register.specs.Plan.{stamped}
 use Rattle.cluster.specs.declared.Known.{Known}
@@ -61,10 +61,7 @@ pub answer-found : (known : Known) (c : Choice) → c .found ≡ true
 unfolding answerBy
 answer-found known c e = rw e
 
--- a part from place a on, as the callee has it, and the whole when it comes back
-pub part-from : (a : ℕ) (s : List ℕ) → midOf a (length s - a) s ≡ drop a s
-part-from a s = take-all (length s - a) (drop a s) (rw length-drop (omega arith))
-
+-- the whole, when the part from place a on comes back from a callee
 pub part-back : (a : ℕ) (s t : List ℕ) → putMid a (length s - a) s t ≡ take a s ++ t
 part-back a s t =
     let e : drop (length s - a) (drop a s) ≡ [] = drop-of-length-le (drop a s) {i = length s - a} (rw length-drop (omega arith)) in

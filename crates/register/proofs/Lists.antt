@@ -4,16 +4,21 @@ use mathlib.Core.Path.{_≡_, refl, sym, ap, _∙_}
 use mathlib.Core.Bool.{Bool, true, false, _||_, cond}
 use mathlib.Core.Logic.{_⊎_, inl, inr}
 use mathlib.Core.List.{List, [], _∷_, _++_, map}
-use Prim.Native.Nat.{ℕ, zero, suc, _+_, _≤_, _<_, max}
+use Prim.Native.Nat.{ℕ, zero, suc, _+_, _-_, _≤_, _<_, max}
 use native.Mathlib.Nat.{add-zero}
 use native.Mathlib.Omega.{arith}
 use native.Mathlib.Decide.{ℕ-discrete}
 use lib.Dec.{T, eqb, eqb→eq, T-not}
-use lib.ListN.{getD, take, length, replicate}
+use lib.ListN.{getD, take, drop, length, length-drop, replicate}
+use lib.Seq.{take-all}
 use Rattle.register.specs.Lists.{tabFrom, tab, flat, any, filter, In, member, distinct, highest, sameList}
 use Rattle.register.proofs.Logic.{and-l, and-r, or-e, or-l, or-r, cond-e, max-cases}
 
 module _ {A : Type 0} where
+  -- the part of a list from a place on, cut to its length: how a callee has it
+  pub part-from : (a : ℕ) (s : List A) → take (length s - a) (drop a s) ≡ drop a s
+  part-from a s = take-all (length s - a) (drop a s) (rw length-drop (omega arith))
+
   pub in-append : (x : A) (l m : List A) → In x (l ++ m) → In x l ⊎ In x m
   in-append x [] m i = inr i
   in-append x (y ∷ l) m (inl e) = inl (inl e)

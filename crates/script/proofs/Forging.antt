@@ -6,9 +6,9 @@ use Prim.Native.Nat.{ℕ, _+_, _*_, _-_, _/_, _%_, _≤_, _<_}
 use native.Mathlib.Nat.{add-assoc}
 use native.Mathlib.Omega.{arith}
 use lib.ListN.{length, take, drop, length-drop}
-use lib.Seq.{take-all}
 use Rattle.bits.proofs.Laws.{field-part}
 use Rattle.register.specs.Plan.{Forgery}
+use Rattle.register.proofs.Lists.{part-from}
 use Rattle.plan.specs as plan-specs
 use Rattle.plan.specs.Header.{Header, headerOf, operationAt}
 use Rattle.plan.proofs.Accept.{in-range}
@@ -38,7 +38,7 @@ module _ (s : List ℕ) (A : plan-specs.Playable.Playable 16 s) (x : plan-specs.
   part-starts = omega (arith, first-bit, script-laws.Placing.bits-inside s A)
 
   part-whole : part ≡ drop (at / 8) s
-  part-whole = take-all (length s - at / 8) (drop (at / 8) s) (rw length-drop (omega arith))
+  part-whole = part-from (at / 8) s
 
   -- the part has the messages, from the byte that holds its first bit on, at an offset under eight
   message : (e : ℕ) → forgedAt part (at % 8) e ≡ messageOf s e

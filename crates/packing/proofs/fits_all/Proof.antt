@@ -9,7 +9,8 @@ use lib.ListN.{length, drop}
 use borrow.Author.Needs.{needs}
 use borrow.Author.Tests.{not-true, not-false}
 use Rattle.bits.specs.Layout.{records, fits}
-use Rattle.packing.proofs.Turns.{turn-inside, part-from, numbers-there}
+use Rattle.register.proofs.Lists.{part-from}
+use Rattle.packing.proofs.Turns.{turn-inside, numbers-there}
 use Rattle.packing.proofs.Fitting as fitting
 use Rattle.packing.proofs.fits_all.Statement.{statement}
 use Rattle.packing.proofs.fits_all.Tie as tie

@@ -6,7 +6,8 @@ use denote.Ref.{now}
 use lib.ListN.{length}
 use borrow.Author.Needs.{needs}
 use Rattle.bits.specs.Layout.{total}
-use Rattle.packing.proofs.Turns.{turn-inside, part-from, numbers-there}
+use Rattle.register.proofs.Lists.{part-from}
+use Rattle.packing.proofs.Turns.{turn-inside, numbers-there}
 use Rattle.packing.proofs.Writing.{Repeating, repeat-none, repeat-more, repeat-all}
 use Rattle.packing.proofs.put_all.Statement.{statement}
 use Rattle.packing.proofs.put_all.Tie as tie

@@ -5,7 +5,8 @@ use mathlib.Core.Path.{_≡_, refl}
 use Prim.Native.Nat.{_+_, _*_, _-_, _≤_, _<_}
 use lib.ListN.{length, length-drop}
 use Rattle.reading.specs.Reading.{placed, chosenBytes, There}
-use Rattle.reading.proofs.Cursors.{part-from, part-back, placed-none, placed-more}
+use Rattle.register.proofs.Lists.{part-from}
+use Rattle.reading.proofs.Cursors.{part-back, placed-none, placed-more}
 use Rattle.reading.proofs.end_all.Statement.{statement}
 use Rattle.reading.proofs.end_all.Tie as tie
 

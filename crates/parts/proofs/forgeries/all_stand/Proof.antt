@@ -1,10 +1,9 @@
 -- `forgeries::all_stand` meets its contract: the part of the plan is handed on with its offset.
-use Prim.Native.Nat.{_/_, _-_}
+use Prim.Native.Nat.{_/_}
 use native.Mathlib.Omega.{arith}
-use lib.Seq.{take-all}
-use lib.ListN.{length, drop, length-drop}
 use borrow.Author.Needs.{needs}
 use denote.Ref.{now}
+use Rattle.register.proofs.Lists.{part-from}
 use Rattle.parts.proofs.forgeries.all_stand.Statement.{statement}
 use Rattle.parts.proofs.forgeries.all_stand.Tie as tie
 
@@ -32,7 +31,7 @@ all-in-requires c κs =
       c .before .before .before .opened .ensures .0,
       c .before .before .before .opened .ensures .1,
       record {
-        bytes = rw (take-all (length (now (a .plan)) - from) (drop from (now (a .plan))) (rw length-drop (omega arith)), c .before .before .forgeries-at .ensures .0);
+        bytes = rw (part-from from (now (a .plan)), c .before .before .forgeries-at .ensures .0);
         first = rw (c .before .before .forgeries-at .ensures .0);
       },
     )
