@@ -16,8 +16,7 @@ ghost use Rattle.register.specs.Plan.{Plan};
 ghost use Rattle.register.specs.Regular.{allowed};
 ghost use Rattle.answers.specs.Answers.{answerSize, pairIn};
 ghost use Rattle.plan.specs.Check.{result, checkOf};
-ghost use Rattle.simulator.specs.Judge.{readOf, judgeAfter, judgeOf};
-ghost use Rattle.simulator.specs.Numbered.{judged};
+ghost use Rattle.simulator.specs.{Judge.readOf, Judge.judgeAfter, Judge.judgeOf, Numbered.judged};
 ghost use Rattle.regular.specs.Tables.{Tables};
 ghost use Rattle.judge.specs.Fitting.{fitsRead};
 

@@ -11,11 +11,8 @@ use Rattle.bits.specs.{Field.fieldOf, Layout.numbersAt}
 use Rattle.bits.proofs.Laws.{field-zero, field-split, field-inner}
 use Rattle.register.specs.Lists.{one-if, allUpTo}
 use Rattle.register.proofs as register-laws
-use Rattle.plan.specs.Widths.{forgeryWidths}
-use Rattle.plan.specs.Header.{moves, operationAt, forgeryAt}
+use Rattle.plan.specs.{Widths.forgeryWidths, Header.moves, Header.operationAt, Header.forgeryAt, Parts.Operation, Parts.operationFrom, Parts.forgeryFrom, Parts.inPlacement, Parts.operationOf, Parts.operationsOf, Parts.forgeryOf, Parts.delayOf, Parts.isLink, Check.result, Check.checkOf, Check.endOf, Check.placementStands, Check.operationRises, Check.operationWaits, Check.operationStands, Check.forgeryRises, Check.forgeryStands, Check.delayStands, Check.placementsStand, Check.operationsStand, Check.forgeriesStand, Check.delaysStand, Check.finalBitsZero}
 use Rattle.plan.specs as plan-specs
-use Rattle.plan.specs.Parts.{Operation, operationFrom, forgeryFrom, inPlacement, operationOf, operationsOf, forgeryOf, delayOf, isLink}
-use Rattle.plan.specs.Check.{result, checkOf, endOf, placementStands, operationRises, operationWaits, operationStands, forgeryRises, forgeryStands, delayStands, placementsStand, operationsStand, forgeriesStand, delaysStand, finalBitsZero}
 use Rattle.plan.proofs.Laws.{all-at, all-from, all-same}
 use Rattle.plan.proofs as plan-laws
 use Rattle.longest.specs.Longest.{forgeryNumbers, longestPlan, begunAt, partyOf, delayIn}

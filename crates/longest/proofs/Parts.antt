@@ -14,10 +14,7 @@ use Rattle.bits.proofs.Packing.{fits-length}
 use Rattle.bits.proofs.Records.{records-last, record-at, fits-append}
 use Rattle.register.specs.Lists.{flat}
 use Rattle.register.proofs.Counting.{one-if-le}
-use Rattle.plan.specs.Widths.{placementWidths, operationWidths, forgeryWidths, delayWidths}
-use Rattle.plan.specs.Header.{headerOf, moves, placementAt, operationAt, forgeryAt}
-use Rattle.plan.specs.Limits.{mostBytes}
-use Rattle.plan.specs.Parts.{isLink}
+use Rattle.plan.specs.{Widths.placementWidths, Widths.operationWidths, Widths.forgeryWidths, Widths.delayWidths, Header.headerOf, Header.moves, Header.placementAt, Header.operationAt, Header.forgeryAt, Limits.mostBytes, Parts.isLink}
 use Rattle.plan.proofs.Laws.{row-inside, all-at}
 use Rattle.lists.specs.Lists.{Lists, listsOf}
 use Rattle.lists.proofs.Inverse.{Fit, fit-full, header-same, lists-back, plan-bytes}

@@ -11,8 +11,7 @@ use borrow.Author.Tests.{lt-ltb, le-ltb, le-leb, lt-leb, eq-eqb, ne-eqb, eqb-tru
 use Rattle.register.proofs as register-laws
 use Rattle.plan.specs.Header.{delayBits, DelaysIn}
 use Rattle.calendar.specs as calendar-specs
-use Rattle.calendar.specs.Layout.{receivers, rows, places, rowOf}
-use Rattle.calendar.specs.View.{Posted}
+use Rattle.calendar.specs.{Layout.receivers, Layout.rows, Layout.places, Layout.rowOf, View.Posted}
 use Rattle.calendar.specs.Posts.{Messages, inRow, among, dueIn, toOthers, Sent}
 use Rattle.calendar.proofs as calendar-laws
 use Rattle.calendar.proofs.Posting.{posted-eq, posted-trans, posted-none}
