@@ -21,12 +21,11 @@ import sys
 
 sys.dont_write_bytecode = True
 
-from oracle import LARGEST, Oracle
+from oracle import LARGEST, Oracle, lent, write
 
 PLANS = 120
 MOST_SERVERS = 6
 SMALL_BYTES = 115
-FILLER = 165
 # One more than the most servers, readers, ticks and forgeries, with their places in the header.
 BEYOND = (0, 17), (4, 5), (5, 129), (8, 1025)
 HEADER, PLACEMENTS, OPERATIONS, FORGERIES, _ = PARTS = range(5)
@@ -109,10 +108,6 @@ def faults(oracle, lists, part):
     return [list(bent) for bent in dict.fromkeys(map(tuple, found)) if list(bent) != numbers]
 
 
-def lent(length):
-    return bytearray([FILLER]) * length
-
-
 class Cases:
     def __init__(self, oracle):
         self.oracle, self.rng = oracle, random.Random(1)
@@ -165,11 +160,6 @@ class Cases:
         self.add(self.oracle.bent_lists(self.rng, plan), self.some_room(plan))
 
 
-def write(name, data):
-    with open(name, "wb") as file:
-        file.write(data)
-
-
 def main(argv):
     if len(argv) != 2:
         sys.stderr.write(__doc__)
@@ -193,8 +183,8 @@ def main(argv):
     longest = oracle.builder.pack_plan(oracle.builder.largest())
     cases.add(oracle.lists(longest), len(longest))
     os.makedirs(os.path.join(folder, "data"), exist_ok=True)
-    write(os.path.join(folder, "data", "lists"), cases.packed)
-    write(os.path.join(folder, "stdout"), "".join(f"{line}\n" for line in cases.lines).encode())
+    write(cases.packed, folder, "data", "lists")
+    write("".join(f"{line}\n" for line in cases.lines).encode(), folder, "stdout")
     results = collections.Counter(" ".join(line.split()[:2 if line.startswith("refused") else 1]) for line in cases.lines)
     print(f"{len(cases.lines)} cases of {len(plans) + len(built) + 1} plans, {len(cases.packed)} bytes;",
           ", ".join(f"{what}: {count}" for what, count in sorted(results.items())))

@@ -16,7 +16,7 @@ import sys
 
 sys.dont_write_bytecode = True
 
-from oracle import Oracle, read
+from oracle import Oracle, read, write
 
 HELP = """\
 usage: simulate [PLAN]
@@ -48,11 +48,6 @@ ASKED = {"--help": HELP, "--version": VERSION}
 UNKNOWN = ("-", "--", "-h", "--helping", "--versio")
 
 FAILED = {"missing.plan": "No such file or directory", "examples": "Is a directory", "": "No such file or directory"}
-
-
-def write(data, *path):
-    with open(os.path.join(*path), "wb") as file:
-        file.write(data)
 
 
 def refused(oracle):

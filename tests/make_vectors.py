@@ -29,12 +29,11 @@ import sys
 
 sys.dont_write_bytecode = True
 
-from oracle import Oracle
+from oracle import Oracle, lent, write
 
 LOOKED_AT = 120
 SMALL_BYTES = 2_500
 ROOM_FOR_SMALL = 500_000
-FILLER = 165
 BEYOND = 2 ** 24 - 1        # an answer that is not there: nothing is replaced
 
 
@@ -192,10 +191,6 @@ class Asked:
         self.look(space, 0, 2 ** 32 - 1)
 
 
-def lent(length):
-    return bytearray([FILLER]) * length
-
-
 def kept(data):
     return "kept" if data == lent(len(data)) else "changed"
 
@@ -234,11 +229,6 @@ def about(oracle, index, plan, rng, each_pair):
     return asked, [*lines, " ".join(["answers", *map(str, numbers)]), *looks(oracle, plan), *asked.lines]
 
 
-def write(name, data):
-    with open(name, "wb") as file:
-        file.write(data)
-
-
 def main(argv):
     if len(argv) != 2:
         sys.stderr.write(__doc__)
@@ -262,8 +252,8 @@ def main(argv):
             kind = " ".join(words[:3] if words[1] == "refused" else words[:1 if words[0] != "judge" else 2])
             counts[kind] = counts.get(kind, 0) + 1
     os.makedirs(os.path.join(folder, "data"), exist_ok=True)
-    write(os.path.join(folder, "data", "plans"), b"".join(packed))
-    write(os.path.join(folder, "stdout"), ("\n".join(printed) + "\n").encode())
+    write(b"".join(packed), folder, "data", "plans")
+    write(("\n".join(printed) + "\n").encode(), folder, "stdout")
     print(f"{len(plans)} plans, {sum(map(len, packed))} bytes;",
           ", ".join(f"{what}: {count}" for what, count in sorted(counts.items())))
     return 0

@@ -7,11 +7,22 @@ import sys
 DEPTH = 3           # pairs in a store
 LOOSE = True        # request Four: a write that ends as a read begins has finished before it
 LARGEST = 2 ** 32 - 1       # number of a list
+FILLER = 165        # byte of a lent buffer
 
 
 def read(*path):
     with open(os.path.join(*path), "rb") as file:
         return file.read()
+
+
+def write(data, *path):
+    with open(os.path.join(*path), "wb") as file:
+        file.write(data)
+
+
+def lent(length):
+    """A buffer as the gate's programs lend it."""
+    return bytearray([FILLER]) * length
 
 
 class Oracle:
