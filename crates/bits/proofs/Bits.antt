@@ -52,6 +52,17 @@ bits-small (suc w) x i = elim (decLt i w) [
   ]
 ]
 
+-- those of 0 are 0
+pub bits-none : (w i : ℕ) → _≡_ {A = ℕ} (getD (bitsOf w 0) i 0) 0
+bits-none zero i = rw bits-zero
+bits-none (suc w) i = elim (decLt i w) [
+  | yes h ↦ rw (bits-before w 0 i h) (bits-none w i)
+  | no h ↦ elim (decLt w i) [
+    | yes l ↦ List·getD-eq-default (bitsOf (suc w) 0) 0 {n = i} (rw length-bitsOf l)
+    | no l ↦ let e : i ≡ w = omega arith in rw (e, bits-last w 0)
+  ]
+]
+
 -- the bits above the last b, and those
 pub bits-cut : (a b x : ℕ) → bitsOf (a + b) x ≡ bitsOf a (x / 2 ^ b) ++ bitsOf b x
 bits-cut a zero x = rw (add-zero, pow-zero, div-one, bits-zero x, append-nil)

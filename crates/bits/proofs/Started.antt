@@ -7,16 +7,17 @@ use native.Mathlib.Nat.{zero-add, zero-div}
 use native.Mathlib.Decide.{decLt}
 use native.Mathlib.Omega.{arith}
 use lib.Dec.{lit<, lit≤}
-use lib.ListN.{length, getD, take, drop, replicate, length-replicate, length-drop, getD-replicate, take-append-drop, List·getD-eq-default}
-use lib.Seq.{getD-take, getD-drop, length-take-le}
+use lib.ListN.{length, getD, take, drop, replicate, length-append, length-replicate, length-drop, getD-replicate, take-append-drop, List·getD-append, List·getD-eq-default}
+use lib.Seq.{getD-append-add, getD-take, getD-drop, length-take-le}
 use Rattle.bits.specs.Field.{bitOf, Bytes}
-use Rattle.bits.specs.Fill.{bytesFor}
-use Rattle.bits.specs.Layout.{inBytes}
+use Rattle.bits.specs.Fill.{fill, bytesFor}
+use Rattle.bits.specs.Layout.{bitsOf, inBytes}
 use Rattle.bits.specs.Writing.{Wrote}
 use Rattle.bits.proofs.Filling.{fill-units}
 use Rattle.bits.proofs.Laws.{bit-part}
-use Rattle.bits.proofs.Bits.{same-bits}
-use Rattle.bits.proofs.Packing.{Small, in-length, in-small, in-bit}
+use Rattle.bits.proofs.Bits.{length-bitsOf, bits-small, bits-none, same-bits}
+use Rattle.bits.proofs.Packing.{Small, small-append, in-length, in-small, in-bit}
+use Rattle.bits.proofs.Written.{wrote-then}
 
 zero-at : (n i : ℕ) → _≡_ {A = ℕ} (getD (replicate n 0) i 0) 0
 zero-at n i = elim (decLt i n) [
@@ -77,3 +78,41 @@ module _ (a b bits : List ℕ) (n : ℕ) (W : Wrote a b 0 bits) (small : Small b
 
   pub wrote-start : b ≡ inBytes bits ++ drop n a
   wrote-start = sym (take-append-drop n b) ∙ rw (front, back)
+
+-- the bits that fill the last byte are zero
+module _ (bits : List ℕ) (small : Small bits) where
+  abbrev filled : List ℕ
+  filled = bitsOf (fill 8 (length bits)) 0
+
+  filled-at : (i : ℕ) → getD (bits ++ filled) i 0 ≡ getD bits i 0
+  filled-at i = elim (decLt i (length bits)) [
+    | yes l ↦ List·getD-append bits filled 0 i l
+    | no l ↦
+        let e : i ≡ length bits + (i - length bits) = omega arith in
+        rw e (getD-append-add bits filled (i - length bits) 0 ∙ bits-none (fill 8 (length bits)) (i - length bits)
+        ∙ sym (List·getD-eq-default bits 0 {n = length bits + (i - length bits)} (omega arith)))
+  ]
+
+  small-filled : Small (bits ++ filled)
+  small-filled = small-append bits filled small (bits-small (fill 8 (length bits)) 0)
+
+  size-filled : length (bits ++ filled) ≡ length bits + fill 8 (length bits)
+  size-filled = length-append bits filled ∙ rw (length-bitsOf (fill 8 (length bits)) 0)
+
+  in-filled : inBytes (bits ++ filled) ≡ inBytes bits
+  in-filled =
+      let units = fill-units 8 (length bits) (lit≤ tt) in
+      let same : bytesFor (length (bits ++ filled)) ≡ bytesFor (length bits) = rw size-filled (omega arith) in
+      same-bits (inBytes (bits ++ filled)) (inBytes bits) (in-small (bits ++ filled) small-filled) (in-small bits small)
+      (in-length (bits ++ filled) small-filled ∙ same ∙ sym (in-length bits small)) (λ i l.
+      in-bit (bits ++ filled) small-filled i
+      ∙ filled-at i
+      ∙ sym (in-bit bits small i))
+
+  -- bits, and zeros that fill the last byte, written over any bytes
+  pub wrote-filled : {a b c : List ℕ} → Wrote a b 0 bits → Wrote b c (length bits) filled → Bytes a → Bytes c → bytesFor (length bits) ≤ length a
+      → c ≡ inBytes bits ++ drop (bytesFor (length bits)) a
+  wrote-filled {a} {b} {c} W Z bytes-a bytes-c room =
+      let units = fill-units 8 (length bits) (lit≤ tt) in
+      let all : Wrote a c 0 (bits ++ filled) = wrote-then W (rw zero-add Z) in
+      rw (← in-filled) (wrote-start a c (bits ++ filled) (bytesFor (length bits)) all small-filled bytes-a bytes-c (rw size-filled (sym units)) room)

@@ -2,7 +2,7 @@ ghost use mathlib.Core.Path.{_≡_};
 ghost use Prim.Native.Nat.{_+_, _*_, _-_, _/_, _%_, _^_, _≤_, _<_};
 ghost use lib.ListN.{length};
 ghost use Rattle.bits.specs.Field.{fieldOf};
-ghost use Rattle.bits.specs.Fill.{fill};
+ghost use Rattle.bits.specs.Fill.{fill, bytesFor};
 ghost use Rattle.bits.specs.Layout.{bitsOf};
 ghost use Rattle.bits.specs.Writing.{Wrote};
 
@@ -26,16 +26,47 @@ fn bytes_from(s: &[u8], b: usize, n: usize) -> u64
     acc
 }
 
-// The number in the `width` bits from bit `at` on: whole bytes first, then a shift and a remainder.
+// What four bytes are below.
+const HALF_LIMIT: u64 = 1 << 32;
+
+// The eight bytes from byte b on as one number. Of two halves with a loop each the compiler makes one load; of one loop it does not everywhere.
+fn eight_from(s: &[u8], b: usize) -> u64
+    requires { ⌜ b + 8 ≤ length (now s) ⌝ }
+    ensures { λ r. ⌜ r ≡ fieldOf (now (s .entry)) (8 * b) (8 * 8) ⌝ }
+{
+    bytes_from(s, b, 4) * HALF_LIMIT + bytes_from(s, b + 4, 4)
+}
+
+// The `width` bits of a number above its lowest `low`.
+pub fn part(all: u64, low: usize, width: usize) -> u64
+    requires { ⌜ (low < 64) × (width < 64) ⌝ }
+    ensures { λ r. ⌜ (r ≡ all / 2 ^ low % 2 ^ width) × (r < 2 ^ width) ⌝ }
+{
+    (all >> low) % (1 << width)
+}
+
+// The number in the `width` bits from bit `at` on, out of eight bytes, or near the end of the string out of as many as hold them.
 pub fn field(s: &[u8], at: usize, width: usize) -> u64
     requires { ⌜ (width ≤ 57) × (at + width ≤ 8 * length (now s)) × (at < 2 ^ 60) ⌝ }
     ensures { λ r. ⌜ (r ≡ fieldOf (now (s .entry)) at width) × (r < 2 ^ width) ⌝ }
 {
-    let off = at % 8;
-    let low = fill(off + width);
-    let n = (off + width + low) / 8;
-    let all = bytes_from(s, at / 8, n);
-    (all >> low) % (1 << width)
+    if width == 0 {
+        return 0;
+    }
+    let first = at / 8;
+    if s.len() < first + 8 {
+        let n = bytes_for(at % 8 + width);
+        return part(bytes_from(s, first, n), 8 * n - at % 8 - width, width);
+    }
+    part(eight_from(s, first), 8 * 8 - at % 8 - width, width)
+}
+
+// The bit at this place, out of the byte that holds it.
+pub fn bit(s: &[u8], at: usize) -> u8
+    requires { ⌜ at < 8 * length (now s) ⌝ }
+    ensures { λ r. ⌜ r ≡ fieldOf (now (s .entry)) at 1 ⌝ }
+{
+    (s[at / 8] >> (7 - at % 8)) % 2
 }
 
 // The number in the four bits from bit `at` on: of one byte, or of two where they straddle.
@@ -57,6 +88,14 @@ pub fn fill(bits: usize) -> usize
     ensures { λ r. ⌜ r ≡ fill 8 bits ⌝ }
 {
     (8 - bits % 8) % 8
+}
+
+// The bytes that hold so many bits, and those that fill the last byte.
+pub fn bytes_for(bits: usize) -> usize
+    requires { ⌜ bits < 2 ^ 60 ⌝ }
+    ensures { λ r. ⌜ r ≡ bytesFor bits ⌝ }
+{
+    (bits + fill(bits)) / 8
 }
 
 // The n bytes from byte b on get the lowest bits of this number.
@@ -100,8 +139,7 @@ pub fn put(out: &mut [u8], at: usize, width: usize, value: u64)
         return;
     }
     if out.len() < at / 8 + 8 {
-        let used = at % 8 + width;
-        put_in(out, at, width, value, (used + fill(used)) / 8);
+        put_in(out, at, width, value, bytes_for(at % 8 + width));
         return;
     }
     put_in(out, at, width, value, 8);

@@ -1,12 +1,12 @@
--- A record that is being read, field by field: what is left of it, and the numbers so far.
+-- A record that is gone over, field by field: what is left of it.
 use mathlib.Core.Path.{_≡_, refl, sym, _∙_}
-use mathlib.Core.List.{List, _∷_, _++_, append-nil}
+use mathlib.Core.List.{List, _∷_}
 use Prim.Native.Nat.{ℕ, suc, _+_, _-_, _≤_, _<_}
 use native.Mathlib.Nat.{add-assoc}
 use native.Mathlib.Omega.{arith}
 use lib.Dec.{T, leb, leb→le}
-use lib.ListN.{length, getD, set, take, drop, length-set, drop-of-length-le, List·getD-eq-default}
-use lib.Seq.{drop-cons, take-all, take-suc-set, append-snoc}
+use lib.ListN.{length, getD, drop, List·getD-eq-default}
+use lib.Seq.{drop-cons}
 use Rattle.register.proofs.Logic.{and-l, and-r}
 use Rattle.bits.specs.Field.{fieldOf}
 use Rattle.bits.specs.Layout.{total, numbersAt}
@@ -38,28 +38,6 @@ module _ {ws : List ℕ} {at from i : ℕ} (u : Left ws at from i) (l : i < leng
     bits = next-inside;
     narrow = let e = u .narrow in and-r (leb (getD ws i 0) 32) (noWider 32 (drop (suc i) ws)) (rw split at e);
   }
-
--- the numbers so far, and those of the fields that are left
-pub record Underway (ws s : List ℕ) (at : ℕ) (out : List ℕ) (from i : ℕ) : Type 0 where
-  pub left : Left ws at from i
-  pub places : length out ≡ length ws
-  pub numbers : take i out ++ numbersAt (drop i ws) s from ≡ numbersAt ws s at
-
-pub more : {ws s : List ℕ} {at : ℕ} {out : List ℕ} {from i : ℕ} → Underway ws s at out from i → i < length ws
-    → Underway ws s at (set out i (fieldOf s from (getD ws i 0))) (from + getD ws i 0) (suc i)
-more {ws} {s} {at} {out} {from} {i} u l = record {
-  left = left-more (u .left) l;
-  places = rw length-set (u .places);
-  numbers =
-      let j : i < length out = omega (arith, u .places) in
-      let e = u .numbers in
-      rw (take-suc-set out i _ j, append-snoc) (rw (drop-cons ws i 0 l) at e);
-}
-
-pub all-read : {ws s : List ℕ} {at : ℕ} {out : List ℕ} {from i : ℕ} → Underway ws s at out from i → length ws ≤ i → out ≡ numbersAt ws s at
-all-read {ws} {s} {at} {out} {from} {i} u l =
-    let e = u .numbers in
-    rw (drop-of-length-le ws l, take-all i out (omega (arith, u .places)), append-nil) at e
 
 -- field number i is that many fields on
 pub record Sought (ws s : List ℕ) (at i from k : ℕ) : Type 0 where

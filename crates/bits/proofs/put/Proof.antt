@@ -14,14 +14,11 @@ returns c =
 add-if2 : tie.Need-add-if2
 add-if2 c = search needs
 
-add-used : tie.Need-add-used
-add-used c = search needs
+add-bytes-for : tie.Need-add-bytes-for
+add-bytes-for c = search needs
 
-fill-requires : tie.Need-fill-requires
-fill-requires c κs = search needs
-
-add-put-in : tie.Need-add-put-in
-add-put-in c = search needs
+bytes-for-requires : tie.Need-bytes-for-requires
+bytes-for-requires c κs = search needs
 
 put-in-requires : tie.Need-put-in-requires
 put-in-requires c κs = search needs
@@ -47,9 +44,8 @@ put-spec =
     (tie.spec
     returns
     add-if2
-    add-used
-    fill-requires
-    add-put-in
+    add-bytes-for
+    bytes-for-requires
     put-in-requires
     same-length
     returns-2

@@ -4,9 +4,9 @@ use native.Mathlib.Nat.{mod-lt}
 use native.Mathlib.Omega.{arith}
 use lib.Pow.{pow-pos}
 use borrow.Author.Needs.{needs}
 use Rattle.bits.proofs.Laws.{one-shl}
-use Rattle.records.proofs.part.Statement.{statement}
-use Rattle.records.proofs.part.Tie as tie
+use Rattle.bits.proofs.part.Statement.{statement}
+use Rattle.bits.proofs.part.Tie as tie
 
 shr-result : tie.Need-shr-result
 shr-result c = search needs
