@@ -1,4 +1,4 @@
--- An accepted plan has at most 34,362 bytes and at most 168 reads: a party's operations stand apart, so that few fit below the plan's
+-- An accepted plan has at most 34,362 bytes, 35,619 in form two, and at most 168 reads: a party's operations stand apart, so that few fit below the plan's
 -- ticks.
 -- It stands on the laws of waiting and on the ranges of the header.
 use mathlib.Core.Path.{_≡_, refl}
@@ -11,16 +11,16 @@ use lib.Dec.{leb, ltb, eqb}
 use lib.ListN.{length}
 use borrow.Author.Tests.{leb-true, ltb-true, eqb-true, lt-ltb, ne-eqb}
 use Rattle.register.specs.Lists.{allUpTo, count, one-if}
-use Rattle.plan.specs.Header.{Header, headerOf, parties}
+use Rattle.bits.specs.Fill.{bytesFor}
+use Rattle.plan.specs.Form.{formOne, formTwo, widthOf}
+use Rattle.plan.specs.Header.{Header, headerOf, headerBits, operationBits, forgeryBits, moves, parties, bitLength}
 use Rattle.plan.specs.Parts.{operationOf, operationsOf}
-use Rattle.plan.specs.Check.{operationStands, operationsStand, operationRises, operationWaits, endOf, checkOf, result}
+use Rattle.plan.specs.Check.{operationStands, operationsStand, operationRises, operationWaits, endOf, checkOf, checkIn, result}
 use Rattle.plan.specs as plan-specs
 use Rattle.plan.proofs.Laws.{all-at, all-from, table-few}
-use Rattle.register.proofs.Logic.{T-eq, and-both}
-use Rattle.register.proofs.Counting.{count-not}
-use Rattle.plan.proofs.Accept.{playable, reads-counted}
+use Rattle.register.proofs.{Logic.T-eq, Logic.and-both, Counting.count-not}
+use Rattle.plan.proofs.{Accept.playable, Accept.reads-counted, Waiting.ended}
 use Rattle.plan.proofs as plan-laws
-use Rattle.plan.proofs.Waiting.{ended}
 
 -- Operations of one party, each of which begins after the last one's end.
 module _ (party at end : ℕ → ℕ) (p d : ℕ) where
@@ -61,26 +61,26 @@ unfolding count
 five-parties party zero f = refl
 five-parties party (suc n) f = omega (arith, one-of-five (party n) (f n (omega arith)), five-parties party n (λ j l. f j (omega arith)))
 
-module _ (s : List ℕ) (h : Header) (r : plan-specs.Shape.Ranged h) (stand : operationsStand 16 s h ≡ true) where
+module _ (w : ℕ) (s : List ℕ) (h : Header) (r : plan-specs.Shape.Ranged h) (stand : operationsStand w s h ≡ true) where
   party : ℕ → ℕ
-  party j = operationOf 16 s h j .party
+  party j = operationOf w s h j .party
 
   begun : ℕ → ℕ
-  begun j = operationOf 16 s h j .at
+  begun j = operationOf w s h j .at
 
   done : ℕ → ℕ
-  done j = endOf h (operationOf 16 s h j)
+  done j = endOf h (operationOf w s h j)
 
   -- the five tests of an operation
   each : (j : ℕ) → j < h .operations → (party j ≤ h .readers) × (done j < h .ticks) × (ended party done j (party j) (begun j) ≡ true)
   unfolding operationsStand operationStands operationWaits ended party begun done
   each j l =
-      let o = operationOf 16 s h j in
-      let all = all-at (operationStands 16 s h) (h .operations) j l stand in
+      let o = operationOf w s h j in
+      let all = all-at (operationStands w s h) (h .operations) j l stand in
       let b1 = and-both (leb (o .party) (h .readers)) _ all in
       let b2 = and-both (eqb (o .party) 0 || eqb (o .value) 0) _ (b1 .1) in
       let b3 = and-both (ltb (endOf h o) (h .ticks)) _ (b2 .1) in
-      let b4 = and-both (operationRises 16 s h j) _ (b3 .1) in
+      let b4 = and-both (operationRises w s h j) _ (b3 .1) in
       (leb-true (o .party) (h .readers) (b1 .0), ltb-true (endOf h o) (h .ticks) (b3 .0), b4 .1)
 
   -- so many of a party fit below the ticks
@@ -105,7 +105,7 @@ module _ (s : List ℕ) (h : Header) (r : plan-specs.Shape.Ranged h) (stand : op
   unfolding party begun done endOf
   reads-few p l =
       let c = count (λ j. eqb (party j) p) (h .operations) in
-      let m = fit p (2 * h .delta) (λ j e. rw (ne-eqb (operationOf 16 s h j .party) 0 (λ z. omega (arith, eqb-true (operationOf 16 s h j .party) p e))) (omega arith)) in
+      let m = fit p (2 * h .delta) (λ j e. rw (ne-eqb (operationOf w s h j .party) 0 (λ z. omega (arith, eqb-true (operationOf w s h j .party) p e))) (omega arith)) in
       omega (arith, mul-le-mul-left {m = 3} {n = 2 * h .delta + 1} c (omega arith))
 
   -- 232 operations
@@ -123,23 +123,39 @@ module _ (s : List ℕ) (h : Header) (r : plan-specs.Shape.Ranged h) (stand : op
       let rest = count-not (λ j. eqb (party j) 0) (h .operations) in
       omega (arith, all, rest, one 1 (omega arith), one 2 (omega arith), one 3 (omega arith), one 4 (omega arith))
 
--- 'An accepted plan has at most 34,362 bytes.'
-pub longest : (s : List ℕ) (m : ℕ) → checkOf 16 s ≡ result m → length s ≤ plan-specs.Limits.mostBytes
-longest s m e =
-    let h = headerOf 16 s in
-    let A = playable 16 s m e in
-    let z = plan-laws.Sizes.playable-sizes s A in
-    let r = z .ranged in
-    let o = operations-few s h r (T-eq (operationsStand 16 s h) (A .operations)) in
-    let t = table-few (h .ticks) (parties h) (omega arith) (omega arith) in
-    omega arith
+-- A plan that can be played: what its operations and its header's ranges are.
+module _ (w : ℕ) (s : List ℕ) (A : plan-specs.Playable.Playable w s) where
+  stands : operationsStand w s (headerOf w s) ≡ true
+  stands = T-eq (operationsStand w s (headerOf w s)) (A .operations)
 
--- and at most 168 reads
-pub most-reads : (s : List ℕ) (m : ℕ) → checkOf 16 s ≡ result m → m ≤ plan-specs.Limits.mostReads
-unfolding plan-specs.Packed.planOf operationsOf party
-most-reads s m e =
-    let h = headerOf 16 s in
-    let A = playable 16 s m e in
-    let stand = T-eq (operationsStand 16 s h) (A .operations) in
-    let few = reads-of-few s h (plan-laws.Sizes.playable-sizes s A .ranged) stand in
-    rw (reads-counted 16 s m e, plan-laws.Reading.length-reads (h .operations) (operationOf 16 s h)) few
+  in-range : plan-specs.Shape.Ranged (headerOf w s)
+  in-range = plan-laws.Ranges.ranged-header w s (T-eq (plan-specs.Check.headerInRange (headerOf w s)) (A .header))
+
+  -- at most 128 placements, 232 operations, 1,024 forgeries and the delays of 128 ticks and 21 parties
+  pub longest-bits : bitLength w (headerOf w s) ≤ headerBits w + 16 * 128 + operationBits w * 232 + forgeryBits w * 1024 + 4 * 56448
+  unfolding moves
+  longest-bits =
+      let h = headerOf w s in
+      let o = mul-le-mul-left {m = h .operations} {n = 232} w (operations-few w s h in-range stands) in
+      let f = mul-le-mul-left {m = h .forgeries} {n = 1024} w (in-range .forgeries-hi) in
+      let p = plan-laws.Laws.moves-few (h .ticks) (h .period) (omega (arith, in-range)) in
+      let t = table-few (h .ticks) (parties h) (omega (arith, in-range)) (omega (arith, in-range)) in
+      omega (arith, operations-few w s h in-range stands, in-range)
+
+  -- and at most 168 reads
+  pub reads-limited : length (plan-specs.Packed.planOf w s .reads) ≤ plan-specs.Limits.mostReads
+  unfolding plan-specs.Packed.planOf operationsOf party
+  reads-limited =
+      let h = headerOf w s in
+      rw (plan-laws.Reading.length-reads (h .operations) (operationOf w s h)) (reads-of-few w s h in-range stands)
+
+pub most-reads : (w : ℕ) (s : List ℕ) (m : ℕ) → checkOf w s ≡ result m → m ≤ plan-specs.Limits.mostReads
+most-reads w s m e = rw (reads-counted w s m e) (reads-limited w s (playable w s m e))
+
+-- 'An accepted plan has at most 34,362 bytes.' 'an accepted plan of form two has at most 35,619 bytes'
+pub longest : (form : ℕ) (s : List ℕ) (m : ℕ) → checkIn form s ≡ result m → length s ≤ plan-specs.Limits.mostBytes form
+longest form s m e =
+    let (known, accepted) = plan-laws.Forms.form-passed form s m e in
+    let bounded : (w : ℕ) (q : checkOf w s ≡ result m) → length s ≤ bytesFor (headerBits w + 16 * 128 + operationBits w * 232 + forgeryBits w * 1024 + 4 * 56448) =
+    λ w q. omega (arith, plan-laws.Accept.exact w s (playable w s m q), longest-bits w s (playable w s m q)) in
+    plan-laws.Forms.by-form (λ (form : ℕ). checkOf (widthOf form) s ≡ result m → length s ≤ plan-specs.Limits.mostBytes form) (bounded (widthOf formOne)) (bounded (widthOf formTwo)) form known accepted

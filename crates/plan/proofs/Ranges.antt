@@ -5,10 +5,12 @@ use mathlib.Core.Bool.{true}
 use mathlib.Core.List.{List}
 use Prim.Native.Nat.{ℕ, _≤_}
 use native.Mathlib.Omega.{arith}
-use lib.Dec.{leb, eqb}
+use lib.Dec.{leb, eqb, lit<}
 use borrow.Author.Tests.{leb-true, eqb-true}
-use Rattle.bits.proofs.Laws.{field-lt}
+use Rattle.bits.specs.Layout.{numbersAt}
+use Rattle.bits.proofs.Packing.{fits-at, fits-numbers}
 use Rattle.register.proofs.Logic.{and-both}
+use Rattle.plan.specs.Widths.{headerWidths}
 use Rattle.plan.specs.Header.{Header, headerOf}
 use Rattle.plan.specs.Check.{within, headerInRange}
 use Rattle.plan.specs.Shape.{Ranged}
@@ -43,6 +45,8 @@ module _ (h : Header) where
       }
 
 -- the same of a plan's header
-pub ranged-header : (s : List ℕ) → headerInRange (headerOf 16 s) ≡ true → Ranged (headerOf 16 s)
+pub ranged-header : (w : ℕ) (s : List ℕ) → headerInRange (headerOf w s) ≡ true → Ranged (headerOf w s)
 unfolding headerOf
-ranged-header s e = ranged (headerOf 16 s) e (omega (arith, field-lt s 44 8))
+ranged-header w s e =
+    let few = fits-at (headerWidths w) (numbersAt (headerWidths w) s 0) (fits-numbers (headerWidths w) s 0) 7 (lit< tt) in
+    ranged (headerOf w s) e (omega (arith, few))

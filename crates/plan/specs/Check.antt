@@ -8,6 +8,7 @@ use Rattle.bits.specs.Field.{fieldOf}
 use Rattle.bits.specs.Fill.{fill, bytesFor}
 use Rattle.register.specs.Lists.{count, any, allUpTo}
 use Rattle.register.specs.Plan.{Plan, Read, Forgery, readEnd}
+use Rattle.plan.specs.Form.{isForm, widthOf}
 use Rattle.plan.specs.Header.{Header, headerOf, headerBits, placementBits, keyBits, forgeryBits, moves, parties, placementAt, operationAt, forgeryAt, bitLength, kIn}
 use Rattle.plan.specs.Parts.{Operation, inPlacement, operationOf, forgeryOf, delayOf, isLink}
 use Rattle.plan.specs.Packed.{planOf}
@@ -54,7 +55,7 @@ module _ (w : ℕ) (s : List ℕ) (h : Header) where
       let o : Operation = operationOf w s h i in
       allUpTo i (λ j. not (eqb (operationOf w s h j .party) (o .party)) || ltb (endOf h (operationOf w s h j)) (o .at))
 
-  -- 'a party is at most s'; 'cue 16 (0 for a read)'; 'every operation ends below H'
+  -- 'a party is at most s'; 'cue .. (0 for a read)'; 'every operation ends below H'
   unfoldable pub operationStands : ℕ → Bool
   operationStands i =
       let o : Operation = operationOf w s h i in
@@ -70,7 +71,7 @@ module _ (w : ℕ) (s : List ℕ) (h : Header) where
       let P : Plan = planOf w s in
       any (λ (r : Read). eqb (P .n + r .reader) (g .to) && (leb (r .begun) (g .at) && ltb (g .at) (readEnd P r))) (P .reads)
 
-  -- 'Forgeries strictly rise as 40-bit numbers'
+  -- 'Forgeries strictly rise as 40-bit numbers'; Ten: 'forgeries rise at their form's width'
   unfoldable pub forgeryRises : ℕ → Bool
   forgeryRises i = eqb i 0 || ltb (fieldOf s (forgeryAt w h (i - 1)) (forgeryBits w)) (fieldOf s (forgeryAt w h i) (forgeryBits w))
 
@@ -120,3 +121,7 @@ checkOf w s =
     (unless (forgeriesStand w s h) 7
     (unless (delaysStand w s h && finalBitsZero w s h) 8
     (result (length (planOf w s .reads))))))))))
+
+-- Ten: '1 is a form other than one or two'
+unfoldable pub checkIn : ℕ → List ℕ → Outcome ℕ
+checkIn form s = unless (isForm form) 1 (checkOf (widthOf form) s)

@@ -1,3 +1,4 @@
+pub mod Form
 pub mod Widths
 pub mod Header
 pub mod Limits

@@ -8,6 +8,7 @@ use Rattle.plan.specs.Check.{Outcome, refused, result}
 
 -- Check: '1 under 8 bytes; 2 a header field outside its range; 3 n below (k+3)f+1; 4 byte length other than the header implies; 5 a placement; 6 an
 -- operation; 7 a forgery; 8 a delay or final bit'
+-- 'Ten': '1 is a form other than one or two (when packing too), or a plan shorter than its form's header, 9 and 12 count the form's answer bytes'
 -- Play: '9 under 5 bytes for each read; 10 workspace under 60,000 bytes'
 -- Look: '11 box not below n, or tick not below H'
 -- Judge: '12 length other than 5 times the reads; 13 an answer whose begin, screen or zero bit isn't that of its read'

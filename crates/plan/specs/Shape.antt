@@ -4,6 +4,8 @@ use mathlib.Core.List.{List}
 use Prim.Native.Nat.{ℕ, _≤_}
 use lib.ListN.{length}
 use Rattle.bits.specs.Fill.{bytesFor}
+use Rattle.plan.specs.Form.{mostWidth}
+use Rattle.plan.specs.Limits.{mostBits}
 use Rattle.plan.specs.declared.header.Shape.{Shape}
 use Rattle.plan.specs.Header.{Header, moves, bitLength}
 
@@ -37,9 +39,10 @@ pub record Ranged (h : Header) : Type 0 where
   pub forgeries-hi : h .forgeries ≤ 1024
   pub zero-bit-zero : h .zero-bit ≡ 0
 
--- a header in range, as many bytes as it implies, and what follows for sizes
-pub record Sized (s : List ℕ) (h : Header) : Type 0 where
+-- a header in range, as many bytes as it implies with values of w bits, and what follows for sizes
+pub record Sized (w : ℕ) (s : List ℕ) (h : Header) : Type 0 where
   pub ranged : Ranged h
-  pub size : length s ≡ bytesFor (bitLength 16 h)
+  pub narrow : w ≤ mostWidth
+  pub size : length s ≡ bytesFor (bitLength w h)
   pub moves-hi : moves h ≤ 128
-  pub bits-hi : bitLength 16 h ≤ 275494
+  pub bits-hi : bitLength w h ≤ mostBits

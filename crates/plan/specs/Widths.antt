@@ -1,5 +1,5 @@
 -- The records of a packed plan, each as one list of widths (document 01, 'The plan, packed').
--- w is the width of a value (document 01: a cue), 16 in form one.
+-- w is the width of a value (document 01: a cue), 16 in form one and 24 in form two.
 use mathlib.Core.List.{List, [], _∷_}
 use Prim.Native.Nat.{ℕ}
 

@@ -1,6 +1,8 @@
 // A forgery of a plan, as its bits say it.
-use crate::header::Shape;
-ghost use Prim.Native.Nat.{_^_, _<_};
+ghost use mathlib.Core.Path.{_≡_};
+ghost use Prim.Native.Nat.{_^_, _≤_, _<_};
+ghost use Rattle.plan.specs.Form.{mostWidth};
+ghost use Rattle.plan.specs.Widths.{forgeryWidths};
 ghost use Rattle.plan.specs.Header.{forgeryBits};
 ghost use Rattle.plan.specs.Steps.{IsForged};
 
@@ -20,41 +22,52 @@ impl Forged {
 
     const RECEIVER_BITS: usize = 5;
 
-    const VALUE_BITS: usize = Shape::VALUE_BITS;
-
     const NUMBER_BITS: usize = 8;
 
-    // Its fields in packed order.
-    pub const WIDTHS: [u8; 5] = [
-        Self::TICK_BITS as u8,
-        Self::SENDER_BITS as u8,
-        Self::RECEIVER_BITS as u8,
-        Self::VALUE_BITS as u8,
-        Self::NUMBER_BITS as u8,
-    ];
+    pub const FIELDS: usize = 5;
 
-    // The bits behind each field.
-    const VALUE_AT: usize = Self::NUMBER_BITS;
+    // The bits before its value.
+    pub const VALUE_AT: usize = Self::TICK_BITS + Self::SENDER_BITS + Self::RECEIVER_BITS;
 
-    const RECEIVER_AT: usize = Self::VALUE_AT + Self::VALUE_BITS;
+    // The widths of its fields in packed order.
+    pub fn widths(width: u8) -> [u8; Self::FIELDS]
+        ensures { λ r. ⌜ r ≡ forgeryWidths width ⌝ }
+    {
+        [
+            Self::TICK_BITS as u8,
+            Self::SENDER_BITS as u8,
+            Self::RECEIVER_BITS as u8,
+            width,
+            Self::NUMBER_BITS as u8,
+        ]
+    }
 
-    const SENDER_AT: usize = Self::RECEIVER_AT + Self::RECEIVER_BITS;
-
-    const TICK_AT: usize = Self::SENDER_AT + Self::SENDER_BITS;
-
-    pub const BITS: usize = Self::TICK_AT + Self::TICK_BITS;
+    // All its bits.
+    pub fn bits(width: u8) -> usize
+        ensures { λ r. ⌜ r ≡ forgeryBits width ⌝ }
+    {
+        Self::VALUE_AT + width as usize + Self::NUMBER_BITS
+    }
 
     // Out of the number that has all its bits.
-    pub fn of(all: u64) -> Forged
-        requires { ⌜ all < 2 ^ forgeryBits 16 ⌝ }
-        ensures { λ r. ⌜ IsForged all r ⌝ }
+    pub fn of(all: u64, width: u8) -> Forged
+        requires { ⌜ (all < 2 ^ forgeryBits width) × (width ≤ mostWidth) ⌝ }
+        ensures { λ r. ⌜ IsForged width all r ⌝ }
     {
+        let value = width as usize;
+        // All but the number, and of that all but the value.
+        let rest = all >> Self::NUMBER_BITS;
+        let link = rest >> value;
         Forged {
-            at: records::part(all, Self::TICK_AT, Self::TICK_BITS) as u8,
-            from: records::part(all, Self::SENDER_AT, Self::SENDER_BITS) as u8,
-            to: records::part(all, Self::RECEIVER_AT, Self::RECEIVER_BITS) as u8,
-            value: records::part(all, Self::VALUE_AT, Self::VALUE_BITS) as u32,
-            number: records::part(all, 0, Self::NUMBER_BITS) as u8,
+            at: bits::part(
+                link,
+                Self::SENDER_BITS + Self::RECEIVER_BITS,
+                Self::TICK_BITS,
+            ) as u8,
+            from: bits::part(link, Self::RECEIVER_BITS, Self::SENDER_BITS) as u8,
+            to: bits::part(link, 0, Self::RECEIVER_BITS) as u8,
+            value: bits::part(rest, 0, value) as u32,
+            number: bits::part(all, 0, Self::NUMBER_BITS) as u8,
         }
     }
 }

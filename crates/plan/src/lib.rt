@@ -1,12 +1,13 @@
 // The packed plan (document 01, 'The plan, packed'): its header, an operation and a forgery as values, what Check returns, and all refusals.
 pub mod forgeries;
+pub mod form;
 pub mod header;
 pub mod logic;
 pub mod operations;
 
 // Why a call of the library is refused: the numbers 1 to 23 of documents 01 and 02, in order.
 pub enum Refusal {
-    // The plan is shorter than a header.
+    // There is no such form, or the plan is shorter than its form's header.
     TooShort,
     // A header field is outside its range.
     HeaderRange,

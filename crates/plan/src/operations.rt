@@ -3,6 +3,8 @@ use crate::header::Shape;
 ghost use mathlib.Core.Path.{_≡_};
 ghost use Prim.Native.Nat.{_+_, _*_, _^_, _≤_, _<_};
 ghost use lib.ListN.{length};
+ghost use Rattle.plan.specs.Form.{mostWidth};
+ghost use Rattle.plan.specs.Widths.{operationWidths};
 ghost use Rattle.plan.specs.Header.{operationBits};
 ghost use Rattle.plan.specs.Check.{endOf};
 ghost use Rattle.plan.specs.Shape.{shape};
@@ -20,27 +22,37 @@ impl Operation {
 
     const PARTY_BITS: usize = 3;
 
-    const VALUE_BITS: usize = Shape::VALUE_BITS;
+    pub const FIELDS: usize = 3;
 
-    // Its fields in packed order.
-    pub const WIDTHS: [u8; 3] = [
-        Self::TICK_BITS as u8,
-        Self::PARTY_BITS as u8,
-        Self::VALUE_BITS as u8,
-    ];
+    // The bits before its value.
+    pub const VALUE_AT: usize = Self::TICK_BITS + Self::PARTY_BITS;
 
-    pub const BITS: usize = Self::TICK_BITS + Self::PARTY_BITS + Self::VALUE_BITS;
+    // The widths of its fields in packed order.
+    pub fn widths(width: u8) -> [u8; Self::FIELDS]
+        ensures { λ r. ⌜ r ≡ operationWidths width ⌝ }
+    {
+        [Self::TICK_BITS as u8, Self::PARTY_BITS as u8, width]
+    }
+
+    // All its bits.
+    pub fn bits(width: u8) -> usize
+        ensures { λ r. ⌜ r ≡ operationBits width ⌝ }
+    {
+        Self::VALUE_AT + width as usize
+    }
 
     // The operation from bit `at` on, out of one number.
-    pub fn read(plan: &[u8], at: usize) -> Operation
-        requires { ⌜ (at + operationBits 16 ≤ 8 * length (now plan)) × (at < 2 ^ 60) ⌝ }
-        ensures { λ r. ⌜ IsOperation (now (plan .entry)) at r ⌝ }
+    pub fn read(plan: &[u8], at: usize, width: u8) -> Operation
+        requires { ⌜ (at + operationBits width ≤ 8 * length (now plan)) × (at < 2 ^ 60) × (width ≤ mostWidth) ⌝ }
+        ensures { λ r. ⌜ IsOperation width (now (plan .entry)) at r ⌝ }
     {
-        let all = bits::field(plan, at, Self::BITS);
+        let value = width as usize;
+        let all = bits::field(plan, at, Self::bits(width));
+        let key = all >> value;
         Operation {
-            at: records::part(all, Self::PARTY_BITS + Self::VALUE_BITS, Self::TICK_BITS) as u8,
-            party: records::part(all, Self::VALUE_BITS, Self::PARTY_BITS) as u8,
-            value: records::part(all, 0, Self::VALUE_BITS) as u32,
+            at: bits::part(key, Self::PARTY_BITS, Self::TICK_BITS) as u8,
+            party: bits::part(key, 0, Self::PARTY_BITS) as u8,
+            value: bits::part(all, 0, value) as u32,
         }
     }
 

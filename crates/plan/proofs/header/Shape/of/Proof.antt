@@ -15,68 +15,68 @@ use Rattle.plan.proofs.header.Shape.of.Statement.{statement}
 use Rattle.plan.proofs.header.Shape.of.Tie as tie
 
 -- each field is there, and fits the type that it is cast to
-inside : (x : List ℕ) → fits (headerWidths 16) x ≡ true → (i : ℕ) → T (ltb i 10) → i < length x
-inside x h i l = rw (fits-length (headerWidths 16) x h) (ltb→lt i 10 l)
+inside : (v : ℕ) (x : List ℕ) → fits (headerWidths v) x ≡ true → (i : ℕ) → T (ltb i 10) → i < length x
+inside v x h i l = rw (fits-length (headerWidths v) x h) (ltb→lt i 10 l)
 
-fitting : (x : List ℕ) → fits (headerWidths 16) x ≡ true → (i : ℕ) → T (ltb i 10) → (w : ℕ) → T (leb (getD (headerWidths 16) i 0) w) → getD x i 0 < 2 ^ w
-fitting x h i l w n = lt-of-lt-of-le (fits-at (headerWidths 16) x h i (ltb→lt i 10 l)) (pow-mono (leb→le _ _ n))
+fitting : (v : ℕ) (x : List ℕ) → fits (headerWidths v) x ≡ true → (i : ℕ) → T (ltb i 10) → (w : ℕ) → T (leb (getD (headerWidths v) i 0) w) → getD x i 0 < 2 ^ w
+fitting v x h i l w n = lt-of-lt-of-le (fits-at (headerWidths v) x h i (ltb→lt i 10 l)) (pow-mono (leb→le _ _ n))
 
-shared-slice-read-t3 : tie.Need-shared-slice-read-t3
-shared-slice-read-t3 c = search (needs, inside)
+shared-slice-read-t4 : tie.Need-shared-slice-read-t4
+shared-slice-read-t4 c = search (needs, inside)
 
-cast-t4 : tie.Need-cast-t4
-cast-t4 c = search (needs, fitting)
+cast-t5 : tie.Need-cast-t5
+cast-t5 c = search (needs, fitting)
 
-shared-slice-read-t6 : tie.Need-shared-slice-read-t6
-shared-slice-read-t6 c = search (needs, inside)
+shared-slice-read-t7 : tie.Need-shared-slice-read-t7
+shared-slice-read-t7 c = search (needs, inside)
 
-cast-t7 : tie.Need-cast-t7
-cast-t7 c = search (needs, fitting)
+cast-t8 : tie.Need-cast-t8
+cast-t8 c = search (needs, fitting)
 
-shared-slice-read-t9 : tie.Need-shared-slice-read-t9
-shared-slice-read-t9 c = search (needs, inside)
+shared-slice-read-t10 : tie.Need-shared-slice-read-t10
+shared-slice-read-t10 c = search (needs, inside)
 
-cast-t10 : tie.Need-cast-t10
-cast-t10 c = search (needs, fitting)
+cast-t11 : tie.Need-cast-t11
+cast-t11 c = search (needs, fitting)
 
-shared-slice-read-t12 : tie.Need-shared-slice-read-t12
-shared-slice-read-t12 c = search (needs, inside)
+shared-slice-read-t13 : tie.Need-shared-slice-read-t13
+shared-slice-read-t13 c = search (needs, inside)
 
-cast-t13 : tie.Need-cast-t13
-cast-t13 c = search (needs, fitting)
+cast-t14 : tie.Need-cast-t14
+cast-t14 c = search (needs, fitting)
 
-shared-slice-read-t15 : tie.Need-shared-slice-read-t15
-shared-slice-read-t15 c = search (needs, inside)
+shared-slice-read-t16 : tie.Need-shared-slice-read-t16
+shared-slice-read-t16 c = search (needs, inside)
 
-cast-t16 : tie.Need-cast-t16
-cast-t16 c = search (needs, fitting)
+cast-t17 : tie.Need-cast-t17
+cast-t17 c = search (needs, fitting)
 
-shared-slice-read-t18 : tie.Need-shared-slice-read-t18
-shared-slice-read-t18 c = search (needs, inside)
+shared-slice-read-t19 : tie.Need-shared-slice-read-t19
+shared-slice-read-t19 c = search (needs, inside)
 
-cast-t19 : tie.Need-cast-t19
-cast-t19 c = search (needs, fitting)
+cast-t20 : tie.Need-cast-t20
+cast-t20 c = search (needs, fitting)
 
-shared-slice-read-t21 : tie.Need-shared-slice-read-t21
-shared-slice-read-t21 c = search (needs, inside)
+shared-slice-read-t22 : tie.Need-shared-slice-read-t22
+shared-slice-read-t22 c = search (needs, inside)
 
-shared-slice-read-t23 : tie.Need-shared-slice-read-t23
-shared-slice-read-t23 c = search (needs, inside)
+shared-slice-read-t24 : tie.Need-shared-slice-read-t24
+shared-slice-read-t24 c = search (needs, inside)
 
-cast-t24 : tie.Need-cast-t24
-cast-t24 c = search (needs, fitting)
+cast-t25 : tie.Need-cast-t25
+cast-t25 c = search (needs, fitting)
 
-shared-slice-read-t26 : tie.Need-shared-slice-read-t26
-shared-slice-read-t26 c = search (needs, inside)
+shared-slice-read-t27 : tie.Need-shared-slice-read-t27
+shared-slice-read-t27 c = search (needs, inside)
 
-cast-t27 : tie.Need-cast-t27
-cast-t27 c = search (needs, fitting)
+cast-t28 : tie.Need-cast-t28
+cast-t28 c = search (needs, fitting)
 
-shared-slice-read-t29 : tie.Need-shared-slice-read-t29
-shared-slice-read-t29 c = search (needs, inside)
+shared-slice-read-t30 : tie.Need-shared-slice-read-t30
+shared-slice-read-t30 c = search (needs, inside)
 
-cast-t30 : tie.Need-cast-t30
-cast-t30 c = search (needs, fitting)
+cast-t31 : tie.Need-cast-t31
+cast-t31 c = search (needs, fitting)
 
 returns : tie.Need-returns
 returns c = search needs
@@ -85,23 +85,23 @@ pub of-spec : {M : Type 1} → statement M
 of-spec =
     tie.close
     (tie.spec
-    shared-slice-read-t3
-    cast-t4
-    shared-slice-read-t6
-    cast-t7
-    shared-slice-read-t9
-    cast-t10
-    shared-slice-read-t12
-    cast-t13
-    shared-slice-read-t15
-    cast-t16
-    shared-slice-read-t18
-    cast-t19
-    shared-slice-read-t21
-    shared-slice-read-t23
-    cast-t24
-    shared-slice-read-t26
-    cast-t27
-    shared-slice-read-t29
-    cast-t30
+    shared-slice-read-t4
+    cast-t5
+    shared-slice-read-t7
+    cast-t8
+    shared-slice-read-t10
+    cast-t11
+    shared-slice-read-t13
+    cast-t14
+    shared-slice-read-t16
+    cast-t17
+    shared-slice-read-t19
+    cast-t20
+    shared-slice-read-t22
+    shared-slice-read-t24
+    cast-t25
+    shared-slice-read-t27
+    cast-t28
+    shared-slice-read-t30
+    cast-t31
     returns)
