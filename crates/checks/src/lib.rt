@@ -1,21 +1,26 @@
 // Check: eight tests of a plan, and the first that fails is the refusal.
 ghost use mathlib.Core.Path.{_≡_};
-ghost use Rattle.plan.specs.Check.{checkOf};
+ghost use Prim.Native.Nat.{_≤_};
+ghost use Rattle.plan.specs.Form.{mostWidth};
+ghost use Rattle.plan.specs.Check.{checkOf, checkIn};
 ghost use Rattle.plan.specs.Numbered.{numbered};
 use parts::forgeries;
 use parts::placements;
 use parts::reads;
 use plan::Checked;
 use plan::Refusal;
+use plan::form;
 use plan::header::Shape;
 
-pub fn check(plan: &[u8]) -> Checked
-    ensures { λ r. ⌜ numbered r ≡ checkOf 16 (now (plan .entry)) ⌝ }
+// At values of so many bits.
+fn check_at(plan: &[u8], width: u8) -> Checked
+    requires { ⌜ width ≤ mostWidth ⌝ }
+    ensures { λ r. ⌜ numbered r ≡ checkOf width (now (plan .entry)) ⌝ }
 {
-    if plan.len() < Shape::HEADER_BYTES {
+    if plan.len() < Shape::header_bytes(width) {
         return Checked::Refused(Refusal::TooShort);
     }
-    let h = Shape::read(plan);
+    let h = Shape::read(plan, width);
     if !h.is_in_range() {
         return Checked::Refused(Refusal::HeaderRange);
     }
@@ -41,4 +46,14 @@ pub fn check(plan: &[u8]) -> Checked
         return Checked::Refused(Refusal::Delay);
     }
     Checked::Reads(reads::count(plan, h))
+}
+
+// In the form that the caller names.
+pub fn check(form: usize, plan: &[u8]) -> Checked
+    ensures { λ r. ⌜ numbered r ≡ checkIn form (now (plan .entry)) ⌝ }
+{
+    if !form::is_known(form) {
+        return Checked::Refused(Refusal::TooShort);
+    }
+    check_at(plan, form::width(form))
 }

@@ -18,16 +18,16 @@ place a p t i j =
     let n = mul-assoc t p p in
     omega (arith, m, n)
 
-module _ (s : List ℕ) (h : Header) where
+module _ (w : ℕ) (s : List ℕ) (h : Header) where
   -- the first delay of tick t
   abbrev pub tickAt : ℕ → ℕ
-  tickAt t = forgeryAt 16 h (h .forgeries) + 4 * (t * (parties h * parties h))
+  tickAt t = forgeryAt w h (h .forgeries) + 4 * (t * (parties h * parties h))
 
-  delay-stands : (t i j : ℕ) → allowed h i j (fieldOf s (tickAt t + 4 * (i * parties h) + 4 * j) 4) ≡ delayStands 16 s h t i j
+  delay-stands : (t i j : ℕ) → allowed h i j (fieldOf s (tickAt t + 4 * (i * parties h) + 4 * j) 4) ≡ delayStands w s h t i j
   unfolding delayStands delayOf
-  delay-stands t i j = rw (place (forgeryAt 16 h (h .forgeries)) (parties h) t i j)
+  delay-stands t i j = rw (place (forgeryAt w h (h .forgeries)) (parties h) t i j)
 
-  pub ticks-stand : allUpTo (h .ticks) (λ t. tickStands s h (tickAt t)) ≡ delaysStand 16 s h
+  pub ticks-stand : allUpTo (h .ticks) (λ t. tickStands s h (tickAt t)) ≡ delaysStand w s h
   unfolding delaysStand tickStands rowStands
   ticks-stand =
       ap (allUpTo (h .ticks)) (fun-ext (λ t. ap (allUpTo (parties h)) (fun-ext (λ i. ap (allUpTo (parties h)) (fun-ext (λ j. delay-stands t i j))))))

@@ -155,8 +155,8 @@ fn tick_stands(plan: &[u8], need: &[u8], h: Shape, at: usize) -> bool
 }
 
 pub fn all_stand(plan: &[u8], h: Shape) -> bool
-    requires { ⌜ Sized (now plan) (shape h) ⌝ }
-    ensures { λ r. ⌜ r ≡ delaysStand 16 (now (plan .entry)) (shape h) ⌝ }
+    requires { ⌜ Sized (h .width) (now plan) (shape h) ⌝ }
+    ensures { λ r. ⌜ r ≡ delaysStand (h .width) (now (plan .entry)) (shape h) ⌝ }
 {
     let ticks = h.ticks as usize;
     let parties = h.parties();
@@ -179,8 +179,8 @@ pub fn all_stand(plan: &[u8], h: Shape) -> bool
 
 // The bits behind the delays, up to the byte's end.
 pub fn are_final_bits_zero(plan: &[u8], h: Shape) -> bool
-    requires { ⌜ Sized (now plan) (shape h) ⌝ }
-    ensures { λ r. ⌜ r ≡ finalBitsZero 16 (now (plan .entry)) (shape h) ⌝ }
+    requires { ⌜ Sized (h .width) (now plan) (shape h) ⌝ }
+    ensures { λ r. ⌜ r ≡ finalBitsZero (h .width) (now (plan .entry)) (shape h) ⌝ }
 {
     let end = h.bits();
     bits::field(plan, end, bits::fill(end)) == 0

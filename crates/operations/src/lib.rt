@@ -30,16 +30,17 @@ fn key(o: Operation) -> u16
 
 // The tables say from which key and, by party, from which tick on the next operation may begin.
 pub fn all_stand(plan: &[u8], h: Shape) -> bool
-    requires { ⌜ Sized (now plan) (shape h) ⌝ }
-    ensures { λ r. ⌜ r ≡ operationsStand 16 (now (plan .entry)) (shape h) ⌝ }
+    requires { ⌜ Sized (h .width) (now plan) (shape h) ⌝ }
+    ensures { λ r. ⌜ r ≡ operationsStand (h .width) (now (plan .entry)) (shape h) ⌝ }
 {
     let n = h.operations as usize;
     let first = h.operations_at();
+    let bits = h.operation_bits();
     let mut next: u16 = 0;
     let mut free = [0u8; 8];
     let mut i = 0;
     while i < n {
-        let o = Operation::read(plan, first + Operation::BITS * i);
+        let o = Operation::read(plan, first + bits * i, h.width);
         if !stands_alone(o, h) {
             return false;
         }

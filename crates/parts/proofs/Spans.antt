@@ -57,19 +57,19 @@ marked-more l k x from t hx hf ht hl m y u hu = elim (ℕ-discrete (128 * y + u)
       rw (getD-set-other l (128 * x + t) (128 * y + u) true false e, m y u hu, spans-there from t x y u (λ a b. e (omega arith)))
 ]
 
-module _ (s : List ℕ) (h : Header) where
-  pub opened-none : (k : ℕ) → Opened s h 0 (replicate k false)
+module _ (w : ℕ) (s : List ℕ) (h : Header) where
+  pub opened-none : (k : ℕ) → Opened w s h 0 (replicate k false)
   unfolding openAmong anyUpTo
   opened-none k x t l = getD-replicate-same k (128 * x + t) false
 
-  module _ (i : ℕ) (o : Operation) (is : IsOperation s (operationAt 16 h i) o) where
+  module _ (i : ℕ) (o : Operation) (is : IsOperation w s (operationAt w h i) o) where
     -- a write opens nothing
-    pub opened-write : (l : List Bool) → o .party ≡ 0 → Opened s h i l → Opened s h (i + 1) l
+    pub opened-write : (l : List Bool) → o .party ≡ 0 → Opened w s h i l → Opened w s h (i + 1) l
     unfolding openAmong anyUpTo
-    opened-write l e p x t u = rw (add-one i, operation-is s h i o is, e) (p x t u)
+    opened-write l e p x t u = rw (add-one i, operation-is w s h i o is, e) (p x t u)
 
     -- a read is marked
-    pub opened-read : (l k : List Bool) → (o .party ≡ 0 → ⊥) → Marked l k (o .party) (o .at) (o .at + 2 * h .delta) → Opened s h i k
-        → Opened s h (i + 1) l
+    pub opened-read : (l k : List Bool) → (o .party ≡ 0 → ⊥) → Marked l k (o .party) (o .at) (o .at + 2 * h .delta) → Opened w s h i k
+        → Opened w s h (i + 1) l
     unfolding openAmong anyUpTo
-    opened-read l k d m p x t u = rw (add-one i, operation-is s h i o is, ne-eqb (o .party) 0 d, m x t u, p x t u)
+    opened-read l k d m p x t u = rw (add-one i, operation-is w s h i o is, ne-eqb (o .party) 0 d, m x t u, p x t u)

@@ -16,8 +16,8 @@ use plan::logic::both;
 
 // Is the sender faulty after that tick's movement.
 fn is_sent(plan: &[u8], h: Shape, at: u8, from: u8) -> bool
-    requires { ⌜ Sized (now plan) (shape h) × (shape h ≡ headerOf 16 (now plan)) × (from < 16) ⌝ }
-    ensures { λ r. ⌜ r ≡ isSent (now (plan .entry)) (shape h) at from ⌝ }
+    requires { ⌜ Sized (h .width) (now plan) (shape h) × (shape h ≡ headerOf (h .width) (now plan)) × (from < 16) ⌝ }
+    ensures { λ r. ⌜ r ≡ isSent (h .width) (now (plan .entry)) (shape h) at from ⌝ }
 {
     if h.ticks <= at {
         return false;
@@ -45,10 +45,10 @@ fn is_received(n: u8, table: &[bool; 1024], at: u8, from: u8, to: u8) -> bool
 
 // What a forgery must meet whatever the others are.
 fn stands_alone(plan: &[u8], h: Shape, table: &[bool; 1024], g: Forged) -> bool
-    requires { ⌜ Sized (now plan) (shape h) × (shape h ≡ headerOf 16 (now plan))
-        × (length (now table) ≡ 1024) × Opened (now plan) (shape h) (h .operations) (now table)
+    requires { ⌜ Sized (h .width) (now plan) (shape h) × (shape h ≡ headerOf (h .width) (now plan))
+        × (length (now table) ≡ 1024) × Opened (h .width) (now plan) (shape h) (h .operations) (now table)
         × (g .at < 128) × (g .from < 16) ⌝ }
-    ensures { λ r. ⌜ r ≡ forgedAlone (now (plan .entry)) (shape h) (forgery g) ⌝ }
+    ensures { λ r. ⌜ r ≡ forgedAlone (h .width) (now (plan .entry)) (shape h) (forgery (h .width) g) ⌝ }
 {
     both(
         is_sent(plan, h, g.at, g.from),
@@ -57,17 +57,18 @@ fn stands_alone(plan: &[u8], h: Shape, table: &[bool; 1024], g: Forged) -> bool
 }
 
 fn all_in(part: &[u8], offset: usize, plan: &[u8], h: Shape, table: &[bool; 1024]) -> bool
-    requires { ⌜ Sized (now plan) (shape h) × (shape h ≡ headerOf 16 (now plan))
-        × (length (now table) ≡ 1024) × Opened (now plan) (shape h) (h .operations) (now table)
-        × ForgedPart (now plan) (shape h) (now part) offset ⌝ }
-    ensures { λ r. ⌜ r ≡ forgeriesStand 16 (now (plan .entry)) (shape h) ⌝ }
+    requires { ⌜ Sized (h .width) (now plan) (shape h) × (shape h ≡ headerOf (h .width) (now plan))
+        × (length (now table) ≡ 1024) × Opened (h .width) (now plan) (shape h) (h .operations) (now table)
+        × ForgedPart (h .width) (now plan) (shape h) (now part) offset ⌝ }
+    ensures { λ r. ⌜ r ≡ forgeriesStand (h .width) (now (plan .entry)) (shape h) ⌝ }
 {
     let n = h.forgeries as usize;
+    let bits = h.forgery_bits();
     let mut next: u64 = 0;
     let mut i = 0;
     while i < n {
-        let all = bits::field(part, offset + Forged::BITS * i, Forged::BITS);
-        if !stands_alone(plan, h, table, Forged::of(all)) {
+        let all = bits::field(part, offset + bits * i, bits);
+        if !stands_alone(plan, h, table, Forged::of(all, h.width)) {
             return false;
         }
         if all < next {
@@ -80,8 +81,8 @@ fn all_in(part: &[u8], offset: usize, plan: &[u8], h: Shape, table: &[bool; 1024
 }
 
 pub fn all_stand(plan: &[u8], h: Shape) -> bool
-    requires { ⌜ Sized (now plan) (shape h) × (shape h ≡ headerOf 16 (now plan)) × (operationsStand 16 (now plan) (shape h) ≡ true) ⌝ }
-    ensures { λ r. ⌜ r ≡ forgeriesStand 16 (now (plan .entry)) (shape h) ⌝ }
+    requires { ⌜ Sized (h .width) (now plan) (shape h) × (shape h ≡ headerOf (h .width) (now plan)) × (operationsStand (h .width) (now plan) (shape h) ≡ true) ⌝ }
+    ensures { λ r. ⌜ r ≡ forgeriesStand (h .width) (now (plan .entry)) (shape h) ⌝ }
 {
     let table = opened(plan, h);
     let first = h.forgeries_at();

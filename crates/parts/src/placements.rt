@@ -9,10 +9,10 @@ ghost use Rattle.plan.specs.Shape.{shape, Sized};
 
 // At most f ones among the first n bits, zeros behind them.
 fn stands(plan: &[u8], h: Shape, i: usize) -> bool
-    requires { ⌜ Sized (now plan) (shape h) × (i < moves (shape h)) ⌝ }
-    ensures { λ r. ⌜ r ≡ placementStands 16 (now (plan .entry)) (shape h) i ⌝ }
+    requires { ⌜ Sized (h .width) (now plan) (shape h) × (i < moves (shape h)) ⌝ }
+    ensures { λ r. ⌜ r ≡ placementStands (h .width) (now (plan .entry)) (shape h) i ⌝ }
 {
-    let at = Shape::placement_at(i);
+    let at = h.placement_at(i);
     let n = h.n as usize;
     let faulty = bits::field(plan, at, n) as u32;
     if (h.f as u32) < u32::count_ones(faulty) {
@@ -23,15 +23,15 @@ fn stands(plan: &[u8], h: Shape, i: usize) -> bool
 
 // Is server b faulty in placement i.
 pub fn is_faulty(plan: &[u8], h: Shape, i: usize, b: usize) -> bool
-    requires { ⌜ Sized (now plan) (shape h) × (i < moves (shape h)) × (b < 16) ⌝ }
-    ensures { λ r. ⌜ r ≡ inPlacement 16 (now (plan .entry)) (shape h) i b ⌝ }
+    requires { ⌜ Sized (h .width) (now plan) (shape h) × (i < moves (shape h)) × (b < 16) ⌝ }
+    ensures { λ r. ⌜ r ≡ inPlacement (h .width) (now (plan .entry)) (shape h) i b ⌝ }
 {
-    bits::field(plan, Shape::placement_at(i) + b, 1) == 1
+    bits::bit(plan, h.placement_at(i) + b) == 1
 }
 
 pub fn all_stand(plan: &[u8], h: Shape) -> bool
-    requires { ⌜ Sized (now plan) (shape h) ⌝ }
-    ensures { λ r. ⌜ r ≡ placementsStand 16 (now (plan .entry)) (shape h) ⌝ }
+    requires { ⌜ Sized (h .width) (now plan) (shape h) ⌝ }
+    ensures { λ r. ⌜ r ≡ placementsStand (h .width) (now (plan .entry)) (shape h) ⌝ }
 {
     let moves = h.moves();
     let mut i = 0;

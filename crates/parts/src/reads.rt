@@ -11,15 +11,16 @@ ghost use Rattle.plan.specs.Shape.{shape, Sized};
 ghost use Rattle.parts.specs.Steps.{Marked, Opened};
 
 pub fn count(plan: &[u8], h: Shape) -> usize
-    requires { ⌜ Sized (now plan) (shape h) ⌝ }
-    ensures { λ r. ⌜ r ≡ length (readsFrom (operationsOf 16 (now (plan .entry)) (shape h))) ⌝ }
+    requires { ⌜ Sized (h .width) (now plan) (shape h) ⌝ }
+    ensures { λ r. ⌜ r ≡ length (readsFrom (operationsOf (h .width) (now (plan .entry)) (shape h))) ⌝ }
 {
     let n = h.operations as usize;
     let first = h.operations_at();
+    let bits = h.operation_bits();
     let mut reads = 0;
     let mut i = 0;
     while i < n {
-        let o = Operation::read(plan, first + Operation::BITS * i);
+        let o = Operation::read(plan, first + bits * i, h.width);
         if o.party != 0 {
             reads += 1;
         }
@@ -42,15 +43,16 @@ fn mark(table: &mut [bool; 1024], x: usize, from: usize, to: usize)
 
 // Has reader x a read open in tick t: place 128 x + t.
 pub fn opened(plan: &[u8], h: Shape) -> [bool; 1024]
-    requires { ⌜ Sized (now plan) (shape h) × (operationsStand 16 (now plan) (shape h) ≡ true) ⌝ }
-    ensures { λ r. ⌜ (length r ≡ 1024) × Opened (now (plan .entry)) (shape h) (h .operations) r ⌝ }
+    requires { ⌜ Sized (h .width) (now plan) (shape h) × (operationsStand (h .width) (now plan) (shape h) ≡ true) ⌝ }
+    ensures { λ r. ⌜ (length r ≡ 1024) × Opened (h .width) (now (plan .entry)) (shape h) (h .operations) r ⌝ }
 {
     let n = h.operations as usize;
     let first = h.operations_at();
+    let bits = h.operation_bits();
     let mut table = [false; 1024];
     let mut i = 0;
     while i < n {
-        let o = Operation::read(plan, first + Operation::BITS * i);
+        let o = Operation::read(plan, first + bits * i, h.width);
         if o.party != 0 {
             let from = o.at as usize;
             mark(

@@ -17,7 +17,7 @@ use Rattle.delays.proofs.all_stand.Statement.{statement}
 use Rattle.delays.proofs.all_stand.Tie as tie
 
 abbrev Inv-loop : tie.InvT-loop
-Inv-loop plan h ticks parties first need t₀ t = (t ≤ ticks) × (allUpTo t (λ u. tickStands plan (shape h) (tickAt plan (shape h) u)) ≡ true)
+Inv-loop plan h ticks parties first need t₀ t = (t ≤ ticks) × (allUpTo t (λ u. tickStands plan (shape h) (tickAt (h .width) plan (shape h) u)) ≡ true)
 
 abbrev μ-loop : tie.MeasureT-loop
 μ-loop plan h ticks parties first need t₀ t = ticks - t
@@ -28,16 +28,22 @@ bytes c = now (c .before .before .before .before .before .before .before .args .
 abbrev header : tie.At-loop Inv-loop μ-loop → Header.Header
 header c = shape (c .before .before .before .before .before .before .before .args .h)
 
+-- the bits of a value
+abbrev width : tie.At-loop Inv-loop μ-loop → ℕ
+width c = c .before .before .before .before .before .before .before .args .h .width
+
 -- how many parties the code has counted
 abbrev count : tie.At-loop Inv-loop μ-loop → ℕ
 count c = c .before .before .before .before .parties .result
 
 -- the test of tick t
 abbrev tick : tie.At-loop Inv-loop μ-loop → ℕ → Bool
-tick c t = tickStands (bytes c) (header c) (tickAt (bytes c) (header c) t)
+tick c t = tickStands (bytes c) (header c) (tickAt (width c) (bytes c) (header c) t)
 
 tested : (c : tie.After-tick-stands Inv-loop μ-loop) → tick (c .before .before .before) (c .before .before .before .loop .t) ≡ c .tick-stands .result
-tested c = rw (← c .before .before .before .before .before .before .delays-at .ensures .0, ← c .before .before .before .before .before .before .before .parties .ensures) (sym (c .tick-stands .ensures))
+tested c =
+    let d = c .before .before .before .before .before .before in
+    rw (← d .delays-at .ensures .0, ← d .before .parties .ensures) (sym (c .tick-stands .ensures))
 
 inside : (c : tie.In-loop Inv-loop μ-loop)
     → (c .before .loop .t * (count (c .before) * count (c .before)) ≤ 56448) × (count (c .before) * count (c .before) ≤ 441)
@@ -50,7 +56,7 @@ parties-requires : tie.Need-parties-requires Inv-loop μ-loop
 parties-requires c κs = omega arith
 
 delays-at-requires : tie.Need-delays-at-requires Inv-loop μ-loop
-delays-at-requires c κs = c .before .before .before .pre .ranged
+delays-at-requires c κs = (c .before .before .before .pre .ranged, c .before .before .before .pre .narrow)
 
 cast-needs : tie.Need-cast-needs Inv-loop μ-loop
 cast-needs c = omega arith
@@ -87,13 +93,15 @@ tick-stands-requires c κs =
     let m = table-few t p (omega arith) (omega arith) in
     let r = row-inside t (h .ticks) (p * p) (omega arith) in
     let n = c .before .before .before .needs .ensures in
-    let f : Needed (h .n) p (p * p / 2) (c .before .before .before .needs .result) = rw (c .before .before .before .before .before .before .parties .ensures) at (n .1) in
-    rw (c .before .before .before .before .before .before .parties .ensures, c .before .before .before .before .before .delays-at .ensures .0) (omega (arith, r), omega (arith, m), square-few p (omega arith), omega (arith, n .0), f)
+    let d = c .before .before .before .before .before in
+    let f : Needed (h .n) p (p * p / 2) (c .before .before .before .needs .result) = rw (d .before .parties .ensures) at (n .1) in
+    rw (d .before .parties .ensures, d .delays-at .ensures .0)
+    (omega (arith, r), omega (arith, m), square-few p (omega arith), omega (arith, n .0), f)
 
 returns : tie.Need-returns Inv-loop μ-loop
 returns c =
     let l = c .before .before .before .before in
-    rw (← ticks-stand (bytes l) (header l)) (sym (all-stop (tick l) (l .loop .t) (header l .ticks) (omega arith) (tested (c .before) ∙ not-true _ (c .if1 .taken))))
+    rw (← ticks-stand (width l) (bytes l) (header l)) (sym (all-stop (tick l) (l .loop .t) (header l .ticks) (omega arith) (tested (c .before) ∙ not-true _ (c .if1 .taken))))
 
 add-t : tie.Need-add-t Inv-loop μ-loop
 add-t c = omega arith
@@ -107,7 +115,7 @@ loop-again c = (omega arith, all-more (tick (c .before .before .before .before))
 returns-2 : tie.Need-returns-2 Inv-loop μ-loop
 returns-2 c =
     let l = c .before in
-    rw (← ticks-stand (bytes l) (header l)) (all-end (tick l) (l .loop .t) (header l .ticks) (omega arith) (omega arith) (l .loop .inv .1))
+    rw (← ticks-stand (width l) (bytes l) (header l)) (all-end (tick l) (l .loop .t) (header l .ticks) (omega arith) (omega arith) (l .loop .inv .1))
 
 pub all-stand-spec : {M : Type 1} → statement M
 all-stand-spec =

@@ -70,7 +70,8 @@ loop-again c =
     let k = l .k in
     let ex =
     c .before .before .before .shifted .ensures
-    ∙ byte-at s at k (omega (arith, c .before .before .before .before .before .shared-slice-known3 .given (at / 8 + k))) (omega (arith, c .before .before .before .before .shared-slice-known4 .given (at / 8 + k + 1))) in
+    ∙ byte-at s at k (omega (arith, c .before .before .before .before .before .shared-slice-known3 .given (at / 8 + k)))
+    (omega (arith, c .before .before .before .before .shared-slice-known4 .given (at / 8 + k + 1))) in
     let pair = byte-pair s h at k (c .before .before .before .shifted .result) (getD (now (b .args .need)) k 0) ex (b .pre .4 k (omega arith)) in
     (omega arith, rw (c .both .ensures, c .before .byte-stands .ensures, pair, l .inv .1) (sym (pair-more s h at k)))
 

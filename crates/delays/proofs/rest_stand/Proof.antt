@@ -51,8 +51,11 @@ loop-less c = omega arith
 loop-again : tie.Need-loop-again Inv-loop μ-loop
 loop-again c =
     let a = c .before .before .before .before .before .before .before .args in
-    let l = c .before .before .before .before .loop in
-    (omega arith, rw (c .both .ensures, c .before .is-allowed .ensures, c .before .before .nibble .ensures .0, l .inv .1, c .before .before .before .before .before .parties .ensures) (sym (first-more (now (a .plan)) (shape (a .h)) (a .at) (l .q))))
+    let l = c .before .before .before .before .loop in (
+      omega arith,
+      rw (c .both .ensures, c .before .is-allowed .ensures, c .before .before .nibble .ensures .0, l .inv .1, c .before .before .before .before .before .parties .ensures)
+          (sym (first-more (now (a .plan)) (shape (a .h)) (a .at) (l .q))),
+    )
 
 returns : tie.Need-returns Inv-loop μ-loop
 returns c = let l = c .before .loop in let e : l .q ≡ c .before .before .before .before .args .all = omega arith in rw (← e) (l .inv .1)

@@ -22,10 +22,14 @@ bytes c = now (c .before .before .before .args .plan)
 abbrev header : tie.Else1 → Header
 header c = shape (c .before .before .before .args .h)
 
+-- the bits of a value
+abbrev width : tie.Else1 → ℕ
+width c = c .before .before .before .args .h .width
+
 -- the placement of the tick
-placed : (c : tie.Else1) → let a = c .before .before .before .args in planOf 16 (bytes c) .placed (a .at / a .h .period) (a .from)
-    ≡ ltb (a .from) (a .h .n) && inPlacement 16 (bytes c) (header c) (a .at / a .h .period) (a .from)
-placed c = let a = c .before .before .before .args in placed-is (bytes c) (header c) (c .before .before .before .pre .1) (a .at) (a .from) (c .if1 .left)
+placed : (c : tie.Else1) → let a = c .before .before .before .args in planOf (width c) (bytes c) .placed (a .at / a .h .period) (a .from)
+    ≡ ltb (a .from) (a .h .n) && inPlacement (width c) (bytes c) (header c) (a .at / a .h .period) (a .from)
+placed c = let a = c .before .before .before .args in placed-is (width c) (bytes c) (header c) (c .before .before .before .pre .1) (a .at) (a .from) (c .if1 .left)
 
 returns : tie.Need-returns
 returns c = rw (le-ltb _ _ (c .if1 .taken))

@@ -25,7 +25,7 @@ returns c =
       c .both .ensures,
       c .before .before .is-sent .ensures,
       c .before .is-received .ensures,
-      received (now (a .plan)) (shape (a .h)) (pre .1) (now (a .table)) (forgery (a .g)) (pre .3) (pre .4),
+      received (a .h .width) (now (a .plan)) (shape (a .h)) (pre .1) (now (a .table)) (forgery (a .h .width) (a .g)) (pre .3) (pre .4),
     )
 
 pub stands-alone-spec : {M : Type 1} → statement M

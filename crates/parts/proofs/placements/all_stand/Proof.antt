@@ -14,7 +14,7 @@ use Rattle.parts.proofs.placements.all_stand.Statement.{statement}
 use Rattle.parts.proofs.placements.all_stand.Tie as tie
 
 abbrev Inv-loop : tie.InvT-loop
-Inv-loop plan h moves i₀ i = (i ≤ moves) × (allUpTo i (placementStands 16 plan (shape h)) ≡ true)
+Inv-loop plan h moves i₀ i = (i ≤ moves) × (allUpTo i (placementStands (h .width) plan (shape h)) ≡ true)
 
 abbrev μ-loop : tie.MeasureT-loop
 μ-loop plan h moves i₀ i = moves - i
@@ -33,7 +33,7 @@ unfolding placementsStand
 returns c =
     let a = c .before .before .before .before .before .before .args in
     let l = c .before .before .before .loop in
-    sym (all-stop (placementStands 16 (now (a .plan)) (shape (a .h))) (l .i) (moves (shape (a .h))) (omega arith) (sym (c .before .stands .ensures) ∙ not-true _ (c .if1 .taken)))
+    sym (all-stop (placementStands (a .h .width) (now (a .plan)) (shape (a .h))) (l .i) (moves (shape (a .h))) (omega arith) (sym (c .before .stands .ensures) ∙ not-true _ (c .if1 .taken)))
 
 add-i : tie.Need-add-i Inv-loop μ-loop
 add-i c = omega arith
@@ -49,7 +49,7 @@ unfolding placementsStand
 returns-2 c =
     let a = c .before .before .before .before .args in
     let l = c .before .loop in
-    all-end (placementStands 16 (now (a .plan)) (shape (a .h))) (l .i) (moves (shape (a .h))) (omega arith) (omega arith) (l .inv .1)
+    all-end (placementStands (a .h .width) (now (a .plan)) (shape (a .h))) (l .i) (moves (shape (a .h))) (omega arith) (omega arith) (l .inv .1)
 
 pub all-stand-spec : {M : Type 1} → statement M
 all-stand-spec =

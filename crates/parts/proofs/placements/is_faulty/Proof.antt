@@ -7,15 +7,15 @@ use Rattle.parts.proofs.placements.is_faulty.Tie as tie
 placement-at-requires : tie.Need-placement-at-requires
 placement-at-requires c κs = omega arith
 
-add-field : tie.Need-add-field
-add-field c = omega arith
+add-bit : tie.Need-add-bit
+add-bit c = omega arith
 
-field-requires : tie.Need-field-requires
-field-requires c κs = omega arith
+bit-requires : tie.Need-bit-requires
+bit-requires c κs = omega arith
 
 returns : tie.Need-returns
 unfolding inPlacement
-returns c = rw (c .field .ensures .0, c .before .placement-at .ensures)
+returns c = rw (c .bit .ensures, c .before .placement-at .ensures)
 
 pub is-faulty-spec : {M : Type 1} → statement M
-is-faulty-spec = tie.close (tie.spec placement-at-requires add-field field-requires returns)
+is-faulty-spec = tie.close (tie.spec placement-at-requires add-bit bit-requires returns)

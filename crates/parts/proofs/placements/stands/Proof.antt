@@ -31,7 +31,7 @@ returns c =
     let a = c .before .before .before .before .before .before .args in
     let p = c .before .before .before .before .placement-at .ensures in
     let e = c .before .before .field .ensures .0 in
-    rw (← ones-field (now (a .plan)) (placementAt 16 (a .i)) (a .h .n), ← (rw p at e), lt-leb _ _ (c .if1 .taken))
+    rw (← ones-field (now (a .plan)) (placementAt (a .h .width) (a .i)) (a .h .n), ← (rw p at e), lt-leb _ _ (c .if1 .taken))
 
 add-field : tie.Need-add-field
 add-field c = omega arith
@@ -49,7 +49,7 @@ returns-2 c =
     let p = c .before .before .before .before .before .placement-at .ensures in
     let e = c .before .before .before .field .ensures .0 in
     let d = c .field2 .ensures .0 in
-    rw (← ones-field (now (a .plan)) (placementAt 16 (a .i)) (a .h .n), ← (rw p at e), le-leb _ _ (c .before .if1 .left), ← (rw p at d))
+    rw (← ones-field (now (a .plan)) (placementAt (a .h .width) (a .i)) (a .h .n), ← (rw p at e), le-leb _ _ (c .before .if1 .left), ← (rw p at d))
 
 pub stands-spec : {M : Type 1} → statement M
 stands-spec =
