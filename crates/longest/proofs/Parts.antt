@@ -3,22 +3,22 @@
 use mathlib.Core.Path.{_≡_, refl, ap, sym, _∙_}
 use mathlib.Core.Bool.{true}
 use mathlib.Core.List.{List, _++_}
-use Prim.Native.Nat.{ℕ, zero, suc, _+_, _*_, _/_, _%_, _≤_, _<_}
-use native.Mathlib.Decide.{ℕ-discrete}
-use native.Mathlib.Omega.{arith}
+use Prim.Native.Nat.{ℕ, zero, suc, _+_, _*_, _/_, _%_, _^_, _≤_, _<_}
+use native.Mathlib.{Nat.mul-zero, Nat.add-zero, Decide.ℕ-discrete, Omega.arith}
+use lib.{Dec.ltb, Pow.pow-pos}
 use lib.ListN.{length, take, drop, length-append, length-drop}
 use lib.Seq.{take-all, drop-at, take-append-le, drop-append-le}
 use borrow.Author.Tests.{lt-ltb}
-use Rattle.bits.specs.Layout.{total, records, numbersAt, fits}
-use Rattle.bits.proofs.Packing.{fits-length}
+use Rattle.bits.specs.{Field.fieldOf, Fill.fill, Fill.bytesFor, Layout.total, Layout.records, Layout.numbersAt, Layout.fits}
+use Rattle.bits.proofs.Packing.{fits-length, in-final}
 use Rattle.bits.proofs.Records.{records-last, record-at, fits-append}
 use Rattle.register.specs.Lists.{flat}
-use Rattle.register.proofs.Counting.{one-if-le}
-use Rattle.plan.specs.{Widths.placementWidths, Widths.operationWidths, Widths.forgeryWidths, Widths.delayWidths, Header.headerOf, Header.moves, Header.placementAt, Header.operationAt, Header.forgeryAt, Limits.mostBytes, Parts.isLink}
+use Rattle.register.proofs.{Counting.one-if-le, Logic.and-both}
+use Rattle.plan.specs.{Widths.placementWidths, Widths.operationWidths, Widths.forgeryWidths, Widths.delayWidths, Header.headerOf, Header.headerBits, Header.operationBits, Header.forgeryBits, Header.moves, Header.placementAt, Header.operationAt, Header.forgeryAt, Header.delayAt, Header.bitLength, Limits.mostBytes, Parts.isLink}
 use Rattle.plan.proofs.Laws.{row-inside, all-at}
-use Rattle.lists.specs.Lists.{Lists, listsOf}
-use Rattle.lists.proofs.Inverse.{Fit, fit-full, header-same, lists-back, plan-bytes}
-use Rattle.longest.specs.Longest.{placementNumbers, operationNumbers, forgeryNumbers, delayNumbers, longestLists, longestPlan, delayIn}
+use Rattle.lists.specs.Lists.{Lists, listsOf, planBits, packedPlan}
+use Rattle.lists.proofs.Inverse.{Fit, fit-full, header-same, lists-back, plan-length, plan-small, plan-bytes}
+use Rattle.longest.specs.Longest.{placementNumbers, operationNumbers, forgeryNumbers, delayNumbers, longestLists, longestPlan, begunAt, partyOf, delayIn}
 use Rattle.longest.proofs.Passes.{header, narrow, all-narrow}
 
 -- records one behind the other, each with a number for each field
@@ -61,47 +61,78 @@ delay-few : (q : ℕ) → delayIn q ≤ 1
 unfolding delayIn
 delay-few q = one-if-le (isLink 16 (q / 21 % 21) (q % 21))
 
-longest-fit : Fit 16 longestLists
-unfolding fits moves narrow
-longest-fit = record {
-  header = refl;
-  placements = fits-flat placementWidths placementNumbers (λ i. refl) 128 (λ i l. refl);
-  operations = fits-flat (operationWidths 16) operationNumbers (λ i. refl) 232 (λ i l. all-at narrow 232 i l all-narrow);
-  forgeries =
-      fits-flat (forgeryWidths 16) forgeryNumbers (λ i. refl) 1024
-      (λ i l. rw (lt-ltb (i / 8) 128 (omega arith), lt-ltb (i % 8 + 1) 32 (omega arith)) refl);
-  delays = fits-flat delayWidths delayNumbers (λ i. refl) 56448 (λ q l. rw (lt-ltb (delayIn q) 16 (omega (arith, delay-few q))) refl);
-}
+-- the values are 0
+zero-fits : (w : ℕ) → ltb 0 (2 ^ w) ≡ true
+zero-fits w = lt-ltb 0 (2 ^ w) (pow-pos w)
 
-pub length-longest : length longestPlan ≡ mostBytes
-unfolding longestPlan moves
-length-longest = plan-bytes 16 longestLists (longest-fit .header) (fit-full 16 longestLists longest-fit)
+-- a record's place, counted from the first one's
+from-first : (at bits i : ℕ) → at + bits * 0 + bits * i ≡ at + bits * i
+from-first at bits i = rw (mul-zero, add-zero)
 
-pub header-is : headerOf 16 longestPlan ≡ header
-unfolding longestPlan
-header-is = header-same 16 longestLists (longest-fit .header)
+module _ (w : ℕ) where
+  longest-fit : Fit w longestLists
+  unfolding fits moves narrow
+  longest-fit = record {
+    header = rw (zero-fits w) refl;
+    placements = fits-flat placementWidths placementNumbers (λ i. refl) 128 (λ i l. refl);
+    operations =
+        fits-flat (operationWidths w) operationNumbers (λ i. refl) 232
+        (λ i l. let b = and-both (ltb (begunAt i) 128) (ltb (partyOf i) 8) (all-at narrow 232 i l all-narrow) in rw (b .0, b .1, zero-fits w) refl);
+    forgeries =
+        fits-flat (forgeryWidths w) forgeryNumbers (λ i. refl) 1024
+        (λ i l. rw (lt-ltb (i / 8) 128 (omega arith), lt-ltb (i % 8 + 1) 32 (omega arith), zero-fits w) refl);
+    delays = fits-flat delayWidths delayNumbers (λ i. refl) 56448 (λ q l. rw (lt-ltb (delayIn q) 16 (omega (arith, delay-few q))) refl);
+  }
 
-lists-are : listsOf 16 longestPlan ≡ longestLists
-unfolding longestPlan
-lists-are = lists-back 16 longestLists longest-fit
+  pub length-longest : length (longestPlan w) ≡ bytesFor (bitLength w header)
+  unfolding longestPlan
+  length-longest = plan-bytes w longestLists (longest-fit .header) (fit-full w longestLists longest-fit)
 
--- the numbers of each record
-pub placement-is : (i : ℕ) → i < 128 → numbersAt placementWidths longestPlan (placementAt 16 i) ≡ placementNumbers i
-unfolding listsOf moves
-placement-is i l =
-    record-flat placementWidths placementNumbers (λ j. refl) longestPlan 64 128 i l (rw header-is at (ap (λ (x : Lists). x .placements) lists-are))
+  -- the final bits
+  pub final-zero : fieldOf (longestPlan w) (bitLength w header) (fill 8 (bitLength w header)) ≡ 0
+  unfolding longestPlan packedPlan
+  final-zero =
+      let e = plan-length w longestLists (longest-fit .header) (fit-full w longestLists longest-fit) in
+      rw (← e) (in-final (planBits w longestLists) (plan-small w longestLists) (fill 8 (length (planBits w longestLists))))
 
-pub operation-is : (i : ℕ) → i < 232 → numbersAt (operationWidths 16) longestPlan (operationAt 16 header i) ≡ operationNumbers i
-unfolding listsOf moves
-operation-is i l =
-    record-flat (operationWidths 16) operationNumbers (λ j. refl) longestPlan 2112 232 i l (rw header-is at (ap (λ (x : Lists). x .operations) lists-are))
+  pub header-is : headerOf w (longestPlan w) ≡ header
+  unfolding longestPlan
+  header-is = header-same w longestLists (longest-fit .header)
 
-pub forgery-is : (i : ℕ) → i < 1024 → numbersAt (forgeryWidths 16) longestPlan (forgeryAt 16 header i) ≡ forgeryNumbers i
-unfolding listsOf moves
-forgery-is i l =
-    record-flat (forgeryWidths 16) forgeryNumbers (λ j. refl) longestPlan 8144 1024 i l (rw header-is at (ap (λ (x : Lists). x .forgeries) lists-are))
+  lists-are : listsOf w (longestPlan w) ≡ longestLists
+  unfolding longestPlan
+  lists-are = lists-back w longestLists longest-fit
 
-pub delay-is : (q : ℕ) → q < 56448 → numbersAt delayWidths longestPlan (49104 + 4 * q) ≡ delayNumbers q
-unfolding listsOf moves
-delay-is q l =
-    record-flat delayWidths delayNumbers (λ j. refl) longestPlan 49104 56448 q l (rw header-is at (ap (λ (x : Lists). x .delays) lists-are))
+  -- the numbers of each record
+  pub placement-is : (i : ℕ) → i < 128 → numbersAt placementWidths (longestPlan w) (placementAt w i) ≡ placementNumbers i
+  unfolding listsOf moves
+  placement-is i l =
+      let all = rw header-is at (ap (λ (x : Lists). x .placements) lists-are) in
+      rw (from-first (headerBits w) 16 i) at (record-flat placementWidths placementNumbers (λ j. refl) (longestPlan w) (placementAt w 0) 128 i l all)
+
+  pub operation-is : (i : ℕ) → i < 232 → numbersAt (operationWidths w) (longestPlan w) (operationAt w header i) ≡ operationNumbers i
+  unfolding listsOf moves
+  operation-is i l =
+      let all = rw header-is at (ap (λ (x : Lists). x .operations) lists-are) in
+      rw (from-first (placementAt w 128) (operationBits w) i) at (record-flat (operationWidths w) operationNumbers (λ j. refl) (longestPlan w) (operationAt w header 0) 232 i l all)
+
+  pub forgery-is : (i : ℕ) → i < 1024 → numbersAt (forgeryWidths w) (longestPlan w) (forgeryAt w header i) ≡ forgeryNumbers i
+  unfolding listsOf moves
+  forgery-is i l =
+      let all = rw header-is at (ap (λ (x : Lists). x .forgeries) lists-are) in
+      rw (from-first (operationAt w header 232) (forgeryBits w) i) at (record-flat (forgeryWidths w) forgeryNumbers (λ j. refl) (longestPlan w) (forgeryAt w header 0) 1024 i l all)
+
+  pub delay-is : (q : ℕ) → q < 56448 → numbersAt delayWidths (longestPlan w) (forgeryAt w header 1024 + 4 * q) ≡ delayNumbers q
+  unfolding listsOf moves
+  delay-is q l =
+      let all = rw header-is at (ap (λ (x : Lists). x .delays) lists-are) in
+      rw (from-first (forgeryAt w header 1024) 4 q) at (record-flat delayWidths delayNumbers (λ j. refl) (longestPlan w) (delayAt w header 0 0 0) 56448 q l all)
+
+-- 'An accepted plan has at most 34,362 bytes', and one of form two at most 35,619
+pub length-one : length (longestPlan 16) ≡ mostBytes 1
+unfolding moves
+length-one = length-longest 16
+
+pub length-two : length (longestPlan 24) ≡ mostBytes 2
+unfolding moves
+length-two = length-longest 24

@@ -5,10 +5,8 @@ use mathlib.Core.Bool.{Bool, true, not, _&&_, _||_}
 use Prim.Native.Nat.{ℕ, _+_, _*_, _-_, _/_, _%_, _^_}
 use lib.Dec.{leb, ltb, eqb}
 use Rattle.bits.specs.Fill.{bytesFor}
-use Rattle.bits.specs.Layout.{fits}
 use Rattle.register.specs.Lists.{allUpTo, count}
 use Rattle.register.specs.Plan.{kOf}
-use Rattle.plan.specs.Widths.{operationWidths}
 use Rattle.plan.specs.Header.{Header, headerFrom, moves, bitLength}
 use Rattle.plan.specs.Limits.{impliedBytes}
 use Rattle.plan.specs.Parts.{Operation, operationFrom}
@@ -30,7 +28,7 @@ pub as-many-moves : moves header ≡ 128
 unfolding moves
 as-many-moves = refl
 
--- The header with the most operations implies the most bytes.
+-- The header with the most operations implies the most bytes, in form two.
 abbrev pub widest : Header
 widest = record {
   n = 16;
@@ -45,7 +43,7 @@ widest = record {
   zero-bit = 0;
 }
 
-pub implied-reached : (headerInRange widest ≡ true) × (bytesFor (bitLength 16 widest) ≡ impliedBytes)
+pub implied-reached : (headerInRange widest ≡ true) × (bytesFor (bitLength 24 widest) ≡ impliedBytes)
 unfolding headerInRange moves
 implied-reached = (refl, refl)
 
@@ -61,12 +59,12 @@ operation i = operationFrom (operationNumbers i)
 abbrev pub key : ℕ → ℕ
 key i = begunAt i * 8 + partyOf i
 
--- its numbers fit
+-- its tick and its party fit
 unfoldable pub narrow : ℕ → Bool
-narrow i = fits (operationWidths 16) (operationNumbers i)
+narrow i = ltb (begunAt i) 128 && ltb (partyOf i) 8
 
 pub all-narrow : allUpTo 232 narrow ≡ true
-unfolding allUpTo narrow fits begunAt partyOf
+unfolding allUpTo narrow begunAt partyOf
 all-narrow = refl
 
 unfoldable pub stands : ℕ → Bool

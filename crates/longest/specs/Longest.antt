@@ -1,4 +1,4 @@
--- A plan that has the most bytes, packed from its lists: n = 16, f = 1, δ = Δ = 1, four readers, 128 ticks, 232 operations and 1,024 forgeries.
+-- A plan that has the most bytes of its form, packed from its lists: n = 16, f = 1, δ = Δ = 1, four readers, 128 ticks, 232 operations and 1,024 forgeries.
 use mathlib.Core.List.{List, [], _∷_}
 use Prim.Native.Nat.{ℕ, _+_, _*_, _/_, _%_}
 use lib.ListN.{getD}
@@ -41,5 +41,6 @@ longestLists = record {
   delays = flat 56448 delayNumbers;
 }
 
-unfoldable pub longestPlan : List ℕ
-longestPlan = packedPlan 16 longestLists
+-- with values of w bits; the lists are the same in every form, since all values are 0
+unfoldable pub longestPlan : ℕ → List ℕ
+longestPlan w = packedPlan w longestLists

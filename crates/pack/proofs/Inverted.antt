@@ -1,7 +1,7 @@
 -- Packing and Check are each other's inverse: what is packed is accepted and read back, and an accepted plan is the only packing of its lists.
 -- It stands on the laws of the lists, and on what Check accepts.
 use mathlib.Core.Path.{_≡_, _∙_, refl, ap, sym}
-use mathlib.Core.Bool.{true, _&&_, and-eq-true-iff}
+use mathlib.Core.Bool.{Bool, true, false, _&&_, and-eq-true-iff}
 use mathlib.Core.List.{List}
 use Prim.Native.Nat.{ℕ, _≤_}
 use native.Mathlib.Omega.{arith}
@@ -10,7 +10,7 @@ use borrow.Author.Tests.{le-leb, eq-eqb, eqb-true}
 use Rattle.bits.specs.{Field.fieldOf, Field.Bytes, Fill.fill, Fill.bytesFor}
 use Rattle.bits.proofs.{Packing.in-final}
 use Rattle.register.proofs.{Logic.T-eq}
-use Rattle.plan.specs.{Header.headerOf, Header.headerBits, Header.bitLength, Check.result, Check.checkOf}
+use Rattle.plan.specs.{Form.isForm, Form.widthOf, Header.headerOf, Header.headerBits, Header.bitLength, Check.Outcome, Check.refused, Check.result, Check.checkOf}
 use Rattle.plan.specs.Check as check
 use Rattle.plan.proofs.Accept as accept
 use Rattle.plan.proofs.{Final.bytes-rounded}
@@ -18,8 +18,8 @@ use Rattle.lists.specs.{Lists.Lists, Lists.listed, Lists.listsOf, Lists.packedP
 use Rattle.lists.proofs.Inverse as inverse
 use Rattle.lists.proofs.Again as again
 use Rattle.lists.proofs.{Counted.reads-listed}
-use Rattle.pack.specs.{Pack.lengthsImplied, Pack.packInto, Pack.packOf, Inverse.PacksWell, Inverse.IsPacking}
-use Rattle.pack.proofs.{Tests.Passed, Tests.tests-passed, Tests.passes-tests, Tests.outcome-tests}
+use Rattle.pack.specs.{Pack.lengthsImplied, Pack.Packed, Pack.packInto, Pack.packOf, Pack.packIn, Inverse.PacksWell, Inverse.IsPacking}
+use Rattle.pack.proofs.{Tests.Passed, Tests.tests-passed, Tests.passes-tests, Tests.outcome-tests, Tests.form-packs, Tests.no-form-packs}
 
 -- lists that fit have the lengths that the header implies
 fit-lengths : (w : ℕ) (l : Lists) → inverse.Fit w l → lengthsImplied w (listed l) l ≡ true
@@ -82,6 +82,16 @@ pub packed-well : (w : ℕ) (l : Lists) (out : List ℕ) (m : ℕ) → packOf w 
 packed-well w l out m e =
     let r = tests-passed w l (length out) m (sym (outcome-tests w l out) ∙ e) in
     rw (r .1) (packs-well w l (length out) (r .0))
+
+-- the same in a form: there is such a form, and the lists were packed at its width
+pub form-packed-well : (form : ℕ) (l : Lists) (out : List ℕ) (m : ℕ) → packIn form l out .outcome ≡ result m → (isForm form ≡ true) × PacksWell (widthOf form) l m
+form-packed-well form l out m e = go (isForm form) refl
+  where
+    go : (known : Bool) → isForm form ≡ known → (isForm form ≡ true) × PacksWell (widthOf form) l m
+    go true k = (k, packed-well (widthOf form) l out m (ap (λ (x : Packed). x .outcome) (sym (form-packs form l out k)) ∙ e))
+    go false k =
+        let r : _≡_ {A = Outcome ℕ} (refused 1) (result m) = ap (λ (x : Packed). x .outcome) (sym (no-form-packs form l out k)) ∙ e in
+        let z : _≡_ {A = ℕ} 0 1 = cc in absurd (omega arith)
 
 -- A plan that Check accepts.
 module _ (w : ℕ) (s : List ℕ) (m : ℕ) (bytes : Bytes s) (e : checkOf w s ≡ result m) where

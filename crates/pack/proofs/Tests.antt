@@ -9,6 +9,7 @@ use lib.Dec.{leb, lit<}
 use lib.ListN.{length}
 use Rattle.bits.specs.Layout.{fits}
 use Rattle.register.proofs.Logic.{T-eq}
+use Rattle.plan.specs.Form.{isForm, widthOf}
 use Rattle.plan.specs.Widths as widths
 use Rattle.plan.specs.Check as check
 use Rattle.plan.specs.Check.{Outcome, refused, result, unless}
@@ -16,7 +17,7 @@ use Rattle.plan.proofs.Tests.{passed}
 use Rattle.lists.specs.Lists as lists
 use Rattle.lists.specs.Lists.{Lists, listed, packedPlan}
 use Rattle.lists.proofs.Inverse.{Fit}
-use Rattle.pack.specs.Pack.{lengthsImplied, partTests, packTests, packInto, packOf}
+use Rattle.pack.specs.Pack.{lengthsImplied, partTests, packTests, packInto, packOf, packIn}
 
 -- what all tests say together
 pub record Passed (w : ℕ) (l : Lists) (room : ℕ) : Type 0 where
@@ -100,6 +101,16 @@ module _ (w : ℕ) (l : Lists) where
   pub outcome-tests : (out : List ℕ) → packOf w l out .outcome ≡ packTests w l (length out)
   unfolding packOf
   outcome-tests out = into-outcome (packedPlan w l) out (packTests w l (length out))
+
+-- in a form that there is, Pack is that at the form's width
+pub form-packs : (form : ℕ) (l : Lists) (out : List ℕ) → isForm form ≡ true → packIn form l out ≡ packOf (widthOf form) l out
+unfolding packIn packOf
+form-packs form l out e = rw e
+
+-- in any other it is refusal 1
+pub no-form-packs : (form : ℕ) (l : Lists) (out : List ℕ) → isForm form ≡ false → packIn form l out ≡ record { outcome = refused 1; out = out }
+unfolding packIn packInto
+no-form-packs form l out e = rw e
 
 -- a test that fails with another number than 1
 another : (b : Bool) (number : ℕ) (rest : Outcome ℕ) → (_≡_ {A = Outcome ℕ} (refused number) (refused 1) → ⊥) → (rest ≡ refused 1 → ⊥) → unless b number rest ≡ refused 1 → ⊥

@@ -31,9 +31,9 @@ abbrev pub packed : Packed → Outcome ℕ
 packed (Bytes m) = result m
 packed (Refused r) = refused (refusalNumber r)
 
--- the tests 2 to 4 are passed: h is the header that is listed
-pub record Listed (l : Lists) (h : Header) : Type 0 where
+-- the tests 2 to 4 are passed at values of w bits: h is the header that is listed
+pub record Listed (w : ℕ) (l : Lists) (h : Header) : Type 0 where
   pub header : h ≡ listed l
-  pub fit : fits (headerWidths 16) (l .header) ≡ true
+  pub fit : fits (headerWidths w) (l .header) ≡ true
   pub ranged : Ranged h
-  pub full : Full 16 h l
+  pub full : Full w h l

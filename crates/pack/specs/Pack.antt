@@ -5,6 +5,7 @@ use Prim.Native.Nat.{ℕ, _*_}
 use lib.Dec.{eqb, leb}
 use lib.ListN.{length, drop}
 use Rattle.bits.specs.Layout.{fits}
+use Rattle.plan.specs.Form.{isForm, widthOf}
 use Rattle.plan.specs.Widths.{headerWidths, placementWidths, operationWidths, forgeryWidths, delayWidths}
 use Rattle.plan.specs.Header.{Header, moves, delayCount}
 use Rattle.plan.specs.Check as check
@@ -54,3 +55,7 @@ module _ (w : ℕ) (l : Lists) where
 
   unfoldable pub packOf : List ℕ → Packed
   packOf out = packInto (packedPlan w l) out (packTests (length out))
+
+-- Ten: '1 is a form other than one or two (when packing too)'
+unfoldable pub packIn : ℕ → Lists → List ℕ → Packed
+packIn form l out = packInto (packedPlan (widthOf form) l) out (unless (isForm form) 1 (packTests (widthOf form) l (length out)))

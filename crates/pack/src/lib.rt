@@ -5,13 +5,14 @@ ghost use mathlib.Core.List.{_++_};
 ghost use Prim.Native.Nat.{_*_, _≤_};
 ghost use lib.ListN.{length, drop};
 ghost use Rattle.bits.specs.{Field.Bytes, Layout.fits, Writing.Wrote};
-ghost use Rattle.plan.specs.{Widths.headerWidths, Widths.placementWidths, Widths.operationWidths, Widths.forgeryWidths, Widths.delayWidths, Header.headerOf, Header.moves, Header.delayCount, Limits.impliedBytes, Check.placementsStand, Check.operationsStand, Check.forgeriesStand, Check.delaysStand, Shape.shape, Shape.Ranged, Shape.Sized};
+ghost use Rattle.plan.specs.{Form.mostWidth, Widths.headerWidths, Widths.placementWidths, Widths.operationWidths, Widths.forgeryWidths, Widths.delayWidths, Header.headerOf, Header.moves, Header.delayCount, Limits.impliedBytes, Check.placementsStand, Check.operationsStand, Check.forgeriesStand, Check.delaysStand, Shape.shape, Shape.Ranged, Shape.Sized};
 ghost use Rattle.lists.specs.{Lists.Full, Lists.placementsWidths, Lists.operationsWidths, Lists.forgeriesWidths, Lists.delaysWidths, Lists.planBits};
-ghost use Rattle.pack.specs.{Pack.lengthsImplied, Pack.partTests, Pack.packInto, Pack.packOf, Numbered.listsFrom, Numbered.partsFrom, Numbered.packed, Numbered.Listed};
+ghost use Rattle.pack.specs.{Pack.lengthsImplied, Pack.partTests, Pack.packInto, Pack.packOf, Pack.packIn, Numbered.listsFrom, Numbered.partsFrom, Numbered.packed, Numbered.Listed};
 use parts::forgeries;
 use parts::placements;
 use plan::Refusal;
 use plan::forgeries::Forged;
+use plan::form;
 use plan::header::Shape;
 use plan::logic::both;
 use plan::operations::Operation;
@@ -31,14 +32,14 @@ fn are_implied(
     delays: &[u32],
 ) -> bool
     requires { ⌜ Ranged (shape h) ⌝ }
-    ensures { λ r. ⌜ r ≡ lengthsImplied 16 (shape h) (partsFrom (now (placements .entry)) (now (operations .entry)) (now (forgeries .entry)) (now (delays .entry))) ⌝ }
+    ensures { λ r. ⌜ r ≡ lengthsImplied (h .width) (shape h) (partsFrom (now (placements .entry)) (now (operations .entry)) (now (forgeries .entry)) (now (delays .entry))) ⌝ }
 {
     both(
         placements.len() == h.moves(),
         both(
-            operations.len() == Operation::WIDTHS.len() * (h.operations as usize),
+            operations.len() == Operation::FIELDS * (h.operations as usize),
             both(
-                forgeries.len() == Forged::WIDTHS.len() * (h.forgeries as usize),
+                forgeries.len() == Forged::FIELDS * (h.forgeries as usize),
                 delays.len() == h.delay_count(),
             ),
         ),
@@ -67,29 +68,32 @@ fn write(
     forgeries: &[u32],
     delays: &[u32],
 )
-    requires { ⌜ (length (now own) ≡ impliedBytes) × Listed (listsFrom (now header) (now placements) (now operations) (now forgeries) (now delays)) (shape h) ⌝ }
-    ensures { λ _. ⌜ Bytes (now (own .exit)) × Wrote (now (own .entry)) (now (own .exit)) 0 (planBits 16
+    requires { ⌜ (length (now own) ≡ impliedBytes) × (h .width ≤ mostWidth) × Listed (h .width) (listsFrom (now header) (now placements) (now operations) (now forgeries) (now delays)) (shape h) ⌝ }
+    ensures { λ _. ⌜ Bytes (now (own .exit)) × Wrote (now (own .entry)) (now (own .exit)) 0 (planBits (h .width)
         (listsFrom (now (header .entry)) (now (placements .entry)) (now (operations .entry)) (now (forgeries .entry)) (now (delays .entry)))) ⌝ }
 {
-    packing::put_fields(own, 0, &Shape::HEADER_WIDTHS, header);
+    let widths = Shape::header_widths(h.width);
+    packing::put_fields(own, 0, &widths, header);
     packing::put_all(
         own,
-        Shape::HEADER_BITS,
+        h.placement_at(0),
         &Shape::PLACEMENT_WIDTHS,
         placements,
         h.moves(),
     );
+    let widths = Operation::widths(h.width);
     packing::put_all(
         own,
         h.operations_at(),
-        &Operation::WIDTHS,
+        &widths,
         operations,
         h.operations as usize,
     );
+    let widths = Forged::widths(h.width);
     packing::put_all(
         own,
         h.forgeries_at(),
-        &Forged::WIDTHS,
+        &widths,
         forgeries,
         h.forgeries as usize,
     );
@@ -98,8 +102,8 @@ fn write(
 
 // Do the placements fit, and stand in the plan that they are packed to.
 fn placements_pass(plan: &[u8], h: Shape, placements: &[u32]) -> bool
-    requires { ⌜ Sized (now plan) (shape h) × (length (now placements) ≡ length placementWidths * moves (shape h)) ⌝ }
-    ensures { λ r. ⌜ r ≡ fits (placementsWidths (shape h)) (now (placements .entry)) && placementsStand 16 (now (plan .entry)) (shape h) ⌝ }
+    requires { ⌜ Sized (h .width) (now plan) (shape h) × (length (now placements) ≡ length placementWidths * moves (shape h)) ⌝ }
+    ensures { λ r. ⌜ r ≡ fits (placementsWidths (shape h)) (now (placements .entry)) && placementsStand (h .width) (now (plan .entry)) (shape h) ⌝ }
 {
     both(
         packing::fits_all(&Shape::PLACEMENT_WIDTHS, placements, h.moves()),
@@ -108,29 +112,31 @@ fn placements_pass(plan: &[u8], h: Shape, placements: &[u32]) -> bool
 }
 
 fn operations_pass(plan: &[u8], h: Shape, operations: &[u32]) -> bool
-    requires { ⌜ Sized (now plan) (shape h) × (length (now operations) ≡ length (operationWidths 16) * h .operations) ⌝ }
-    ensures { λ r. ⌜ r ≡ fits (operationsWidths 16 (shape h)) (now (operations .entry)) && operationsStand 16 (now (plan .entry)) (shape h) ⌝ }
+    requires { ⌜ Sized (h .width) (now plan) (shape h) × (length (now operations) ≡ length (operationWidths (h .width)) * h .operations) ⌝ }
+    ensures { λ r. ⌜ r ≡ fits (operationsWidths (h .width) (shape h)) (now (operations .entry)) && operationsStand (h .width) (now (plan .entry)) (shape h) ⌝ }
 {
+    let widths = Operation::widths(h.width);
     both(
-        packing::fits_all(&Operation::WIDTHS, operations, h.operations as usize),
+        packing::fits_all(&widths, operations, h.operations as usize),
         operations::all_stand(plan, h),
     )
 }
 
 fn forgeries_pass(plan: &[u8], h: Shape, forgeries: &[u32]) -> bool
-    requires { ⌜ Sized (now plan) (shape h) × (shape h ≡ headerOf 16 (now plan)) × (operationsStand 16 (now plan) (shape h) ≡ true)
-        × (length (now forgeries) ≡ length (forgeryWidths 16) * h .forgeries) ⌝ }
-    ensures { λ r. ⌜ r ≡ fits (forgeriesWidths 16 (shape h)) (now (forgeries .entry)) && forgeriesStand 16 (now (plan .entry)) (shape h) ⌝ }
+    requires { ⌜ Sized (h .width) (now plan) (shape h) × (shape h ≡ headerOf (h .width) (now plan)) × (operationsStand (h .width) (now plan) (shape h) ≡ true)
+        × (length (now forgeries) ≡ length (forgeryWidths (h .width)) * h .forgeries) ⌝ }
+    ensures { λ r. ⌜ r ≡ fits (forgeriesWidths (h .width) (shape h)) (now (forgeries .entry)) && forgeriesStand (h .width) (now (plan .entry)) (shape h) ⌝ }
 {
+    let widths = Forged::widths(h.width);
     both(
-        packing::fits_all(&Forged::WIDTHS, forgeries, h.forgeries as usize),
+        packing::fits_all(&widths, forgeries, h.forgeries as usize),
         forgeries::all_stand(plan, h),
     )
 }
 
 fn delays_pass(plan: &[u8], h: Shape, delays: &[u32]) -> bool
-    requires { ⌜ Sized (now plan) (shape h) × (length (now delays) ≡ length delayWidths * delayCount (shape h)) ⌝ }
-    ensures { λ r. ⌜ r ≡ fits (delaysWidths (shape h)) (now (delays .entry)) && delaysStand 16 (now (plan .entry)) (shape h) ⌝ }
+    requires { ⌜ Sized (h .width) (now plan) (shape h) × (length (now delays) ≡ length delayWidths * delayCount (shape h)) ⌝ }
+    ensures { λ r. ⌜ r ≡ fits (delaysWidths (shape h)) (now (delays .entry)) && delaysStand (h .width) (now (plan .entry)) (shape h) ⌝ }
 {
     both(nibbles::fit(delays), delays::all_stand(plan, h))
 }
@@ -145,9 +151,9 @@ fn finish(
     delays: &[u32],
     out: &mut [u8],
 ) -> Packed
-    requires { ⌜ Sized (now plan) (shape h) × (shape h ≡ headerOf 16 (now plan))
-        × Full 16 (shape h) (partsFrom (now placements) (now operations) (now forgeries) (now delays)) ⌝ }
-    ensures { λ r. ⌜ record { outcome = packed r; out = now (out .exit) } ≡ packInto (now (plan .entry)) (now (out .entry)) (partTests 16 (shape h) (now (plan .entry))
+    requires { ⌜ Sized (h .width) (now plan) (shape h) × (shape h ≡ headerOf (h .width) (now plan))
+        × Full (h .width) (shape h) (partsFrom (now placements) (now operations) (now forgeries) (now delays)) ⌝ }
+    ensures { λ r. ⌜ record { outcome = packed r; out = now (out .exit) } ≡ packInto (now (plan .entry)) (now (out .entry)) (partTests (h .width) (shape h) (now (plan .entry))
         (partsFrom (now (placements .entry)) (now (operations .entry)) (now (forgeries .entry)) (now (delays .entry))) (length (now (out .entry)))) ⌝ }
 {
     if !placements_pass(plan, h, placements) {
@@ -170,17 +176,20 @@ fn finish(
 }
 
 // Are there ten numbers that fit the header's fields.
-fn is_header(numbers: &[u32]) -> bool
-    ensures { λ r. ⌜ r ≡ fits (headerWidths 16) (now (numbers .entry)) ⌝ }
+fn is_header(numbers: &[u32], width: u8) -> bool
+    requires { ⌜ width ≤ mostWidth ⌝ }
+    ensures { λ r. ⌜ r ≡ fits (headerWidths width) (now (numbers .entry)) ⌝ }
 {
-    if numbers.len() != Shape::HEADER_WIDTHS.len() {
+    if numbers.len() != Shape::HEADER_FIELDS {
         return false;
     }
-    packing::fits_one(&Shape::HEADER_WIDTHS, numbers)
+    let widths = Shape::header_widths(width);
+    packing::fits_one(&widths, numbers)
 }
 
-// Packs the lists into the buffer. The plan is made and tested in bytes of its own, so that a refusal writes nothing.
-pub fn pack(
+// Packs the lists into the buffer, at values of so many bits. The plan is made and tested in bytes of its own, so that a refusal writes nothing.
+fn pack_at(
+    width: u8,
     header: &[u32],
     placements: &[u32],
     operations: &[u32],
@@ -188,13 +197,14 @@ pub fn pack(
     delays: &[u32],
     out: &mut [u8],
 ) -> Packed
-    ensures { λ r. ⌜ record { outcome = packed r; out = now (out .exit) } ≡ packOf 16
+    requires { ⌜ width ≤ mostWidth ⌝ }
+    ensures { λ r. ⌜ record { outcome = packed r; out = now (out .exit) } ≡ packOf width
         (listsFrom (now (header .entry)) (now (placements .entry)) (now (operations .entry)) (now (forgeries .entry)) (now (delays .entry))) (now (out .entry)) ⌝ }
 {
-    if !is_header(header) {
+    if !is_header(header, width) {
         return Packed::Refused(Refusal::HeaderRange);
     }
-    let h = Shape::of(header);
+    let h = Shape::of(header, width);
     if !h.is_in_range() {
         return Packed::Refused(Refusal::HeaderRange);
     }
@@ -218,6 +228,33 @@ pub fn pack(
     finish(
         &own[..size],
         h,
+        placements,
+        operations,
+        forgeries,
+        delays,
+        out,
+    )
+}
+
+// In the form that the caller names.
+pub fn pack(
+    form: usize,
+    header: &[u32],
+    placements: &[u32],
+    operations: &[u32],
+    forgeries: &[u32],
+    delays: &[u32],
+    out: &mut [u8],
+) -> Packed
+    ensures { λ r. ⌜ record { outcome = packed r; out = now (out .exit) } ≡ packIn form
+        (listsFrom (now (header .entry)) (now (placements .entry)) (now (operations .entry)) (now (forgeries .entry)) (now (delays .entry))) (now (out .entry)) ⌝ }
+{
+    if !form::is_known(form) {
+        return Packed::Refused(Refusal::TooShort);
+    }
+    pack_at(
+        form::width(form),
+        header,
         placements,
         operations,
         forgeries,

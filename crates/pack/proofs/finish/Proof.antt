@@ -34,8 +34,8 @@ forgeries-pass-requires : tie.Need-forgeries-pass-requires
 forgeries-pass-requires c κs =
     let a = c .before .before .before .before .before .before .before .before .before .before .args in
     let h = shape (a .h) in
-    let fit = fits (operationsWidths 16 h) (now (a .operations)) in
-    let stand = operationsStand 16 (now (a .plan)) h in
+    let fit = fits (operationsWidths (a .h .width) h) (now (a .operations)) in
+    let stand = operationsStand (a .h .width) (now (a .plan)) h in
     let both : fit && stand ≡ true = sym (c .before .operations-pass .ensures) ∙ not-false _ (c .if2 .left) in
     (search needs, search needs, and-eq-true-iff fit stand .0 both .1, search needs)
 
