@@ -2,3 +2,4 @@ pub mod Chosen
 pub mod Answered
 pub mod Stored
 pub mod Lengths
+pub mod Taken

@@ -15,7 +15,7 @@ answerWidths w = 7 ∷ 3 ∷ w ∷ 8 ∷ 5 ∷ 1 ∷ []
 abbrev pub answerBits : ℕ → ℕ
 answerBits w = total (answerWidths w)
 
--- 5 in form one
+-- 5 in form one, 6 in form two
 abbrev pub answerSize : ℕ → ℕ
 answerSize w = bytesFor (answerBits w)
 
@@ -26,7 +26,7 @@ answerWith w r a = r .begun ∷ r .reader ∷ valueOf w (a .pair) ∷ numberOf w
 unfoldable pub answerBytes : ℕ → Read → Answer → List ℕ
 answerBytes w r a = inBytes (packedBits (answerWidths w) (answerWith w r a))
 
--- 'Answers stand in order of begin, then screen; each answer is written at its own five bytes.' Operations stand in that order.
+-- 'Answers stand in order of begin, then screen; each answer is written at its own five bytes' (Ten: 6 in form two). Operations stand in that order.
 unfoldable pub answersFor : ℕ → Plan → List Read → List ℕ
 answersFor w P [] = []
 answersFor w P (r ∷ rs) = answerBytes w r (answerOf P r) ++ answersFor w P rs

@@ -1,3 +1,4 @@
 pub mod Choosing
 pub mod Answers
+pub mod Parts
 pub mod Workspace

@@ -4,7 +4,9 @@ ghost use mathlib.Core.List.{_++_};
 ghost use Prim.Native.Nat.{_+_, _*_, _^_, _≤_, _<_};
 ghost use lib.ListN.{length, getD, drop};
 ghost use Rattle.register.specs.Plan.{stamped};
-ghost use Rattle.answers.specs.Answers.{answerWidths, answerSize, answerNumbers, answerBytes};
+ghost use Rattle.plan.specs.Form.{mostWidth};
+ghost use Rattle.answers.specs.Answers.{answerWidths, answerBits, answerSize, answerNumbers, answerBytes};
+ghost use Rattle.answers.specs.Parts.{IsAnswer};
 ghost use Rattle.answers.specs.Workspace.{workspaceSize, zeroed};
 use plan::header::Shape;
 
@@ -17,9 +19,37 @@ pub struct Choice {
     pub count: u32,
 }
 
-// The fields of an answer in packed order, and each one's number among them.
-pub const WIDTHS: [u8; 6] = [7, 3, Shape::VALUE_BITS as u8, 8, 5, 1];
+// An answer that is judged: the read that it is to, its pair, and the zero bit behind its count.
+pub struct Answer {
+    pub begin: u8,
+    pub reader: u8,
+    pub value: u32,
+    pub number: u8,
+    pub zero: u8,
+}
 
+// The bits of its fields; the form says the value's.
+const BEGIN_BITS: usize = 7;
+
+const READER_BITS: usize = 3;
+
+const NUMBER_BITS: usize = 8;
+
+const COUNT_BITS: usize = 5;
+
+const ZERO_BITS: usize = 1;
+
+// How many fields an answer has, the bits behind its value, and the bits of all but its value.
+const FIELDS: usize = 6;
+
+const BEHIND_BITS: usize = NUMBER_BITS + COUNT_BITS + ZERO_BITS;
+
+const OTHER_BITS: usize = BEGIN_BITS + READER_BITS + BEHIND_BITS;
+
+// The bytes of an answer with the widest value.
+pub const MOST_SIZE: usize = 6;
+
+// Each field's number, in packed order.
 pub const BEGIN: usize = 0;
 
 pub const READER: usize = 1;
@@ -32,22 +62,72 @@ pub const COUNT: usize = 4;
 
 pub const ZERO: usize = 5;
 
-// A field of answer i.
-pub fn field(answers: &[u8], i: usize, number: usize) -> u32
-    requires { ⌜ (answerSize 16 * i + answerSize 16 ≤ length (now answers)) × (i < 2 ^ 50) ⌝ }
-    ensures { λ r. ⌜ (r ≡ getD (answerNumbers 16 (now (answers .entry)) i) number 0) × (r < 2 ^ getD (answerWidths 16) number 0) ⌝ }
+// The widths of its fields in packed order.
+fn widths(width: u8) -> [u8; FIELDS]
+    ensures { λ r. ⌜ r ≡ answerWidths width ⌝ }
 {
-    records::field(answers, Shape::ANSWER_BITS * i, &WIDTHS, number)
+    [
+        BEGIN_BITS as u8,
+        READER_BITS as u8,
+        width,
+        NUMBER_BITS as u8,
+        COUNT_BITS as u8,
+        ZERO_BITS as u8,
+    ]
 }
 
-// Writes the answer of a read at the start of its part of the answer buffer, which is the part from ANSWER_BYTES times the read's index.
-pub fn write(out: &mut [u8], begun: u8, reader: u8, value: u32, number: u8, count: u32)
-    requires { ⌜ (answerSize 16 ≤ length (now out)) × (value < 2 ^ 16) ⌝ }
-    ensures { λ _. ⌜ now (out .exit) ≡ answerBytes 16 (record { begun = begun; reader = reader })
-        (record { pair = stamped 16 value number; count = count }) ++ drop (answerSize 16) (now (out .entry)) ⌝ }
+// All its bits.
+fn bits(width: u8) -> usize
+    ensures { λ r. ⌜ r ≡ answerBits width ⌝ }
+{
+    OTHER_BITS + width as usize
+}
+
+// The bytes of an answer.
+pub fn size(width: u8) -> usize
+    ensures { λ r. ⌜ r ≡ answerSize width ⌝ }
+{
+    bits::bytes_for(bits(width))
+}
+
+// A field of answer i.
+pub fn field(answers: &[u8], width: u8, i: usize, number: usize) -> u32
+    requires { ⌜ (answerSize width * i + answerSize width ≤ length (now answers)) × (i < 2 ^ 50) × (width ≤ mostWidth) ⌝ }
+    ensures { λ r. ⌜ (r ≡ getD (answerNumbers width (now (answers .entry)) i) number 0) × (r < 2 ^ getD (answerWidths width) number 0) ⌝ }
+{
+    let widths = widths(width);
+    records::field(answers, 8 * size(width) * i, &widths, number)
+}
+
+// Answer i, out of one number with all its bits.
+pub fn read(answers: &[u8], width: u8, i: usize) -> Answer
+    requires { ⌜ (answerSize width * i + answerSize width ≤ length (now answers)) × (i < 2 ^ 50) × (width ≤ mostWidth) ⌝ }
+    ensures { λ r. ⌜ IsAnswer width (now (answers .entry)) i r ⌝ }
+{
+    let all = bits::field(answers, 8 * size(width) * i, bits(width));
+    // Begin, reader and value; begin and reader alone.
+    let front = all >> BEHIND_BITS;
+    let key = front >> width;
+    Answer {
+        begin: bits::part(key, READER_BITS, BEGIN_BITS) as u8,
+        reader: bits::part(key, 0, READER_BITS) as u8,
+        value: bits::part(front, 0, width as usize) as u32,
+        number: bits::part(all, COUNT_BITS + ZERO_BITS, NUMBER_BITS) as u8,
+        zero: bits::part(all, 0, ZERO_BITS) as u8,
+    }
+}
+
+// Writes the answer of a read at the start of its part of the answer buffer, which is the part from `size` times the read's index.
+pub fn write(out: &mut [u8], width: u8, begun: u8, reader: u8, value: u32, number: u8, count: u32)
+    requires { ⌜ (answerSize width ≤ length (now out)) × (width ≤ mostWidth) × (value < 2 ^ width) ⌝ }
+    ensures { λ _. ⌜ now (out .exit) ≡ answerBytes width (record { begun = begun; reader = reader })
+        (record { pair = stamped width value number; count = count }) ++ drop (answerSize width) (now (out .entry)) ⌝ }
 {
     let numbers = [begun as u32, reader as u32, value, number as u32, count, 0];
-    packing::put_fields(out, 0, &WIDTHS, &numbers);
+    let widths = widths(width);
+    packing::put_fields(out, 0, &widths, &numbers);
+    let end = bits(width);
+    bits::put(out, end, bits::fill(end), 0);
 }
 
 // Zeroes as much of the workspace as Play and Look may use.

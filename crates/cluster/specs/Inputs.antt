@@ -19,13 +19,13 @@ use Rattle.cluster.specs.declared.Arrivals.{Arrivals}
 use Rattle.cluster.specs.declared.Movement.{Movement}
 use Rattle.serving.specs.Links.{delayAt, Linked}
 
--- the plan's pair j: value j of the known ones, under number j
-abbrev pub pairAt : Known → ℕ → ℕ
-pairAt known j = stamped 16 (getD (known .values) j 0) j
+-- the plan's pair j: value j of the known ones, of w bits, under number j
+abbrev pub pairAt : ℕ → Known → ℕ → ℕ
+pairAt w known j = stamped w (getD (known .values) j 0) j
 
--- the values have as many bits as the plan's
-abbrev pub Narrow : Known → Type 0
-Narrow known = (j : ℕ) → getD (known .values) j 0 < 2 ^ 16
+-- the values have no more bits than the plan's
+abbrev pub Narrow : ℕ → Known → Type 0
+Narrow w known = (j : ℕ) → getD (known .values) j 0 < 2 ^ w
 
 -- the plan's pairs are g 0 .. g (m - 1), of a table that strictly rises
 pub record Knows (P : Plan) (g : ℕ → ℕ) (m : ℕ) : Type 0 where
@@ -72,8 +72,8 @@ pub record Tickable (plan work : List ℕ) (t : ℕ) (rules : Rules) (known : Kn
   -- what a server sends to another one or to a reader does not arrive in the same tick
   pub delays : (i q : ℕ) → i < rules .n → q < links .parties → (q ≡ i → ⊥) → (q ≡ rules .n → ⊥) → 1 ≤ delayAt plan links t i q
 
--- what is handed to tick t is what the plan says of it
-pub record Fits (P : Plan) (t : ℕ) (plan : List ℕ) (rules : Rules) (known : Known) (links : Links) (arrivals : Arrivals) (movement : Movement) : Type 0 where
+-- what is handed to tick t is what the plan, whose pairs are g 0, g 1 .., says of it
+pub record Fits (P : Plan) (g : ℕ → ℕ) (t : ℕ) (plan : List ℕ) (rules : Rules) (known : Known) (links : Links) (arrivals : Arrivals) (movement : Movement) : Type 0 where
   pub n : rules .n ≡ P .n
   pub delta : rules .delta ≡ P .delta
   pub two : rules .two ≡ eqb (kk P) 2
@@ -84,7 +84,7 @@ pub record Fits (P : Plan) (t : ℕ) (plan : List ℕ) (rules : Rules) (known : 
   pub replies : (i : ℕ) (r : Read) → i < P .n → In r (P .reads) → (P .n + r .reader < links .parties) × (delayAt plan links t i (P .n + r .reader) ≡ P .delay t i (P .n + r .reader))
   pub moving : movement .moving ≡ isMove P t
   pub faulty : isMove P t ≡ true → (b : ℕ) → b < P .n → bit (mostServers - 1 - b) (movement .faulty) ≡ P .placed (t / P .period) b
-  pub wrote : (b j : ℕ) → b < P .n → j < known .m → member (pairAt known j) (writesIn P t b) ≡ eqb j (wroteAt (arrivals .requests) (arrivals .number) b)
+  pub wrote : (b j : ℕ) → b < P .n → j < known .m → member (g j) (writesIn P t b) ≡ eqb j (wroteAt (arrivals .requests) (arrivals .number) b)
   pub asks : (b : ℕ) (r : Read) → b < P .n → In r (P .reads) → r .begun < t → t ≤ readEnd P r
       → any (sameRead r) (readsIn P t b) ≡ asksAt (arrivals .requests) b (r .reader)
   pub lasting : (r : Read) → In r (P .reads) → suc (r .begun) < t → t ≤ readEnd P r → bit (r .reader) (arrivals .live) ≡ true

@@ -9,34 +9,38 @@ use lib.ListN.{length, getD, take, drop, length-drop, replicate}
 use lib.Seq.{take-suc, take-at, drop-drop, drop-append-add, length-take-le, ext-getD, getD-drop}
 use Rattle.register.specs.Plan.{Plan, Read}
 use Rattle.register.specs.Reading.{answerOf}
-use Rattle.answers.specs.Answers.{answerBytes, answersFor}
+use Rattle.answers.specs.Answers.{answerSize, answerBytes, answersFor}
+use Rattle.reading.specs.Reading.{placedAt}
 use Rattle.answers.specs.Workspace.{workspaceSize, zeroed}
 use Rattle.answers.proofs.Lengths.{answers-length}
+
+mul-suc : (size i : ℕ) → size * (i + 1) ≡ size * i + size
+mul-suc size i = omega arith
 
 drop-past : (p q : List ℕ) (n k : ℕ) → length p ≡ n → drop (n + k) (p ++ q) ≡ drop k q
 drop-past p q n k e = rw (← e) (drop-append-add p q k)
 
-module _ (P : Plan) where
-  all-append : (rs qs : List Read) → answersFor 16 P (rs ++ qs) ≡ answersFor 16 P rs ++ answersFor 16 P qs
+module _ (w : ℕ) (P : Plan) where
+  all-append : (rs qs : List Read) → answersFor w P (rs ++ qs) ≡ answersFor w P rs ++ answersFor w P qs
   unfolding answersFor
   all-append [] qs = refl
   all-append (r ∷ rs) qs = rw (append-assoc, all-append rs qs)
 
-  all-one : (r : Read) → answersFor 16 P (r ∷ []) ≡ answerBytes 16 r (answerOf P r)
+  all-one : (r : Read) → answersFor w P (r ∷ []) ≡ answerBytes w r (answerOf P r)
   unfolding answersFor
-  all-one r = append-nil (answerBytes 16 r (answerOf P r))
+  all-one r = append-nil (answerBytes w r (answerOf P r))
 
-  -- with i answers written, one more is placed at its own five bytes
-  pub answers-more : (rs : List Read) (b buffer : List ℕ) (i : ℕ) (d : Read) → i < length rs → buffer ≡ answersFor 16 P (take i rs) ++ drop (5 * i) b
-      → take (5 * i) buffer ++ (answerBytes 16 (getD rs i d) (answerOf P (getD rs i d)) ++ drop 5 (drop (5 * i) buffer))
-      ≡ answersFor 16 P (take (i + 1) rs) ++ drop (5 * (i + 1)) b
+  -- with i answers written, one more is placed at its own bytes
+  pub answers-more : (rs : List Read) (b buffer : List ℕ) (i : ℕ) (d : Read) → i < length rs → buffer ≡ answersFor w P (take i rs) ++ drop (answerSize w * i) b
+      → placedAt w i (answerBytes w (getD rs i d) (answerOf P (getD rs i d))) buffer ≡ answersFor w P (take (i + 1) rs) ++ drop (answerSize w * (i + 1)) b
   answers-more rs b buffer i d h is =
-      let p = answersFor 16 P (take i rs) in
-      let q = drop (5 * i) b in
-      let n : length p ≡ 5 * i = rw (answers-length 16 P, length-take-le i rs (omega arith)) in
-      let k : 5 * (i + 1) ≡ 5 * i + 5 = omega arith in
-      let e : drop (5 * i + 5) (p ++ q) ≡ drop (5 * i + 5) b = drop-past p q (5 * i) 5 n ∙ drop-drop 5 (5 * i) b in
-      rw (is, take-at p q (5 * i) n, drop-drop, e, k, add-one, take-suc rs i d h, all-append, all-one) (sym (append-assoc p _ _))
+      let size = answerSize w in
+      let p = answersFor w P (take i rs) in
+      let q = drop (size * i) b in
+      let n : length p ≡ size * i = rw (answers-length w P, length-take-le i rs (omega arith)) in
+      let k : size * (i + 1) ≡ size * i + size = mul-suc size i in
+      let e : drop (size * i + size) (p ++ q) ≡ drop (size * i + size) b = drop-past p q (size * i) size n ∙ drop-drop size (size * i) b in
+      rw (is, take-at p q (size * i) n, drop-drop, e, k, add-one, take-suc rs i d h, all-append, all-one) (sym (append-assoc p _ _))
 
 -- zeroing forgets what was written below byte 60,000
 pub zeroed-same : (a b : List ℕ) → length b ≡ length a → ((p : ℕ) → workspaceSize ≤ p → getD b p 0 ≡ getD a p 0) → zeroed b ≡ zeroed a

@@ -13,6 +13,7 @@ use Rattle.plan.proofs.Tests.{getD-in, in-getD}
 use Rattle.plan.proofs.AcceptReads.{read-stands, reads-rise}
 use Rattle.cluster.specs.Inputs.{pairAt, Knows}
 use Rattle.script.specs.declared.Script.{Script}
+use Rattle.script.specs.Script.{widthIn}
 use Rattle.script.specs.Operations.{noRead}
 use Rattle.script.proofs.Fitting.{script-knows}
 use Rattle.reading.specs.Reading.{Until, There, readAt}
@@ -25,26 +26,26 @@ module _ (s : List ℕ) (r : Script) (R : Decoded s r) where
   abbrev readerAt : ℕ → ℕ
   readerAt i = getD (r .reads .reader) i 0
 
-  pub knows : Knows (planOf 16 s) (pairAt (r .writes .known)) (r .writes .known .m)
-  knows = script-knows s (R .before) (R .after) (R .playable) r (R .scripted)
+  pub knows : Knows (planOf (widthIn r) s) (pairAt (widthIn r) (r .writes .known)) (r .writes .known .m)
+  knows = script-knows s (R .before) (R .after) r (R .playable) (R .scripted)
 
-  pub servers-same : r .rules .n ≡ planOf 16 s .n
+  pub servers-same : r .rules .n ≡ planOf (widthIn r) s .n
   unfolding planOf
   servers-same = R .scripted .rules .n
 
-  pub delta-same : r .rules .delta ≡ planOf 16 s .delta
+  pub delta-same : r .rules .delta ≡ planOf (widthIn r) s .delta
   unfolding planOf
   delta-same = R .scripted .rules .delta
 
-  pub few-servers : planOf 16 s .n ≤ 16
+  pub few-servers : planOf (widthIn r) s .n ≤ 16
   few-servers = knows .servers
 
-  pub listed : (i : ℕ) → i < r .reads .m → In (readAt (r .reads) i) (planOf 16 s .reads)
-  listed i l = rw (R .scripted .reads .each i l) at (getD-in (planOf 16 s .reads) i noRead (omega (arith, R .scripted .reads .count)))
+  pub listed : (i : ℕ) → i < r .reads .m → In (readAt (r .reads) i) (planOf (widthIn r) s .reads)
+  listed i l = rw (R .scripted .reads .each i l) at (getD-in (planOf (widthIn r) s .reads) i noRead (omega (arith, R .scripted .reads .count)))
 
-  pub in-table : (q : Read) → In q (planOf 16 s .reads) → (i : ℕ) × (i < r .reads .m) × (q ≡ readAt (r .reads) i)
+  pub in-table : (q : Read) → In q (planOf (widthIn r) s .reads) → (i : ℕ) × (i < r .reads .m) × (q ≡ readAt (r .reads) i)
   in-table q h =
-      let (i, l, e) = in-getD (planOf 16 s .reads) q noRead h in
+      let (i, l, e) = in-getD (planOf (widthIn r) s .reads) q noRead h in
       let b : i < r .reads .m = omega (arith, R .scripted .reads .count) in
       (i, b, e ∙ R .scripted .reads .each i b)
 
@@ -56,7 +57,7 @@ module _ (s : List ℕ) (r : Script) (R : Decoded s r) where
     | yes e ↦ rw e (omega arith)
     | no d ↦ (let a = R .scripted .reads .each i (omega arith) in
         let b = R .scripted .reads .each j l in
-        let x = rw (a, b) at (reads-rise 16 s (R .playable) noRead i j (omega arith) (omega (arith, R .scripted .reads .count))) in
+        let x = rw (a, b) at (reads-rise (widthIn r) s (R .playable) noRead i j (omega arith) (omega (arith, R .scripted .reads .count))) in
         omega (arith, x, reader-range i (omega arith) .1, reader-range j l .1))
   ]
 
@@ -71,4 +72,4 @@ module _ (s : List ℕ) (r : Script) (R : Decoded s r) where
   -- every reader is a party
   pub readers-there : (i : ℕ) → i < r .reads .m → r .rules .n + readerAt i < r .links .parties
   readers-there i l =
-      omega (arith, R .scripted .rules .n, R .scripted .links .parties, read-stands 16 s (R .playable) (readAt (r .reads) i) (listed i l) .reader-hi)
+      omega (arith, R .scripted .rules .n, R .scripted .links .parties, read-stands (widthIn r) s (R .playable) (readAt (r .reads) i) (listed i l) .reader-hi)

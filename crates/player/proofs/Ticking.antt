@@ -13,7 +13,7 @@ use Rattle.states.specs.{State.State, Requests.Requested}
 use Rattle.states.proofs as states-laws
 use Rattle.cluster.specs as cluster-specs
 use Rattle.cluster.specs.Tick.{Ticked, noReader, endsOf, feedOf}
-use Rattle.script.{specs.declared.Script.Script, specs.Inputs.LatestWrite, specs.Forged.entriesEnd, proofs.Fitting.script-fits, proofs.Fitting.script-sized}
+use Rattle.script.{specs.declared.Script.Script, specs.Script.widthIn, specs.Inputs.LatestWrite, specs.Forged.entriesEnd, proofs.Fitting.script-fits, proofs.Fitting.script-sized}
 use Rattle.answers.proofs.Answered.{answered}
 use Rattle.reading.specs.Reading.{Until, readAt, chosenBytes, placed, begunBy, freshReader}
 use Rattle.reading.proofs.Cursors.{placed-same, begun-size, begun-other, begun-there}
@@ -23,51 +23,51 @@ use Rattle.player.proofs.Tables.{knows, delta-same, listed, in-table, r
 
 module _ (s : List ℕ) (r : Script) (R : Decoded s r) where
   module _ (work : List ℕ) (K : SameBehind (R .after) work) (room : entriesEnd ≤ length work) (t : ℕ) (below : t < r .shape .ticks) (number : ℕ) (ends : List ℕ)
-      (f : cluster-specs.declared.Feed.Feed) (F : FedBy s work r number ends t f) (c : cluster-specs.declared.Cluster.Cluster) (S : State (planOf 16 s) (cluster-specs.Inputs.pairAt (r .writes .known)) (r .writes .known .m) t c work)
-      (Q : Requested (planOf 16 s) t work) (latest : LatestWrite (r .writes .begun) (r .writes .known .m) t number) (same-ends : ends ≡ endsOf (c .readers)) where
-    under : t < headerOf 16 s .ticks
+      (f : cluster-specs.declared.Feed.Feed) (F : FedBy s work r number ends t f) (c : cluster-specs.declared.Cluster.Cluster) (S : State (planOf (widthIn r) s) (cluster-specs.Inputs.pairAt (widthIn r) (r .writes .known)) (r .writes .known .m) t c work)
+      (Q : Requested (planOf (widthIn r) s) t work) (latest : LatestWrite (r .writes .begun) (r .writes .known .m) t number) (same-ends : ends ≡ endsOf (c .readers)) where
+    under : t < headerOf (widthIn r) s .ticks
     under = omega (arith, player-laws.Feeding.ticks-same s r R)
 
     -- what it is fed, field by field
     abbrev feed : cluster-specs.declared.Feed.Feed
     feed = record { t = t; rules = r .rules; known = r .writes .known; links = r .links; arrivals = f .arrivals; movement = f .movement }
 
-    fits : cluster-specs.Inputs.Fits (planOf 16 s) t s (r .rules) (r .writes .known) (r .links) (f .arrivals) (f .movement)
+    fits : cluster-specs.Inputs.Fits (planOf (widthIn r) s) (cluster-specs.Inputs.pairAt (widthIn r) (r .writes .known)) t s (r .rules) (r .writes .known) (r .links) (f .arrivals) (f .movement)
     fits =
-        script-fits s (R .before) (R .after) (R .playable) r (R .scripted) t under work ends number (f .arrivals) (f .movement)
+        script-fits s (R .before) (R .after) r (R .playable) (R .scripted) t under work ends number (f .arrivals) (f .movement)
         (rw (R .scripted .rules .delta) at (F .comes)) (rw (player-laws.Feeding.period-same s r R) at (F .moves)) Q latest
         (λ q o. rw same-ends (states-laws.RowLaws.end-of (c .readers) (q .reader - 1) ∙ S .readers .end q o))
 
     pub sized : cluster-specs.Inputs.Tickable s work (f .t) (f .rules) (f .known) (f .links)
     sized =
         subst (λ (x : cluster-specs.declared.Feed.Feed). cluster-specs.Inputs.Tickable s work (x .t) (x .rules) (x .known) (x .links)) (sym (F .same))
-        (script-sized s (R .before) (R .after) (R .playable) r (R .scripted) work t under room (S .calendar .spans))
+        (script-sized s (R .before) (R .after) r (R .playable) (R .scripted) work t under room (S .calendar .spans))
 
     module _ (d : cluster-specs.declared.Cluster.Cluster) (work₁ : List ℕ) (fed : cluster-specs.Settled.CalmlyTicked (feedOf s work f) c d work₁) where
       pub ticked : Ticked (feedOf s work feed) c d work₁ (r .rules .n)
-      ticked = subst (λ (x : cluster-specs.declared.Feed.Feed). cluster-specs.Settled.CalmlyTicked (feedOf s work x) c d work₁) (F .same) fed .ticked (states-laws.StateLaws.calm (planOf 16 s) (feedOf s work feed) fits c S)
+      ticked = subst (λ (x : cluster-specs.declared.Feed.Feed). cluster-specs.Settled.CalmlyTicked (feedOf s work x) c d work₁) (F .same) fed .ticked (states-laws.StateLaws.calm (planOf (widthIn r) s) (feedOf s work feed) fits c S)
 
       size : length (d .readers) ≡ 4
       size = ticked .heard .size ∙ S .readers .size
 
       -- a read that ends in this tick is answered as the definitions say
       ends-now : (k k′ i : ℕ) → Until (r .reads .begun) (r .reads .m) 0 (t - 2 * r .rules .delta) k → Until (r .reads .begun) (r .reads .m) 0 (t + 1 - 2 * r .rules .delta) k′ → k ≤ i → i < k′
-          → t ≡ readEnd (planOf 16 s) (readAt (r .reads) i)
+          → t ≡ readEnd (planOf (widthIn r) s) (readAt (r .reads) i)
       ends-now k k′ i U W a b =
           omega (arith, not-before s r R (t - 2 * r .rules .delta) k i U a (omega (arith, W .few)), W .below i (omega arith) b, (delta-same s r R))
 
-      answer-same : (i : ℕ) → i < r .reads .m → t ≡ readEnd (planOf 16 s) (readAt (r .reads) i)
-          → chosenBytes (d .readers) (r .reads) (r .writes .known) (r .rules .reply) i ≡ answerIn s i
+      answer-same : (i : ℕ) → i < r .reads .m → t ≡ readEnd (planOf (widthIn r) s) (readAt (r .reads) i)
+          → chosenBytes (widthIn r) (d .readers) (r .reads) (r .writes .known) (r .rules .reply) i ≡ answerIn (widthIn r) s i
       answer-same i l e =
           let q = readAt (r .reads) i in
-          let a = answered (planOf 16 s) (cluster-specs.Inputs.pairAt (r .writes .known)) (r .writes .known .m) (good 16 s (R .playable)) (knows s r R) q (sets (getD (d .readers) (getD (r .reads .reader) i 0 - 1) noReader .named))
-          (states-laws.StateLaws.noted-end (planOf 16 s) (good 16 s (R .playable)) (feedOf s work feed) fits (knows s r R) c d work₁ ticked S q (listed s r R i l) e) in
+          let a = answered (planOf (widthIn r) s) (cluster-specs.Inputs.pairAt (widthIn r) (r .writes .known)) (r .writes .known .m) (good (widthIn r) s (R .playable)) (knows s r R) q (sets (getD (d .readers) (getD (r .reads .reader) i 0 - 1) noReader .named))
+          (states-laws.StateLaws.noted-end (planOf (widthIn r) s) (good (widthIn r) s (R .playable)) (feedOf s work feed) fits (knows s r R) c d work₁ ticked S q (listed s r R i l) e) in
           rw (R .scripted .reads .each i l, fits .reply, a)
 
       pub answers-are : (k k′ : ℕ) (answers : List ℕ) → Until (r .reads .begun) (r .reads .m) 0 (t - 2 * r .rules .delta) k → Until (r .reads .begun) (r .reads .m) 0 (t + 1 - 2 * r .rules .delta) k′ → k ≤ k′
-          → placed (chosenBytes (d .readers) (r .reads) (r .writes .known) (r .rules .reply)) k (k′ - k) answers ≡ placed (answerIn s) k (k′ - k) answers
+          → placed (widthIn r) (chosenBytes (widthIn r) (d .readers) (r .reads) (r .writes .known) (r .rules .reply)) k (k′ - k) answers ≡ placed (widthIn r) (answerIn (widthIn r) s) k (k′ - k) answers
       answers-are k k′ answers U W h =
-          placed-same _ (answerIn s) k (k′ - k) answers (λ i a b. answer-same i (omega (arith, W .few)) (ends-now k k′ i U W a (omega arith)))
+          placed-same (widthIn r) _ (answerIn (widthIn r) s) k (k′ - k) answers (λ i a b. answer-same i (omega (arith, W .few)) (ends-now k k′ i U W a (omega arith)))
 
       -- ---- the reads that begin
 
@@ -85,7 +85,7 @@ module _ (s : List ℕ) (r : Script) (R : Decoded s r) where
           elim (decLe k′ i) [ yes a ↦ absurd (omega (arith, not-before s r R (t + 1) k′ i W a l)) | no a ↦ omega arith ],
         )
 
-        set-up : (q : Read) → In q (planOf 16 s .reads) → q .begun ≡ t → getD after (q .reader - 1) noReader ≡ freshReader (t + 2 * r .rules .delta)
+        set-up : (q : Read) → In q (planOf (widthIn r) s .reads) → q .begun ≡ t → getD after (q .reader - 1) noReader ≡ freshReader (t + 2 * r .rules .delta)
         set-up q iq e =
             let (i, l, z) = (in-table s r R) q iq in
             let x = ap (λ (y : Read). y .reader) z in
@@ -94,7 +94,7 @@ module _ (s : List ℕ) (r : Script) (R : Decoded s r) where
             begun-there (r .reads .reader) (t + 2 * r .rules .delta) k (d .readers) (q .reader - 1) (k′ - k) i (w .0) (w .1) (ap (λ (y : ℕ). y - 1) x)
             (omega (arith, size, x, (reader-range s r R) i l .1))
 
-        begins : states-laws.ReaderLaws.Begins (planOf 16 s) (r .writes .known .m) t (d .readers) after
+        begins : states-laws.ReaderLaws.Begins (planOf (widthIn r) s) (r .writes .known .m) t (d .readers) after
         begins = record {
           size = begun-size (r .reads .reader) (t + 2 * r .rules .delta) k (d .readers) (k′ - k) ∙ size;
           end = λ q iq e. ap (λ (x : cluster-specs.declared.Reader.Reader). x .end) (set-up q iq e) ∙ omega (arith, (delta-same s r R));
@@ -109,15 +109,15 @@ module _ (s : List ℕ) (r : Script) (R : Decoded s r) where
         abbrev posts : ℕ → ℕ → ℕ → Bool
         posts = player-laws.Posts.posts s r R t below between again (endsOf after)
 
-        forges-now : states-laws.ReaderLaws.Forges (planOf 16 s) (r .writes .known .m) t (cluster-specs.Inputs.pairAt (r .writes .known)) posts
+        forges-now : states-laws.ReaderLaws.Forges (planOf (widthIn r) s) (r .writes .known .m) t (cluster-specs.Inputs.pairAt (widthIn r) (r .writes .known)) posts
         forges-now = record {
           votes = λ u b j i a z lb lj. player-laws.Posts.server-posts s r R t below between again (endsOf after) u b j i a z lb lj;
           replies = λ q o u j i a z lj.
-              let end = states-laws.StateLaws.end-open (planOf 16 s) (good 16 s (R .playable)) (feedOf s work feed) fits (knows s r R) c d work₁ ticked S after begins q o in
+              let end = states-laws.StateLaws.end-open (planOf (widthIn r) s) (good (widthIn r) s (R .playable)) (feedOf s work feed) fits (knows s r R) c d work₁ ticked S after begins q o in
               player-laws.Posts.reader-posts s r R t below between again (endsOf after) u j i (q .reader) a z (knows s r R .readers q (o .listed)) lj
               ∙ rw (states-laws.RowLaws.end-of after (q .reader - 1), end);
           none = λ q iq idle u j i a z lj.
-              let end = states-laws.StateLaws.end-idle (planOf 16 s) (good 16 s (R .playable)) (feedOf s work feed) fits (knows s r R) c d work₁ ticked S after begins q iq idle in
+              let end = states-laws.StateLaws.end-idle (planOf (widthIn r) s) (good (widthIn r) s (R .playable)) (feedOf s work feed) fits (knows s r R) c d work₁ ticked S after begins q iq idle in
               player-laws.Posts.reader-none s r R t below between again (endsOf after) u j i (q .reader) a z (knows s r R .readers q iq) lj
               (omega (arith, end, states-laws.RowLaws.end-of after (q .reader - 1)));
         }
@@ -125,8 +125,8 @@ module _ (s : List ℕ) (r : Script) (R : Decoded s r) where
         -- ---- all together
 
         pub state-next : (servers : cluster-specs.declared.Cluster.Cluster) (work₂ : List ℕ) → servers .servers ≡ d .servers → servers .readers ≡ after → Posted between work₂ posts
-            → State (planOf 16 s) (cluster-specs.Inputs.pairAt (r .writes .known)) (r .writes .known .m) (suc t) servers work₂
+            → State (planOf (widthIn r) s) (cluster-specs.Inputs.pairAt (widthIn r) (r .writes .known)) (r .writes .known .m) (suc t) servers work₂
         state-next n work₂ es er N =
-            states-laws.StateLaws.next-state (planOf 16 s) (good 16 s (R .playable)) (feedOf s work feed) fits (knows s r R) c d work₁ ticked S n work₂ posts es (rw er begins)
+            states-laws.StateLaws.next-state (planOf (widthIn r) s) (good (widthIn r) s (R .playable)) (feedOf s work feed) fits (knows s r R) c d work₁ ticked S n work₂ posts es (rw er begins)
             (λ x j i l m. N .cells x j i l m ∙ rw (outside-sender work₁ between O x j i l m))
             (posted-spanned between work₂ posts N (outside-spanned work₁ between O (fed .spans))) forges-now

@@ -53,6 +53,7 @@ module _ (s work : List ℕ) (r : script-specs.declared.Script.Script) (t : ℕ)
     table = player-laws.Tables.there s r (Q .decoded) 0 (r .reads .m) (omega arith) (omega arith);
     parties = λ i l. player-laws.Tables.readers-there s r (Q .decoded) i l;
     pairs = Q .decoded .scripted .writes .few;
+    width = Q .decoded .scripted .narrow;
     narrow = Q .decoded .scripted .writes .small;
     begun = rw (H .begun) (L .begun .few);
     answered = rw (H .answered) (L .answered .few);
@@ -66,7 +67,7 @@ module _ (s work : List ℕ) (r : script-specs.declared.Script.Script) (t : ℕ)
       record {
         ended = until-still (r .reads .begun) (r .reads .m) (q .answered) (t + 1 - 2 * r .rules .delta) (can-go-on .answered) (n .1);
         began = until-still (r .reads .begun) (r .reads .m) (q .begun) (t + 1) (can-go-on .begun) (n .0);
-        answers = placed-none _ (q .answered) answers;
+        answers = placed-none (script-specs.Script.widthIn r) _ (q .answered) answers;
         readers = begun-none (r .reads .reader) (t + 2 * r .rules .delta) (q .begun) (q .readers);
         ends = H .ends ∙ (same ∙ sym (ends-heard work t (p .readers) (q .readers) (H .heard .readers)));
         asked = between-none s (r .links) (r .rules .n) t (r .reads .reader) (q .begun) then;
@@ -122,8 +123,8 @@ module _ (s work : List ℕ) (r : script-specs.declared.Script.Script) (t : ℕ)
               size = ticked s r D work (Q .kept) (Q .room) t below written (p .ends) f F c (L .state) (L .requested) (L .written) same d work₁ fed .servers;
               state = rw (add-one t) (state-next s r D work (Q .kept) (Q .room) t below written (p .ends) f F c (L .state) (L .requested) (L .written) same d work₁ fed work₃ outside
                   (p .begun) (z .begun) (L .begun) have-begun up (at served z written₁ t .cluster) work₄ refl rs (rw (W .ends, rs) at P));
-              requested = rw (add-one t) (states-laws.RequestLaws.requested-past (planOf 16 s) (suc t) work₃ work₄ (P .rest) (player-laws.Requests.requested-after s r D t below written (L .written) (p .begun) (z .begun) (L .begun) have-begun up
-                  written₁ work₁ work₂ work₃ (states-laws.RequestLaws.requested-past (planOf 16 s) t work work₁ (fed .rest) (L .requested)) N (rw (H .begun) at (W .asked))));
+              requested = rw (add-one t) (states-laws.RequestLaws.requested-past (planOf (script-specs.Script.widthIn r) s) (suc t) work₃ work₄ (P .rest) (player-laws.Requests.requested-after s r D t below written (L .written) (p .begun) (z .begun) (L .begun) have-begun up
+                  written₁ work₁ work₂ work₃ (states-laws.RequestLaws.requested-past (planOf (script-specs.Script.widthIn r) s) t work work₁ (fed .rest) (L .requested)) N (rw (H .begun) at (W .asked))));
               written = rw (add-one t) (player-laws.Requests.written-next s r D t below written (L .written) written₁ work₁ work₂ N);
               begun = have-begun;
               answered = have-ended;

@@ -2,7 +2,7 @@
 -- It stands on Turns and Buffers.
 use mathlib.Core.{Path._≡_, Path.refl, Path.ap, Path._∙_, Logic.inr, List.List, List._++_}
 use Prim.Native.Nat.{ℕ, zero, suc, _+_, _*_, _-_, _≤_, _<_}
-use native.Mathlib.{Numerals.add-one, Omega.arith, Decide.decLe}
+use native.Mathlib.{Nat.mul-zero, Numerals.add-one, Omega.arith, Decide.decLe}
 use lib.{ListN.length, ListN.getD, ListN.take, ListN.drop, Seq.take-all}
 use Rattle.plan.specs as plan-specs
 use Rattle.plan.{specs.Packed.planOf, proofs.Tests.getD-in, proofs.AcceptReads.read-stands}
@@ -10,8 +10,9 @@ use Rattle.requests.{specs.Requests.SameBehind, proofs.Requesting.behind-trans}
 use Rattle.states.proofs as states-laws
 use Rattle.serving.specs.Stored.{absent}
 use Rattle.script.specs as script-specs
+use Rattle.script.specs.Script.{widthIn}
 use Rattle.answers.specs as answers-specs
-use Rattle.answers.specs.Answers.{answersFor, answersOf}
+use Rattle.answers.specs.Answers.{answerSize, answersFor, answersOf}
 use Rattle.reading.specs.Reading.{placed}
 use Rattle.reading.proofs.Cursors.{until-none, placed-none, placed-on}
 use Rattle.player.specs as player-specs
@@ -32,8 +33,8 @@ module _ (s : List ℕ) (r : script-specs.declared.Script.Script) where
   played-none before work p D E =
       rw (E .first) (record {
         size = E .started .size;
-        state = states-laws.StateLaws.first-state (planOf 16 s) _ (r .writes .known .m) (player-laws.Tables.knows s r D) (p .cluster) work (E .started) (E .empty);
-        requested = states-laws.RequestLaws.requested-none (planOf 16 s) work (E .unasked);
+        state = states-laws.StateLaws.first-state (planOf (widthIn r) s) _ (r .writes .known .m) (player-laws.Tables.knows s r D) (p .cluster) work (E .started) (E .empty);
+        requested = states-laws.RequestLaws.requested-none (planOf (widthIn r) s) work (E .unasked);
         written = record { below = omega (arith, D .scripted .writes .count); before = λ h. absurd (omega arith); last = λ j a b. omega arith };
         begun = until-none (r .reads .begun) (r .reads .m) 0 refl;
         answered = until-none (r .reads .begun) (r .reads .m) (0 - 2 * r .rules .delta) (omega arith);
@@ -44,7 +45,7 @@ module _ (s : List ℕ) (r : script-specs.declared.Script.Script) where
     kept = record { size = refl; behind = λ k l. refl };
     played = L;
     ordered = omega arith;
-    answers = placed-none (answerIn s) (p .answered) answers;
+    answers = placed-none (widthIn r) (answerIn (widthIn r) s) (p .answered) answers;
   }
 
   pub went-on : (work now work₁ answers then answers₁ : List ℕ) (p q z : player-specs.declared.Playing.Playing) → Went s work now answers then r p q → Went s now work₁ then answers₁ r q z
@@ -56,21 +57,37 @@ module _ (s : List ℕ) (r : script-specs.declared.Script.Script) where
         kept = behind-trans work now work₁ (A .kept) (W .kept);
         played = W .played;
         ordered = omega (arith, A .ordered, W .ordered);
-        answers = W .answers ∙ rw (A .answers) (rw (from, all) at (placed-on (answerIn s) (p .answered) (q .answered - p .answered) (z .answered - q .answered) answers));
+        answers = W .answers ∙ rw (A .answers) (rw (from, all) at (placed-on (widthIn r) (answerIn (widthIn r) s) (p .answered) (q .answered - p .answered) (z .answered - q .answered) answers));
       }
 
 -- the answers of the first reads, placed one by one
-all-placed : (s b : List ℕ) (i : ℕ) → i ≤ length (planOf 16 s .reads) → placed (answerIn s) 0 i b ≡ answersFor 16 (planOf 16 s) (take i (planOf 16 s .reads)) ++ drop (5 * i) b
+all-placed : (w : ℕ) (s b : List ℕ) (i : ℕ) → i ≤ length (planOf w s .reads)
+    → placed w (answerIn w s) 0 i b ≡ answersFor w (planOf w s) (take i (planOf w s .reads)) ++ drop (answerSize w * i) b
 unfolding placed answersFor
-all-placed s b zero h = refl
-all-placed s b (suc i) h =
+all-placed w s b zero h = rw (mul-zero (answerSize w))
+all-placed w s b (suc i) h =
     let z : 0 + i ≡ i = omega arith in
-    rw (z, ← add-one i) (player-laws.Buffers.answers-more (planOf 16 s) (planOf 16 s .reads) b (placed (answerIn s) 0 i b) i script-specs.Operations.noRead (omega arith) (all-placed s b i (omega arith)))
+    rw (z, ← add-one i)
+    (player-laws.Buffers.answers-more w (planOf w s) (planOf w s .reads) b (placed w (answerIn w s) 0 i b) i script-specs.Operations.noRead (omega arith)
+    (all-placed w s b i (omega arith)))
 
-module _ (s before after started : List ℕ) (r : script-specs.declared.Script.Script) (playable : plan-specs.Playable.Playable 16 s) (room : answers-specs.Workspace.workspaceSize ≤ length before)
-    (scripted : script-specs.Script.Scripted s before after r) (first : player-specs.declared.Playing.Playing) (fresh : Fresh after started r first) where
+module _ (s before after started : List ℕ) (r : script-specs.declared.Script.Script) (w : ℕ) (at : plan-specs.Playable.Playable w s) (room : answers-specs.Workspace.workspaceSize ≤ length before)
+    (read : script-specs.Script.Scripted s before after r × (widthIn r ≡ w)) (first : player-specs.declared.Playing.Playing) (fresh : Fresh after started r first) where
+  abbrev scripted : script-specs.Script.Scripted s before after r
+  scripted = read .0
+
+  playable : plan-specs.Playable.Playable (widthIn r) s
+  playable = rw (read .1) at
+
   abbrev decoded : Decoded s r
   decoded = record { playable = playable; before = before; after = after; scripted = scripted }
+
+  -- the plan's ticks, and the answers of its reads, by the script
+  pub ticks-at : r .shape .ticks ≡ plan-specs.Header.headerOf w s .ticks
+  ticks-at = player-laws.Feeding.ticks-same s r decoded ∙ ap (λ (v : ℕ). plan-specs.Header.headerOf v s .ticks) (read .1)
+
+  pub answers-room : (n : ℕ) → answerSize w * length (planOf w s .reads) ≤ n → answerSize (widthIn r) * r .reads .m ≤ n
+  answers-room n h = rw (scripted .reads .count, read .1) h
 
   pub ready : Ready s started r
   ready = record { decoded = decoded; room = omega (arith, scripted .forged .filled .size, fresh .kept .size); kept = fresh .kept }
@@ -86,34 +103,35 @@ module _ (s before after started : List ℕ) (r : script-specs.declared.Script.S
         (λ x l. K .behind x (omega arith) ∙ (fresh .kept .behind x (omega arith) ∙ scripted .forged .filled .other x (inr (omega (arith, player-laws.Feeding.range s r decoded .forgeries-hi)))))
 
     -- a server after the last of the ticks
-    pub seen : (b t : ℕ) (end : List ℕ) → b < plan-specs.Header.headerOf 16 s .n → p .tick ≡ suc t → end ≡ answers-specs.Workspace.zeroed work → player-specs.Player.Viewed s b t (record { server = getD (p .cluster .servers) b absent; known = r .writes .known }) before end
+    pub seen : (b t : ℕ) (end : List ℕ) → b < plan-specs.Header.headerOf w s .n → p .tick ≡ suc t → end ≡ answers-specs.Workspace.zeroed work → player-specs.Player.Viewed w s b t (record { server = getD (p .cluster .servers) b absent; known = r .writes .known }) before end
     unfolding planOf
     seen b t end l e z =
-        let R = rw e at (W .played .state .servers b l) in
-        record { status = R .status; kept = R .kept; narrow = scripted .writes .small; workspace = all-zeroed end z }
+        let R = rw e at (W .played .state .servers b (rw (read .1) l)) in
+        rw (← read .1) (record { status = R .status; kept = R .kept; narrow = scripted .writes .small; workspace = all-zeroed end z })
 
     -- after all ticks no read is left
     none-left : p .tick ≡ r .shape .ticks → p .answered < r .reads .m → ⊥
     unfolding planOf
     none-left e l =
-        let q = rw (scripted .reads .each (p .answered) l) at (getD-in (planOf 16 s .reads) (p .answered) script-specs.Operations.noRead (omega (arith, scripted .reads .count))) in
-        let Q = read-stands 16 s playable _ q in
+        let q = rw (scripted .reads .each (p .answered) l) at (getD-in (planOf (widthIn r) s .reads) (p .answered) script-specs.Operations.noRead (omega (arith, scripted .reads .count))) in
+        let Q = read-stands (widthIn r) s playable _ q in
         omega (arith, W .played .answered .next l, Q .ends, e, player-laws.Feeding.ticks-same s r decoded, scripted .rules .delta)
 
-    all-answered : p .tick ≡ r .shape .ticks → p .answered ≡ length (planOf 16 s .reads)
+    all-answered : p .tick ≡ r .shape .ticks → p .answered ≡ length (planOf (widthIn r) s .reads)
     all-answered e = elim (decLe (r .reads .m) (p .answered)) [
       | yes d ↦ omega (arith, W .played .answered .few, scripted .reads .count)
       | no d ↦ absurd (none-left e (omega arith))
     ]
 
-    pub all-there : p .tick ≡ r .shape .ticks → (end : List ℕ) → end ≡ answers-specs.Workspace.zeroed work → player-specs.Player.AllAnswered s answers answers₁ before end
+    pub all-there : p .tick ≡ r .shape .ticks → (end : List ℕ) → end ≡ answers-specs.Workspace.zeroed work → player-specs.Player.AllAnswered w s answers answers₁ before end
     unfolding answersOf
     all-there e end z =
         let k = all-answered e in
         let none : first .answered ≡ 0 = ap (λ (x : player-specs.declared.Playing.Playing). x .answered) (fresh .first) in
         let all : p .answered - 0 ≡ p .answered = omega arith in
-        let whole : answers₁ ≡ placed (answerIn s) 0 (p .answered) answers = rw (none, all) at (W .answers) in
-        record {
-          answers = rw (← k) (rw (take-all (p .answered) (planOf 16 s .reads) (omega arith)) at (whole ∙ all-placed s answers (p .answered) (omega arith)));
+        let whole : answers₁ ≡ placed (widthIn r) (answerIn (widthIn r) s) 0 (p .answered) answers = rw (none, all) at (W .answers) in
+        rw (← read .1)
+        (record {
+          answers = rw (← k) (rw (take-all (p .answered) (planOf (widthIn r) s .reads) (omega arith)) at (whole ∙ all-placed (widthIn r) s answers (p .answered) (omega arith)));
           workspace = all-zeroed end z;
-        }
+        })

@@ -15,14 +15,14 @@ use Rattle.script.specs.declared.Script.{Script}
 use Rattle.script.specs.Operations.{noRead}
 use Rattle.script.specs.Forged.{entriesEnd}
 use Rattle.script.specs.Inputs.{LatestWrite, Arrive, Moves}
-use Rattle.script.specs.Script.{Scripted}
+use Rattle.script.specs.Script.{Scripted, widthIn}
 use Rattle.answers.specs.Answers.{answerBytes}
 use Rattle.reading.specs.Reading.{Until, placed}
 use Rattle.player.specs.declared.Playing.{Playing}
 
 -- the script of a plan that can be played
 pub record Decoded (s : List ℕ) (r : Script) : Type 0 where
-  pub playable : Playable 16 s
+  pub playable : Playable (widthIn r) s
   -- the workspace before and after the script was read
   pub before : List ℕ
   pub after : List ℕ
@@ -38,27 +38,27 @@ pub record Ready (s work : List ℕ) (r : Script) : Type 0 where
 pub record FedBy (s work : List ℕ) (r : Script) (number : ℕ) (ends : List ℕ) (t : ℕ) (f : Feed) : Type 0 where
   pub same : f ≡ record { t = t; rules = r .rules; known = r .writes .known; links = r .links; arrivals = f .arrivals; movement = f .movement }
   pub comes : Arrive work number ends t (r .rules .delta) (f .arrivals)
-  pub moves : Moves s (r .shape .period) t (f .movement)
+  pub moves : Moves (widthIn r) s (r .shape .period) t (f .movement)
 
 -- the ticks below t are played: what has begun, and what has ended
 pub record PlayedTo (s work : List ℕ) (r : Script) (p : Playing) : Type 0 where
   pub size : length (p .cluster .servers) ≡ mostServers
-  pub state : State (planOf 16 s) (pairAt (r .writes .known)) (r .writes .known .m) (p .tick) (p .cluster) work
-  pub requested : Requested (planOf 16 s) (p .tick) work
+  pub state : State (planOf (widthIn r) s) (pairAt (widthIn r) (r .writes .known)) (r .writes .known .m) (p .tick) (p .cluster) work
+  pub requested : Requested (planOf (widthIn r) s) (p .tick) work
   pub written : LatestWrite (r .writes .begun) (r .writes .known .m) (p .tick) (p .written)
   pub begun : Until (r .reads .begun) (r .reads .m) 0 (p .tick) (p .begun)
   pub answered : Until (r .reads .begun) (r .reads .m) 0 (p .tick - 2 * r .rules .delta) (p .answered)
 
 -- the bytes of the answer of read i
-abbrev pub answerIn : List ℕ → ℕ → List ℕ
-answerIn s i = answerBytes 16 (getD (planOf 16 s .reads) i noRead) (answerOf (planOf 16 s) (getD (planOf 16 s .reads) i noRead))
+abbrev pub answerIn : ℕ → List ℕ → ℕ → List ℕ
+answerIn w s i = answerBytes w (getD (planOf w s .reads) i noRead) (answerOf (planOf w s) (getD (planOf w s .reads) i noRead))
 
 -- the ticks from p on are played up to q: the workspace past the calendar and the requests stays, and the reads that end in them are answered
 pub record Went (s work₀ work₁ answers₀ answers₁ : List ℕ) (r : Script) (p q : Playing) : Type 0 where
   pub kept : SameBehind work₀ work₁
   pub played : PlayedTo s work₁ r q
   pub ordered : p .answered ≤ q .answered
-  pub answers : answers₁ ≡ placed (answerIn s) (p .answered) (q .answered - p .answered) answers₀
+  pub answers : answers₁ ≡ placed (widthIn r) (answerIn (widthIn r) s) (p .answered) (q .answered - p .answered) answers₀
 
 -- nothing is under way before the first tick
 pub record Fresh (work₀ work₁ : List ℕ) (r : Script) (p : Playing) : Type 0 where

@@ -1,6 +1,7 @@
 // Playing a plan that passes every test of Check but 3, in a workspace that is large enough.
 ghost use Prim.Native.Nat.{_*_, _≤_, _<_};
 ghost use lib.ListN.{length};
+ghost use Rattle.plan.specs.Form.{mostWidth};
 ghost use Rattle.plan.specs.Header.{headerOf};
 ghost use Rattle.plan.specs.Packed.{planOf};
 ghost use Rattle.plan.specs.Playable.{Playable};
@@ -13,7 +14,6 @@ use cluster::Cluster;
 use cluster::Known;
 use plan::header::Shape;
 use script::Script;
-use script::operations;
 use serving::Server;
 
 pub mod run;
@@ -34,8 +34,8 @@ pub struct View {
     pub known: Known,
 }
 
-// The answers of all reads that a table can hold, if no one asks for them.
-const UNASKED: usize = Shape::ANSWER_BYTES * operations::TABLE_READS;
+// The answers of all reads of a plan, if no one asks for them.
+const UNASKED: usize = answers::MOST_SIZE * Shape::MOST_READS;
 
 // Before the first tick: nothing is under way.
 fn begin(work: &mut [u8], script: Script) -> Playing
@@ -55,22 +55,24 @@ fn begin(work: &mut [u8], script: Script) -> Playing
 }
 
 // Plays all ticks, writes the answers and zeroes the workspace.
-pub fn play(plan: &[u8], answers: &mut [u8], work: &mut [u8])
-    requires { ⌜ Playable 16 (now plan) × (answerSize 16 * length (planOf 16 (now plan) .reads) ≤ length (now answers)) × (workspaceSize ≤ length (now work)) ⌝ }
-    ensures { λ _. ⌜ AllAnswered (now (plan .entry)) (now (answers .entry)) (now (answers .exit)) (now (work .entry)) (now (work .exit)) ⌝ }
+pub fn play(plan: &[u8], width: u8, answers: &mut [u8], work: &mut [u8])
+    requires { ⌜ Playable width (now plan) × (width ≤ mostWidth)
+        × (answerSize width * length (planOf width (now plan) .reads) ≤ length (now answers)) × (workspaceSize ≤ length (now work)) ⌝ }
+    ensures { λ _. ⌜ AllAnswered width (now (plan .entry)) (now (answers .entry)) (now (answers .exit)) (now (work .entry)) (now (work .exit)) ⌝ }
 {
-    let script = script::read(plan, work);
+    let script = script::read(plan, width, work);
     let start = begin(work, script);
     let _end = run::run(start, plan, answers, work, script, script.shape.ticks);
     answers::zero(work);
 }
 
 // A server after a tick; the workspace is zeroed.
-pub fn look(plan: &[u8], work: &mut [u8], server: usize, tick: u8) -> View
-    requires { ⌜ Playable 16 (now plan) × (workspaceSize ≤ length (now work)) × (server < headerOf 16 (now plan) .n) × (tick < headerOf 16 (now plan) .ticks) ⌝ }
-    ensures { λ r. ⌜ Viewed (now (plan .entry)) server tick r (now (work .entry)) (now (work .exit)) ⌝ }
+pub fn look(plan: &[u8], width: u8, work: &mut [u8], server: usize, tick: u8) -> View
+    requires { ⌜ Playable width (now plan) × (width ≤ mostWidth) × (workspaceSize ≤ length (now work))
+        × (server < headerOf width (now plan) .n) × (tick < headerOf width (now plan) .ticks) ⌝ }
+    ensures { λ r. ⌜ Viewed width (now (plan .entry)) server tick r (now (work .entry)) (now (work .exit)) ⌝ }
 {
-    let script = script::read(plan, work);
+    let script = script::read(plan, width, work);
     let start = begin(work, script);
     let mut unasked = [0u8; UNASKED];
     let before = run::run(start, plan, &mut unasked, work, script, tick);

@@ -3,6 +3,7 @@ ghost use mathlib.Core.Path.{_≡_};
 ghost use Prim.Native.Nat.{suc, _*_, _≤_, _<_};
 ghost use lib.ListN.{length};
 ghost use Rattle.answers.specs.Answers.{answerSize};
+ghost use Rattle.script.specs.Script.{widthIn};
 ghost use Rattle.player.specs.Run.{Ready, PlayedTo, Went};
 use super::Playing;
 use super::tick::feed_of;
@@ -22,7 +23,7 @@ pub fn run(
     script: Script,
     to: u8,
 ) -> Playing
-    requires { ⌜ Ready (now plan) (now work) script × PlayedTo (now plan) (now work) script start × (start .tick ≤ to) × (to ≤ script .shape .ticks) × (answerSize 16 * script .reads .m ≤ length (now answers)) ⌝ }
+    requires { ⌜ Ready (now plan) (now work) script × PlayedTo (now plan) (now work) script start × (start .tick ≤ to) × (to ≤ script .shape .ticks) × (answerSize (widthIn script) * script .reads .m ≤ length (now answers)) ⌝ }
     ensures { λ r. ⌜ Went (now (plan .entry)) (now (work .entry)) (now (work .exit)) (now (answers .entry)) (now (answers .exit)) script start r × (r .tick ≡ to) ⌝ }
 {
     let reads = script.reads;
@@ -79,7 +80,7 @@ pub fn run(
 
 // The next tick.
 pub fn one(p: Playing, plan: &[u8], answers: &mut [u8], work: &mut [u8], script: Script) -> Playing
-    requires { ⌜ Ready (now plan) (now work) script × PlayedTo (now plan) (now work) script p × (p .tick < script .shape .ticks) × (answerSize 16 * script .reads .m ≤ length (now answers)) ⌝ }
+    requires { ⌜ Ready (now plan) (now work) script × PlayedTo (now plan) (now work) script p × (p .tick < script .shape .ticks) × (answerSize (widthIn script) * script .reads .m ≤ length (now answers)) ⌝ }
     ensures { λ r. ⌜ Went (now (plan .entry)) (now (work .entry)) (now (work .exit)) (now (answers .entry)) (now (answers .exit)) script p r × (r .tick ≡ suc (p .tick)) ⌝ }
 {
     run(p, plan, answers, work, script, p.tick + 1)

@@ -4,6 +4,7 @@ ghost use Prim.Native.Nat.{suc, _*_, _≤_, _<_};
 ghost use lib.ListN.{length};
 ghost use Rattle.requests.specs.Requests.{requestsEnd};
 ghost use Rattle.answers.specs.Answers.{answerSize};
+ghost use Rattle.script.specs.Script.{widthIn};
 ghost use Rattle.asking.specs.Asking.{WroteOn};
 ghost use Rattle.player.specs.Run.{Decoded, FedBy, Ready, PlayedTo, Went};
 use super::Playing;
@@ -30,7 +31,7 @@ pub fn feed_of(
     let writes = script.writes;
     let known = writes.known;
     let arrivals = inputs::arrivals(work, written, ends, t, rules.delta);
-    let movement = inputs::movement(plan, script.shape.period, t);
+    let movement = inputs::movement(plan, script.shape, t);
     Feed {
         t: t,
         rules: rules,
@@ -61,7 +62,7 @@ pub fn write_on(work: &mut [u8], plan: &[u8], script: Script, written: u8, t: u8
 
 // 'One tick carries the whole hall from one state to the next': the next tick of a state that is lent.
 pub fn tick(p: &mut Playing, plan: &[u8], answers: &mut [u8], work: &mut [u8], script: Script)
-    requires { ⌜ Ready (now plan) (now work) script × PlayedTo (now plan) (now work) script (now p) × (now p .tick < script .shape .ticks) × (answerSize 16 * script .reads .m ≤ length (now answers)) ⌝ }
+    requires { ⌜ Ready (now plan) (now work) script × PlayedTo (now plan) (now work) script (now p) × (now p .tick < script .shape .ticks) × (answerSize (widthIn script) * script .reads .m ≤ length (now answers)) ⌝ }
     ensures { λ _. ⌜ Went (now (plan .entry)) (now (work .entry)) (now (work .exit)) (now (answers .entry)) (now (answers .exit)) script (now (p .entry)) (now (p .exit)) × (now (p .exit) .tick ≡ suc (now (p .entry) .tick)) ⌝ }
 {
     *p = run::one(*p, plan, answers, work, script);
@@ -69,7 +70,7 @@ pub fn tick(p: &mut Playing, plan: &[u8], answers: &mut [u8], work: &mut [u8], s
 
 // The next tick of a state by value, by lending it: who calls this needs no proof by hand.
 pub fn next(p: Playing, plan: &[u8], answers: &mut [u8], work: &mut [u8], script: Script) -> Playing
-    requires { ⌜ Ready (now plan) (now work) script × PlayedTo (now plan) (now work) script p × (p .tick < script .shape .ticks) × (answerSize 16 * script .reads .m ≤ length (now answers)) ⌝ }
+    requires { ⌜ Ready (now plan) (now work) script × PlayedTo (now plan) (now work) script p × (p .tick < script .shape .ticks) × (answerSize (widthIn script) * script .reads .m ≤ length (now answers)) ⌝ }
     ensures { λ r. ⌜ Went (now (plan .entry)) (now (work .entry)) (now (work .exit)) (now (answers .entry)) (now (answers .exit)) script p r × (r .tick ≡ suc (p .tick)) ⌝ }
 {
     let mut local = p;

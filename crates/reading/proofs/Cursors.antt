@@ -2,7 +2,8 @@
 -- It stands on the definitions alone.
 use mathlib.Core.Path.{_≡_, refl, ap, _∙_}
 use mathlib.Core.List.{List, [], _++_, append-nil}
-use Prim.Native.Nat.{ℕ, zero, suc, _+_, _-_, _≤_, _<_}
+use Prim.Native.Nat.{ℕ, zero, suc, _+_, _*_, _-_, _≤_, _<_}
+use native.Mathlib.Nat.{zero-mul, mul-le-mul-left}
 use native.Mathlib.Omega.{arith}
 use native.Mathlib.Decide.{decLe, ℕ-discrete}
 use lib.ListN.{length, getD, set, take, drop, length-set, length-drop, drop-of-length-le}
@@ -52,14 +53,22 @@ there-part by m A k r h l = record { ordered = h; few = omega (arith, A .few); r
 
 -- ---- answers
 
-pub answer-none : (g : ℕ → ℕ) (c : Choice) → c .found ≡ false → answerBy g c ≡ record { pair = stamped 16 0 0; count = 0 }
+pub answer-none : (w : ℕ) (g : ℕ → ℕ) (c : Choice) → c .found ≡ false → answerBy g c ≡ record { pair = stamped w 0 0; count = 0 }
 unfolding answerBy stamped
-answer-none g c e = rw e
+answer-none w g c e = rw (e, zero-mul)
 
-pub answer-found : (known : Known) (c : Choice) → c .found ≡ true
-    → answerBy (pairAt known) c ≡ record { pair = stamped 16 (getD (known .values) (c .number) 0) (c .number); count = c .count }
+pub answer-found : (w : ℕ) (known : Known) (c : Choice) → c .found ≡ true
+    → answerBy (pairAt w known) c ≡ record { pair = stamped w (getD (known .values) (c .number) 0) (c .number); count = c .count }
 unfolding answerBy
-answer-found known c e = rw e
+answer-found w known c e = rw e
+
+-- fewer answers fit too
+pub fewer-fit : (size a b n : ℕ) → a ≤ b → size * b ≤ n → size * a ≤ n
+fewer-fit size a b n h l = omega (arith, mul-le-mul-left {m = a} {n = b} size h)
+
+-- an answer before the last one lies in the buffer
+pub answer-room : (size i to n : ℕ) → i < to → size * to ≤ n → size * i + size ≤ n
+answer-room size i to n h l = omega (arith, mul-le-mul-left {m = suc i} {n = to} size h)
 
 -- the whole, when the part from place a on comes back from a callee
 pub part-back : (a : ℕ) (s t : List ℕ) → putMid a (length s - a) s t ≡ take a s ++ t
@@ -67,29 +76,29 @@ part-back a s t =
     let e : drop (length s - a) (drop a s) ≡ [] = drop-of-length-le (drop a s) {i = length s - a} (rw length-drop (omega arith)) in
     rw e (ap (λ (r : List ℕ). take a s ++ r) (append-nil t))
 
-pub placed-none : (f : ℕ → List ℕ) (k : ℕ) (b : List ℕ) → b ≡ placed f k (k - k) b
+pub placed-none : (w : ℕ) (f : ℕ → List ℕ) (k : ℕ) (b : List ℕ) → b ≡ placed w f k (k - k) b
 unfolding placed
-placed-none f k b = let z : k - k ≡ 0 = omega arith in rw z
+placed-none w f k b = let z : k - k ≡ 0 = omega arith in rw z
 
-pub placed-more : (f : ℕ → List ℕ) (k i : ℕ) (b a r : List ℕ) → k ≤ i → a ≡ placed f k (i - k) b → r ≡ placedAt i (f i) a → r ≡ placed f k (i + 1 - k) b
+pub placed-more : (w : ℕ) (f : ℕ → List ℕ) (k i : ℕ) (b a r : List ℕ) → k ≤ i → a ≡ placed w f k (i - k) b → r ≡ placedAt w i (f i) a → r ≡ placed w f k (i + 1 - k) b
 unfolding placed
-placed-more f k i b a r h e q =
+placed-more w f k i b a r h e q =
     let z : i + 1 - k ≡ suc (i - k) = omega arith in
     let y : k + (i - k) ≡ i = omega arith in
     rw (z, y, ← e) q
 
-pub placed-same : (f g : ℕ → List ℕ) (k n : ℕ) (b : List ℕ) → ((i : ℕ) → k ≤ i → i < k + n → f i ≡ g i) → placed f k n b ≡ placed g k n b
+pub placed-same : (w : ℕ) (f g : ℕ → List ℕ) (k n : ℕ) (b : List ℕ) → ((i : ℕ) → k ≤ i → i < k + n → f i ≡ g i) → placed w f k n b ≡ placed w g k n b
 unfolding placed
-placed-same f g k zero b h = refl
-placed-same f g k (suc n) b h = rw (h (k + n) (omega arith) (omega arith), placed-same f g k n b (λ i a l. h i a (omega arith)))
+placed-same w f g k zero b h = refl
+placed-same w f g k (suc n) b h = rw (h (k + n) (omega arith) (omega arith), placed-same w f g k n b (λ i a l. h i a (omega arith)))
 
-pub placed-on : (f : ℕ → List ℕ) (a k n : ℕ) (b : List ℕ) → placed f (a + k) n (placed f a k b) ≡ placed f a (k + n) b
+pub placed-on : (w : ℕ) (f : ℕ → List ℕ) (a k n : ℕ) (b : List ℕ) → placed w f (a + k) n (placed w f a k b) ≡ placed w f a (k + n) b
 unfolding placed
-placed-on f a k zero b = let z : k + 0 ≡ k = omega arith in rw z
-placed-on f a k (suc n) b =
+placed-on w f a k zero b = let z : k + 0 ≡ k = omega arith in rw z
+placed-on w f a k (suc n) b =
     let z : k + suc n ≡ suc (k + n) = omega arith in
     let y : a + k + n ≡ a + (k + n) = omega arith in
-    rw (z, y, placed-on f a k n b)
+    rw (z, y, placed-on w f a k n b)
 
 -- ---- begins
 

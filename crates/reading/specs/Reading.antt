@@ -9,15 +9,15 @@ use Rattle.calendar.specs.Layout.{mostReaders, places}
 use Rattle.cluster.specs.declared.Known.{Known}
 use Rattle.cluster.specs.declared.Reader.{Reader}
 use Rattle.serving.specs.Bits.{sets, noVoters}
-use Rattle.cluster.specs.Inputs.{pairAt, Narrow}
-use Rattle.cluster.specs.Tick.{noReader, endsOf}
+use Rattle.cluster.specs.{Inputs.pairAt, Inputs.Narrow, Tick.noReader, Tick.endsOf}
 use Rattle.script.specs.declared.operations.Reads.{Reads}
 use Rattle.script.specs.declared.Script.{Script}
+use Rattle.script.specs.Script.{widthIn}
 use Rattle.register.specs.Plan.{Read}
+use Rattle.plan.specs.Form.{mostWidth}
 use Rattle.requests.specs.Requests.{Asked}
 use Rattle.asking.specs.Asking.{askedBetween}
-use Rattle.answers.specs.Answers.{answerSize, answerBytes}
-use Rattle.answers.specs.Choosing.{highestOf, answerBy}
+use Rattle.answers.specs.{Answers.answerSize, Answers.answerBytes, Choosing.highestOf, Choosing.answerBy}
 use Rattle.reading.specs.declared.Reading.{Reading}
 
 -- of m reads, from read k on, those before r begin before tick u, and read r does not
@@ -39,19 +39,19 @@ pub record There (by : List ℕ) (from to : ℕ) : Type 0 where
 
 -- ---- answers
 
--- the bytes of read i's answer: its reader chooses of what it has noted
-abbrev pub chosenBytes : List Reader → Reads → Known → ℕ → ℕ → List ℕ
-chosenBytes readers reads known reply i =
-    answerBytes 16 (readAt reads i) (answerBy (pairAt known) (highestOf (sets (getD readers (getD (reads .reader) i 0 - 1) noReader .named)) reply (known .m)))
+-- the bytes of read i's answer: its reader chooses of what it has noted; values have w bits
+abbrev pub chosenBytes : ℕ → List Reader → Reads → Known → ℕ → ℕ → List ℕ
+chosenBytes w readers reads known reply i =
+    answerBytes w (readAt reads i) (answerBy (pairAt w known) (highestOf (sets (getD readers (getD (reads .reader) i 0 - 1) noReader .named)) reply (known .m)))
 
--- the buffer with the answer i at its own five bytes
-abbrev pub placedAt : ℕ → List ℕ → List ℕ → List ℕ
-placedAt i bytes b = take (answerSize 16 * i) b ++ (bytes ++ drop (answerSize 16) (drop (answerSize 16 * i) b))
+-- the buffer with the answer i at its own bytes
+abbrev pub placedAt : ℕ → ℕ → List ℕ → List ℕ → List ℕ
+placedAt w i bytes b = take (answerSize w * i) b ++ (bytes ++ drop (answerSize w) (drop (answerSize w * i) b))
 
 -- with the answers from k on, n of them
-unfoldable pub placed : (ℕ → List ℕ) → ℕ → ℕ → List ℕ → List ℕ
-placed f k zero b = b
-placed f k (suc n) b = placedAt (k + n) (f (k + n)) (placed f k n b)
+unfoldable pub placed : ℕ → (ℕ → List ℕ) → ℕ → ℕ → List ℕ → List ℕ
+placed w f k zero b = b
+placed w f k (suc n) b = placedAt w (k + n) (f (k + n)) (placed w f k n b)
 
 -- ---- begins
 
@@ -75,7 +75,8 @@ pub record Begun (r : Script) (p : Reading) : Type 0 where
   pub table : There (r .reads .reader) 0 (r .reads .m)
   pub parties : (i : ℕ) → i < r .reads .m → r .rules .n + getD (r .reads .reader) i 0 < r .links .parties
   pub pairs : r .writes .known .m ≤ places
-  pub narrow : Narrow (r .writes .known)
+  pub width : widthIn r ≤ mostWidth
+  pub narrow : Narrow (widthIn r) (r .writes .known)
   pub begun : p .begun ≤ r .reads .m
   pub answered : p .answered ≤ r .reads .m
 
@@ -83,7 +84,7 @@ pub record Begun (r : Script) (p : Reading) : Type 0 where
 pub record WentOn (plan : List ℕ) (r : Script) (t : ℕ) (p q : Reading) (answers₀ answers₁ work₀ work₁ : List ℕ) : Type 0 where
   pub ended : Until (r .reads .begun) (r .reads .m) (p .answered) (t + 1 - 2 * r .rules .delta) (q .answered)
   pub began : Until (r .reads .begun) (r .reads .m) (p .begun) (t + 1) (q .begun)
-  pub answers : answers₁ ≡ placed (chosenBytes (p .readers) (r .reads) (r .writes .known) (r .rules .reply)) (p .answered) (q .answered - p .answered) answers₀
+  pub answers : answers₁ ≡ placed (widthIn r) (chosenBytes (widthIn r) (p .readers) (r .reads) (r .writes .known) (r .rules .reply)) (p .answered) (q .answered - p .answered) answers₀
   pub readers : q .readers ≡ begunBy (r .reads .reader) (t + 2 * r .rules .delta) (p .begun) (q .begun - p .begun) (p .readers)
   pub ends : q .ends ≡ endsOf (q .readers)
   pub asked : Asked work₀ work₁ (askedBetween plan (r .links) (r .rules .n) t (r .reads .reader) (p .begun) (q .begun))

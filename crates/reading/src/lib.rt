@@ -11,12 +11,13 @@ ghost use Rattle.cluster.specs.Tick.{endsOf};
 ghost use Rattle.answers.specs.Answers.{answerSize, answerBytes};
 ghost use Rattle.answers.specs.Choosing.{highestOf, answerBy};
 ghost use Rattle.serving.specs.Links.{Linked};
+ghost use Rattle.plan.specs.Form.{mostWidth};
 ghost use Rattle.requests.specs.Requests.{requestsEnd};
+ghost use Rattle.script.specs.Script.{widthIn};
 ghost use Rattle.reading.specs.Reading.{Until, There, chosenBytes, placed, begunBy, isBefore, Begun, WentOn};
 use calendar::READERS;
 use cluster::Known;
 use cluster::Reader;
-use plan::header::Shape;
 use script::Script;
 use script::operations::TABLE_READS;
 
@@ -64,18 +65,28 @@ pub fn first_from(begun: &[u8; TABLE_READS], m: usize, k: usize, u: usize) -> us
 }
 
 // Writes the answer of a read at the start of its part of the answer buffer: its reader chooses of what it has noted.
-fn answer(out: &mut [u8], names: serving::Voters, known: Known, reply: u32, begun: u8, reader: u8)
-    requires { ⌜ (answerSize 16 ≤ length (now out)) × (known .m ≤ places) × Narrow known ⌝ }
-    ensures { λ _. ⌜ now (out .exit) ≡ answerBytes 16 (record { begun = begun; reader = reader }) (answerBy (pairAt known) (highestOf (sets names) reply (known .m))) ++ drop (answerSize 16) (now (out .entry)) ⌝ }
+fn answer(
+    out: &mut [u8],
+    width: u8,
+    names: serving::Voters,
+    known: Known,
+    reply: u32,
+    begun: u8,
+    reader: u8,
+)
+    requires { ⌜ (answerSize width ≤ length (now out)) × (width ≤ mostWidth) × (known .m ≤ places) × Narrow width known ⌝ }
+    ensures { λ _. ⌜ now (out .exit) ≡ answerBytes width (record { begun = begun; reader = reader })
+        (answerBy (pairAt width known) (highestOf (sets names) reply (known .m))) ++ drop (answerSize width) (now (out .entry)) ⌝ }
 {
     let choice = answers::choose::chosen(names, known.m, reply);
     if !choice.found {
-        answers::write(out, begun, reader, 0, 0, 0);
+        answers::write(out, width, begun, reader, 0, 0, 0);
         return;
     }
     let number = choice.number as usize;
     answers::write(
         out,
+        width,
         begun,
         reader,
         known.values[number],
@@ -84,7 +95,7 @@ fn answer(out: &mut [u8], names: serving::Voters, known: Known, reply: u32, begu
     );
 }
 
-// Writes the answers of the reads from .. to - 1, each at its own five bytes.
+// Writes the answers of the reads from .. to - 1, each at its own bytes.
 pub fn end_all(
     answers: &mut [u8],
     readers: [Reader; READERS],
@@ -92,13 +103,16 @@ pub fn end_all(
     from: usize,
     to: usize,
 )
-    requires { ⌜ There (script .reads .reader) from to × (script .writes .known .m ≤ places) × Narrow (script .writes .known) × (answerSize 16 * to ≤ length (now answers)) ⌝ }
-    ensures { λ _. ⌜ now (answers .exit) ≡ placed (chosenBytes readers (script .reads) (script .writes .known) (script .rules .reply)) from (to - from) (now (answers .entry)) ⌝ }
+    requires { ⌜ There (script .reads .reader) from to × (script .writes .known .m ≤ places) × (widthIn script ≤ mostWidth) × Narrow (widthIn script) (script .writes .known)
+        × (answerSize (widthIn script) * to ≤ length (now answers)) ⌝ }
+    ensures { λ _. ⌜ now (answers .exit) ≡ placed (widthIn script) (chosenBytes (widthIn script) readers (script .reads) (script .writes .known) (script .rules .reply)) from (to - from) (now (answers .entry)) ⌝ }
 {
     let reads = script.reads;
     let writes = script.writes;
     let known = writes.known;
     let reply = script.rules.reply;
+    let width = script.shape.width;
+    let size = answers::size(width);
     let mut i = from;
     while i < to {
         let reader = reads.reader[i];
@@ -106,7 +120,8 @@ pub fn end_all(
         let r = readers[size_of(reader) - 1];
         let names = r.named;
         answer(
-            &mut answers[Shape::ANSWER_BYTES * i..],
+            &mut answers[size * i..],
+            width,
             names,
             known,
             reply,
@@ -190,7 +205,7 @@ pub fn go_on(
     script: Script,
     t: u8,
 ) -> Reading
-    requires { ⌜ Begun script r × Linked (now plan) (script .links) (script .rules .n) (t + 1) × (script .rules .delta ≤ 15) × (answerSize 16 * script .reads .m ≤ length (now answers)) × (requestsEnd ≤ length (now work)) ⌝ }
+    requires { ⌜ Begun script r × Linked (now plan) (script .links) (script .rules .n) (t + 1) × (script .rules .delta ≤ 15) × (answerSize (widthIn script) * script .reads .m ≤ length (now answers)) × (requestsEnd ≤ length (now work)) ⌝ }
     ensures { λ q. ⌜ WentOn (now (plan .entry)) script t r q (now (answers .entry)) (now (answers .exit)) (now (work .entry)) (now (work .exit)) ⌝ }
 {
     let rules = script.rules;

@@ -19,62 +19,63 @@ use Rattle.script.specs.Script.{LinksOf, messageOf, messageDelay, Entere
 use Rattle.script.proofs as script-laws
 use Rattle.script.proofs.Messages.{sent-below, sender-below, on-link, message-reach}
 
-pub shape-ranged : (s : List ℕ) → plan-specs.Playable.Playable 16 s → (x : plan-specs.declared.header.Shape.Shape) → plan-specs.Shape.shape x ≡ headerOf 16 s
+pub shape-ranged : (w : ℕ) (s : List ℕ) → plan-specs.Playable.Playable w s → (x : plan-specs.declared.header.Shape.Shape) → plan-specs.Shape.shape x ≡ headerOf w s
     → plan-specs.Shape.Ranged (plan-specs.Shape.shape x)
-shape-ranged s c x e = rw e (in-range 16 s c)
+shape-ranged w s c x e = rw e (in-range w s c)
 
-module _ (s : List ℕ) (A : plan-specs.Playable.Playable 16 s) (x : plan-specs.declared.header.Shape.Shape) (same : plan-specs.Shape.shape x ≡ headerOf 16 s) (at : ℕ)
-    (starts-at : at ≡ operationAt 16 (plan-specs.Shape.shape x) (x .operations)) where
+module _ (w : ℕ) (s : List ℕ) (A : plan-specs.Playable.Playable w s) (x : plan-specs.declared.header.Shape.Shape) (same : plan-specs.Shape.shape x ≡ headerOf w s) (at : ℕ)
+    (starts-at : at ≡ operationAt w (plan-specs.Shape.shape x) (x .operations)) where
   abbrev part : List ℕ
   part = take (length s - at / 8) (drop (at / 8) s)
 
-  first-bit : at ≡ operationAt 16 (headerOf 16 s) (headerOf 16 s .operations)
-  first-bit = starts-at ∙ ap (λ (h : Header). operationAt 16 h (h .operations)) same
+  first-bit : at ≡ operationAt w (headerOf w s) (headerOf w s .operations)
+  first-bit = starts-at ∙ ap (λ (h : Header). operationAt w h (h .operations)) same
 
-  counted : x .forgeries ≡ headerOf 16 s .forgeries
+  counted : x .forgeries ≡ headerOf w s .forgeries
   counted = ap (λ (h : Header). h .forgeries) same
 
   pub part-starts : at / 8 ≤ length s
-  part-starts = omega (arith, first-bit, script-laws.Placing.bits-inside s A)
+  part-starts = omega (arith, first-bit, script-laws.Placing.bits-inside w s A)
 
   part-whole : part ≡ drop (at / 8) s
   part-whole = part-from (at / 8) s
 
   -- the part has the messages, from the byte that holds its first bit on, at an offset under eight
-  message : (e : ℕ) → forgedAt part (at % 8) e ≡ messageOf s e
+  message : (e : ℕ) → forgedAt w part (at % 8) e ≡ messageOf w s e
   unfolding plan-specs.Parts.forgeryOf
   message e =
       let z : 8 * (at / 8) + at % 8 ≡ at = omega arith in
-      let bits : forgedAt (drop (at / 8) s) (at % 8) e ≡ forgedAt s at e = simp (field-part, ← add-assoc, z) in
+      let bits : forgedAt w (drop (at / 8) s) (at % 8) e ≡ forgedAt w s at e = simp (field-part, ← add-assoc, z) in
       rw (part-whole, bits, first-bit)
 
-  module _ (links : serving-specs.declared.Links.Links) (linked : LinksOf (plan-specs.Shape.shape x) links) where
-    L : LinksOf (headerOf 16 s) links
+  module _ (links : serving-specs.declared.Links.Links) (linked : LinksOf w (plan-specs.Shape.shape x) links) where
+    L : LinksOf w (headerOf w s) links
     L = rw same at linked
 
-    pub fillable : (work : List ℕ) (m : ℕ) → entriesEnd ≤ length work → m ≤ places → Fillable work part (at % 8) (x .forgeries) s links (x .n) m
-    fillable work m room pairs = record {
+    pub fillable : w ≤ plan-specs.Form.mostWidth → (work : List ℕ) (m : ℕ) → entriesEnd ≤ length work → m ≤ places → Fillable w work part (at % 8) (x .forgeries) s links (x .n) m
+    fillable narrow work m room pairs = record {
+      narrow = narrow;
       room = room;
       start = omega arith;
-      few = omega (arith, counted, in-range 16 s A .forgeries-hi);
-      inside = rw (part-whole, length-drop) (omega (arith, first-bit, counted, script-laws.Placing.bits-inside s A, part-starts));
+      few = omega (arith, counted, in-range w s A .forgeries-hi);
+      inside = rw (part-whole, length-drop, counted) (omega (arith, first-bit, counted, script-laws.Placing.bits-inside w s A, part-starts));
       pairs = pairs;
       reach = λ e l. rw (ap (λ (h : Header). h .n) same)
-          (subst (λ (g : Forgery). serving-specs.Links.Reach s links (headerOf 16 s .n) (g .at) (g .from) (g .to)) (sym (message e)) (message-reach s A e (omega (arith, counted)) links L));
+          (subst (λ (g : Forgery). serving-specs.Links.Reach s links (headerOf w s .n) (g .at) (g .from) (g .to)) (sym (message e)) (message-reach w s A e (omega (arith, counted)) narrow links L));
     }
 
-    delay-same : (e : ℕ) → e < headerOf 16 s .forgeries → delayOf s links (forgedAt part (at % 8) e) ≡ messageDelay s e
+    delay-same : (e : ℕ) → e < headerOf w s .forgeries → delayOf s links (forgedAt w part (at % 8) e) ≡ messageDelay w s e
     delay-same e h =
         ap (delayOf s links) (message e)
-        ∙ script-laws.Placing.link-delay s A links L (messageOf s e .at) (messageOf s e .from) (messageOf s e .to)
-        (sent-below s A e h) (omega (arith, sender-below s A e h)) (on-link s A e h .0) (on-link s A e h .1)
+        ∙ script-laws.Placing.link-delay w s A links L (messageOf w s e .at) (messageOf w s e .from) (messageOf w s e .to)
+        (sent-below w s A e h) (omega (arith, sender-below w s A e h)) (on-link w s A e h .0) (on-link w s A e h .1)
 
     pub forged : (before after values : List ℕ) (m : ℕ) (starts : List ℕ)
-        → Filled before after (x .forgeries) (forgedAt part (at % 8)) (λ e. delayOf s links (forgedAt part (at % 8) e)) (λ e. knownNumber values m (forgedAt part (at % 8) e))
-        → Starts after (x .forgeries) starts → Entered s before after values m starts
+        → Filled before after (x .forgeries) (forgedAt w part (at % 8)) (λ e. delayOf s links (forgedAt w part (at % 8) e)) (λ e. knownNumber w values m (forgedAt w part (at % 8) e))
+        → Starts after (x .forgeries) starts → Entered w s before after values m starts
     forged before after values m starts W S =
         let X = rw counted at W in
         record {
-          filled = record { size = X .size; entry = λ e l. rw (ap (knownNumber values m) (message e), delay-same e l, message e) at (X .entry e l); other = X .other };
+          filled = record { size = X .size; entry = λ e l. rw (ap (knownNumber w values m) (message e), delay-same e l, message e) at (X .entry e l); other = X .other };
           started = rw counted at S;
         }

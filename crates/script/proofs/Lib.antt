@@ -1,4 +1,5 @@
 pub mod Tables
+pub mod Records
 pub mod Storing
 pub mod Entries
 pub mod Placing

@@ -3,9 +3,9 @@
 use mathlib.Core.Path.{_≡_, refl, _∙_}
 use mathlib.Core.Bool.{Bool, _&&_}
 use mathlib.Core.List.{List}
-use Prim.Native.Nat.{ℕ, _≤_, _<_}
+use Prim.Native.Nat.{ℕ, _^_, _≤_, _<_}
 use native.Mathlib.Omega.{arith}
-use lib.Dec.{T, eqb, ltb, eqb→eq, eqb-refl}
+use lib.Dec.{eqb, ltb, eqb→eq, eqb-refl}
 use lib.ListN.{getD}
 use borrow.Author.Tests.{lt-ltb, eq-eqb}
 use Rattle.register.specs.Lists.{tab, any, anyUpTo}
@@ -33,24 +33,24 @@ any-tab n G F = T-iff _ _
     register-laws.Lists.in-any F (G e) (tab n G) (tab-in n G e l) t)
 
 -- a pair is known by its number
-module _ (values : List ℕ) (m : ℕ) (few : m ≤ 65) (small : (j : ℕ) → getD values j 0 < 65536) where
-  known-number : (p j : ℕ) → j < m → eqb p (stamped 16 (getD values j 0) j) ≡ eqb j (numberIn values m (valueOf 16 p) (numberOf 16 p))
+module _ (w : ℕ) (values : List ℕ) (m : ℕ) (few : m ≤ 65) (small : (j : ℕ) → getD values j 0 < 2 ^ w) where
+  known-number : (p j : ℕ) → j < m → eqb p (stamped w (getD values j 0) j) ≡ eqb j (numberIn values m (valueOf w p) (numberOf w p))
   unfolding numberIn
   known-number p j l = T-iff _ _
       (λ y.
-      let e : p ≡ stamped 16 (getD values j 0) j = eqb→eq p (stamped 16 (getD values j 0) j) y in
-      let v : valueOf 16 p ≡ getD values j 0 = rw e (value-stamped 16 (getD values j 0) j (small j)) in
-      let n : numberOf 16 p ≡ j = rw e (number-stamped 16 (getD values j 0) j (small j)) in
+      let e : p ≡ stamped w (getD values j 0) j = eqb→eq p (stamped w (getD values j 0) j) y in
+      let v : valueOf w p ≡ getD values j 0 = rw e (value-stamped w (getD values j 0) j (small j)) in
+      let n : numberOf w p ≡ j = rw e (number-stamped w (getD values j 0) j (small j)) in
       rw (v, n, lt-ltb j m l, eq-eqb (getD values j 0) (getD values j 0) refl) (eqb-refl j))
       (λ y.
-      let test : Bool = ltb (numberOf 16 p) m && eqb (getD values (numberOf 16 p) 0) (valueOf 16 p) in
-      let (e, c) = taken j (numberOf 16 p) test (omega arith) y in
-      let v : getD values (numberOf 16 p) 0 ≡ valueOf 16 p = eqb→eq (getD values (numberOf 16 p) 0) (valueOf 16 p) (and-r (ltb (numberOf 16 p) m) _ c) in
-      rw (e, v, stamped-back 16 p) (eqb-refl p))
+      let test : Bool = ltb (numberOf w p) m && eqb (getD values (numberOf w p) 0) (valueOf w p) in
+      let (e, c) = taken j (numberOf w p) test (omega arith) y in
+      let v : getD values (numberOf w p) 0 ≡ valueOf w p = eqb→eq (getD values (numberOf w p) 0) (valueOf w p) (and-r (ltb (numberOf w p) m) _ c) in
+      rw (e, v, stamped-back w p) (eqb-refl p))
 
 -- the entries of a plan's forged messages
-module _ (s : List ℕ) (known : cluster-specs.declared.Known.Known) (few : known .m ≤ 65) (small : (j : ℕ) → getD (known .values) j 0 < 65536) (work : List ℕ)
-    (E : (e : ℕ) → e < headerOf 16 s .forgeries → Entry work e (messageOf s e) (messageDelay s e) (messageNumber s (known .values) (known .m) e)) where
+module _ (w : ℕ) (s : List ℕ) (known : cluster-specs.declared.Known.Known) (few : known .m ≤ 65) (small : (j : ℕ) → getD (known .values) j 0 < 2 ^ w) (work : List ℕ)
+    (E : (e : ℕ) → e < headerOf w s .forgeries → Entry work e (messageOf w s e) (messageDelay w s e) (messageNumber w s (known .values) (known .m) e)) where
   -- entry e was sent in tick t, goes to party q, arrives in tick u, names pair j and comes from server i
   abbrev pub entryAs : ℕ → ℕ → ℕ → ℕ → ℕ → ℕ → Bool
   entryAs t u q j i e =
@@ -58,9 +58,9 @@ module _ (s : List ℕ) (known : cluster-specs.declared.Known.Known) (few : know
 
   module _ (t u q j i : ℕ) (known-pair : j < known .m) where
     abbrev says : Forgery → Bool
-    says x = eqb (x .at) t && forgedAs (planOf 16 s) u q (cluster-specs.Inputs.pairAt known j) i x
+    says x = eqb (x .at) t && forgedAs (planOf w s) u q (cluster-specs.Inputs.pairAt w known j) i x
 
-    says-entry : (e : ℕ) → e < headerOf 16 s .forgeries → says (messageOf s e) ≡ entryAs t u q j i e
+    says-entry : (e : ℕ) → e < headerOf w s .forgeries → says (messageOf w s e) ≡ entryAs t u q j i e
     says-entry e l =
         rw (
           E e l .sent,
@@ -68,10 +68,10 @@ module _ (s : List ℕ) (known : cluster-specs.declared.Known.Known) (few : know
           E e l .receiver,
           E e l .sender,
           E e l .known,
-          eqb-comm (messageOf s e .from) i,
-          known-number (known .values) (known .m) few small (messageOf s e .pair) j known-pair,
+          eqb-comm (messageOf w s e .from) i,
+          known-number w (known .values) (known .m) few small (messageOf w s e .pair) j known-pair,
         )
 
-    pub messages-named : any says (planOf 16 s .forged) ≡ anyUpTo (headerOf 16 s .forgeries) (entryAs t u q j i)
+    pub messages-named : any says (planOf w s .forged) ≡ anyUpTo (headerOf w s .forgeries) (entryAs t u q j i)
     unfolding planOf
-    messages-named = any-tab _ (messageOf s) says ∙ register-laws.Counting.any-cong _ _ (entryAs t u q j i) says-entry
+    messages-named = any-tab _ (messageOf w s) says ∙ register-laws.Counting.any-cong _ _ (entryAs t u q j i) says-entry

@@ -25,46 +25,46 @@ pub other-link : (n i b : ℕ) → i < n → (b ≡ i → ⊥) → (b ≡ n → 
 unfolding plan-specs.Parts.isLink
 other-link n i b l d e = rw (lt-ltb i n l, ne-eqb i b (λ z. d (sym z)), ne-eqb b n e) tt
 
-module _ (s : List ℕ) (A : plan-specs.Playable.Playable 16 s) where
+module _ (w : ℕ) (s : List ℕ) (A : plan-specs.Playable.Playable w s) where
   -- all the plan's bits are there
-  pub bits-inside : bitLength 16 (headerOf 16 s) ≤ 8 * length s
-  bits-inside = omega (arith, plan-laws.Accept.exact 16 s A)
+  pub bits-inside : bitLength w (headerOf w s) ≤ 8 * length s
+  bits-inside = omega (arith, plan-laws.Accept.exact w s A)
 
-  pub few-moves : moves (headerOf 16 s) ≤ 128
+  pub few-moves : moves (headerOf w s) ≤ 128
   unfolding moves
   few-moves =
-      let H = plan-laws.Accept.in-range 16 s A in
-      omega (arith, plan-laws.Laws.moves-few (headerOf 16 s .ticks) (headerOf 16 s .period) (omega (arith, H .delta-lo, H .period-lo)), H .ticks-hi)
+      let H = plan-laws.Accept.in-range w s A in
+      omega (arith, plan-laws.Laws.moves-few (headerOf w s .ticks) (headerOf w s .period) (omega (arith, H .delta-lo, H .period-lo)), H .ticks-hi)
 
   -- the placement of a movement below H
-  pub placement-inside : (t : ℕ) → t < headerOf 16 s .ticks → placementAt 16 (t / headerOf 16 s .period) + placementBits ≤ 8 * length s
+  pub placement-inside : (t : ℕ) → t < headerOf w s .ticks → placementAt w (t / headerOf w s .period) + placementBits ≤ 8 * length s
   unfolding moves
   placement-inside t l =
-      let p = headerOf 16 s .period in
-      let H = plan-laws.Accept.in-range 16 s A in
+      let p = headerOf w s .period in
+      let H = plan-laws.Accept.in-range w s A in
       let some : 0 < p = omega (arith, H .delta-lo, H .period-lo) in
-      let below : t / p < moves (headerOf 16 s) = le-div-iff-mul-le {x = suc (t / p)} {y = headerOf 16 s .ticks + (p - 1)} some .1 (omega (arith, div-mul-le-self t p)) in
+      let below : t / p < moves (headerOf w s) = le-div-iff-mul-le {x = suc (t / p)} {y = headerOf w s .ticks + (p - 1)} some .1 (omega (arith, div-mul-le-self t p)) in
       omega (arith, bits-inside)
 
   -- server b of it, as its bit from the top
-  pub placed-bit : (t b : ℕ) → t < headerOf 16 s .ticks → b < headerOf 16 s .n
-      → bit (15 - b) (fieldOf s (placementAt 16 (t / headerOf 16 s .period)) placementBits) ≡ planOf 16 s .placed (t / headerOf 16 s .period) b
+  pub placed-bit : (t b : ℕ) → t < headerOf w s .ticks → b < headerOf w s .n
+      → bit (15 - b) (fieldOf s (placementAt w (t / headerOf w s .period)) placementBits) ≡ planOf w s .placed (t / headerOf w s .period) b
   unfolding planOf plan-specs.Parts.inPlacement
   placed-bit t b below l =
-      let p = headerOf 16 s .period in
-      let h : t / p * p < headerOf 16 s .ticks = omega (arith, div-mul-le-self t p) in
-      let w : b + 1 + (15 - b) ≡ 16 = omega (arith, plan-laws.Accept.in-range 16 s A .n-hi) in
-      rw (lt-ltb (t / p * p) (headerOf 16 s .ticks) h, lt-ltb b (headerOf 16 s .n) l, rw w at (field-inner s (placementAt 16 (t / p)) b 1 (15 - b)))
-      (sym (bit-test (15 - b) (fieldOf s (placementAt 16 (t / p)) placementBits)))
+      let p = headerOf w s .period in
+      let h : t / p * p < headerOf w s .ticks = omega (arith, div-mul-le-self t p) in
+      let z : b + 1 + (15 - b) ≡ 16 = omega (arith, plan-laws.Accept.in-range w s A .n-hi) in
+      rw (lt-ltb (t / p * p) (headerOf w s .ticks) h, lt-ltb b (headerOf w s .n) l, rw z at (field-inner s (placementAt w (t / p)) b 1 (15 - b)))
+      (sym (bit-test (15 - b) (fieldOf s (placementAt w (t / p)) placementBits)))
 
-  module _ (links : serving-specs.declared.Links.Links) (L : script-specs.Script.LinksOf (headerOf 16 s) links) where
+  module _ (links : serving-specs.declared.Links.Links) (L : script-specs.Script.LinksOf w (headerOf w s) links) where
     -- the delays of all ticks below t
-    pub table : (t : ℕ) → t ≤ headerOf 16 s .ticks → serving-specs.Links.Linked s links (headerOf 16 s .n) t
-    table t l =
-        let H = plan-laws.Accept.in-range 16 s A in
-        let p = parties (headerOf 16 s) in
+    pub table : w ≤ plan-specs.Form.mostWidth → (t : ℕ) → t ≤ headerOf w s .ticks → serving-specs.Links.Linked s links (headerOf w s .n) t
+    table narrow t l =
+        let H = plan-laws.Accept.in-range w s A in
+        let p = parties (headerOf w s) in
         record {
-          start = omega (arith, L .at, few-moves, H .operations-hi, H .forgeries-hi);
+          start = omega (arith, L .at, plan-laws.Sizes.playable-sizes w s narrow A .bits-hi);
           ticks = omega (arith, H .ticks-hi);
           servers = H .n-hi;
           writer = omega (arith, L .parties);
@@ -73,20 +73,20 @@ module _ (s : List ℕ) (A : plan-specs.Playable.Playable 16 s) where
         }
 
     -- a link's delay is the plan's
-    pub link-delay : (u i b : ℕ) → u < headerOf 16 s .ticks → i < parties (headerOf 16 s) → b < parties (headerOf 16 s)
-        → T (plan-specs.Parts.isLink (headerOf 16 s .n) i b) → serving-specs.Links.delayAt s links u i b ≡ planOf 16 s .delay u i b
+    pub link-delay : (u i b : ℕ) → u < headerOf w s .ticks → i < parties (headerOf w s) → b < parties (headerOf w s)
+        → T (plan-specs.Parts.isLink (headerOf w s .n) i b) → serving-specs.Links.delayAt s links u i b ≡ planOf w s .delay u i b
     unfolding serving-specs.Links.linkBit planOf plan-specs.Parts.delayOf
     link-delay u i b lu li lb t =
         rw (
           L .at,
           L .parties,
-          lt-ltb u (headerOf 16 s .ticks) lu,
-          lt-ltb i (parties (headerOf 16 s)) li,
-          lt-ltb b (parties (headerOf 16 s)) lb,
-          T-eq (plan-specs.Parts.isLink (headerOf 16 s .n) i b) t,
+          lt-ltb u (headerOf w s .ticks) lu,
+          lt-ltb i (parties (headerOf w s)) li,
+          lt-ltb b (parties (headerOf w s)) lb,
+          T-eq (plan-specs.Parts.isLink (headerOf w s .n) i b) t,
         )
 
     -- so is that from a server to another one or to a reader
-    pub server-delay : (u i b : ℕ) → u < headerOf 16 s .ticks → i < headerOf 16 s .n → b < parties (headerOf 16 s) → (b ≡ i → ⊥) → (b ≡ headerOf 16 s .n → ⊥)
-        → serving-specs.Links.delayAt s links u i b ≡ planOf 16 s .delay u i b
-    server-delay u i b lu li lb d w = link-delay u i b lu (omega arith) lb (other-link (headerOf 16 s .n) i b li d w)
+    pub server-delay : (u i b : ℕ) → u < headerOf w s .ticks → i < headerOf w s .n → b < parties (headerOf w s) → (b ≡ i → ⊥) → (b ≡ headerOf w s .n → ⊥)
+        → serving-specs.Links.delayAt s links u i b ≡ planOf w s .delay u i b
+    server-delay u i b lu li lb d e = link-delay u i b lu (omega arith) lb (other-link (headerOf w s .n) i b li d e)

@@ -2,11 +2,12 @@
 -- It stands on Placing.
 use mathlib.Core.Path.{_≡_, ap, _∙_}
 use mathlib.Core.List.{List}
-use Prim.Native.Nat.{ℕ, _^_, _<_}
+use Prim.Native.Nat.{ℕ, _^_, _≤_, _<_}
 use native.Mathlib.Omega.{arith}
 use Rattle.bits.proofs.Laws.{field-lt}
 use Rattle.register.specs.Lists.{tab}
 use Rattle.plan.specs.declared.header.Shape.{Shape}
+use Rattle.plan.specs.Form.{mostWidth}
 use Rattle.plan.specs.Header.{Header, headerOf, placementAt, moves}
 use Rattle.plan.specs.Parts.{operationOf, operationsOf, writesFrom, readsFrom}
 use Rattle.plan.specs.Packed.{planOf}
@@ -16,30 +17,31 @@ use Rattle.plan.proofs as plan-laws
 use Rattle.script.specs.Operations.{opAt, Room}
 use Rattle.script.proofs.Placing.{bits-inside, few-moves}
 
--- the initial value of a header has 16 bits
-pub initial-narrow : (s : List ℕ) (x : Shape) → shape x ≡ headerOf 16 s → x .initial < 2 ^ 16
+-- the initial value of a header has w bits
+pub initial-narrow : (w : ℕ) (s : List ℕ) (x : Shape) → shape x ≡ headerOf w s → x .initial < 2 ^ w
 unfolding headerOf
-initial-narrow s x e = rw (ap (λ (h : Header). h .initial) e) (field-lt s 28 16)
+initial-narrow w s x e = rw (ap (λ (h : Header). h .initial) e) (field-lt s 28 w)
 
-module _ (s : List ℕ) (A : Playable 16 s) (x : Shape) (same : shape x ≡ headerOf 16 s) (at : ℕ) (starts-at : at ≡ placementAt 16 (moves (shape x))) where
-  first-bit : at ≡ placementAt 16 (moves (headerOf 16 s))
-  first-bit = starts-at ∙ ap (λ (h : Header). placementAt 16 (moves h)) same
+module _ (w : ℕ) (s : List ℕ) (A : Playable w s) (x : Shape) (same : shape x ≡ headerOf w s) (at : ℕ) (starts-at : at ≡ placementAt w (moves (shape x))) where
+  first-bit : at ≡ placementAt w (moves (headerOf w s))
+  first-bit = starts-at ∙ ap (λ (h : Header). placementAt w (moves h)) same
 
-  counted : x .operations ≡ headerOf 16 s .operations
+  counted : x .operations ≡ headerOf w s .operations
   counted = ap (λ (h : Header). h .operations) same
 
-  pub writes-same : writesFrom 16 1 (tab (x .operations) (opAt s at)) ≡ planOf 16 s .writes
+  pub writes-same : writesFrom w 1 (tab (x .operations) (opAt w s at)) ≡ planOf w s .writes
   unfolding planOf operationsOf operationOf
   writes-same = rw (first-bit, counted)
 
-  pub reads-same : readsFrom (tab (x .operations) (opAt s at)) ≡ planOf 16 s .reads
+  pub reads-same : readsFrom (tab (x .operations) (opAt w s at)) ≡ planOf w s .reads
   unfolding planOf operationsOf operationOf
   reads-same = rw (first-bit, counted)
 
-  pub operations-room : Room s at (x .operations)
-  operations-room = record {
-    inside = omega (arith, first-bit, counted, bits-inside s A);
-    start = omega (arith, first-bit, few-moves s A);
-    few = omega (arith, counted, plan-laws.Accept.in-range 16 s A .operations-hi);
-    writes = rw writes-same (plan-laws.AcceptWrites.few-writes 16 s A);
+  pub operations-room : w ≤ mostWidth → Room w s at (x .operations)
+  operations-room narrow = record {
+    narrow = narrow;
+    inside = rw counted (omega (arith, first-bit, bits-inside w s A));
+    start = omega (arith, first-bit, few-moves w s A);
+    few = omega (arith, counted, plan-laws.Accept.in-range w s A .operations-hi);
+    writes = rw writes-same (plan-laws.AcceptWrites.few-writes w s A);
   }

@@ -8,6 +8,7 @@ use Prim.Native.Nat.{ℕ, _+_, _*_, _≤_, _<_}
 use lib.Dec.{eqb, ltb}
 use lib.ListN.{length, getD, set}
 use Rattle.register.specs.Plan.{Forgery, valueOf, numberOf}
+use Rattle.plan.specs.Form.{mostWidth}
 use Rattle.plan.specs.Header.{forgeryBits}
 use Rattle.plan.specs.Parts.{forgeryIn}
 use Rattle.serving.specs.declared.Links.{Links}
@@ -29,9 +30,9 @@ entriesEnd = entriesAt + 8 * mostEntries
 abbrev pub entryAt : List ℕ → ℕ → ℕ → ℕ
 entryAt work e k = getD work (entriesAt + 8 * e + k) 0
 
--- forged message e of those from bit `at` on
-abbrev pub forgedAt : List ℕ → ℕ → ℕ → Forgery
-forgedAt s at e = forgeryIn 16 s (at + forgeryBits 16 * e)
+-- forged message e of those from bit `at` on, with values of w bits
+abbrev pub forgedAt : ℕ → List ℕ → ℕ → ℕ → Forgery
+forgedAt w s at e = forgeryIn w s (at + forgeryBits w * e)
 
 -- the number, if it is that of a known pair with this value; else 255
 unfoldable pub numberIn : List ℕ → ℕ → ℕ → ℕ → ℕ
@@ -41,21 +42,22 @@ numberIn values m value number = cond (ltb number m && eqb (getD values number 0
 abbrev pub delayOf : List ℕ → Links → Forgery → ℕ
 delayOf plan links g = delayAt plan links (g .at) (g .from) (g .to)
 
-abbrev pub knownNumber : List ℕ → ℕ → Forgery → ℕ
-knownNumber values m g = numberIn values m (valueOf 16 (g .pair)) (numberOf 16 (g .pair))
+abbrev pub knownNumber : ℕ → List ℕ → ℕ → Forgery → ℕ
+knownNumber w values m g = numberIn values m (valueOf w (g .pair)) (numberOf w (g .pair))
 
 -- five bytes from byte `at` on
 unfoldable pub entryBytes : List ℕ → ℕ → ℕ → ℕ → ℕ → ℕ → ℕ → List ℕ
 entryBytes work at a b c d e = set (set (set (set (set work at a) (at + 1) b) (at + 2) c) (at + 3) d) (at + 4) e
 
 -- so many forged messages stand there, their delays lie in the plan, and there is room for the entries
-pub record Fillable (work part : List ℕ) (offset count : ℕ) (plan : List ℕ) (links : Links) (n m : ℕ) : Type 0 where
+pub record Fillable (w : ℕ) (work part : List ℕ) (offset count : ℕ) (plan : List ℕ) (links : Links) (n m : ℕ) : Type 0 where
+  pub narrow : w ≤ mostWidth
   pub room : entriesEnd ≤ length work
   pub start : offset < 8
   pub few : count ≤ mostEntries
-  pub inside : offset + forgeryBits 16 * count ≤ 8 * length part
+  pub inside : offset + forgeryBits w * count ≤ 8 * length part
   pub pairs : m ≤ places
-  pub reach : (e : ℕ) → e < count → let g : Forgery = forgedAt part offset e in Reach plan links n (g .at) (g .from) (g .to)
+  pub reach : (e : ℕ) → e < count → let g : Forgery = forgedAt w part offset e in Reach plan links n (g .at) (g .from) (g .to)
 
 -- entry e is the forged message g, with this delay and number
 pub record Entry (work : List ℕ) (e : ℕ) (g : Forgery) (delay number : ℕ) : Type 0 where

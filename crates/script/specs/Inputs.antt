@@ -33,6 +33,6 @@ pub record Arrive (work : List ℕ) (number : ℕ) (ends : List ℕ) (t delta : 
   pub last : r .number ≡ number
   pub live : (λ x. bit x (r .live)) ≡ liveAt ends t delta
 
-pub record Moves (plan : List ℕ) (period t : ℕ) (r : Movement) : Type 0 where
+pub record Moves (w : ℕ) (plan : List ℕ) (period t : ℕ) (r : Movement) : Type 0 where
   pub moving : r .moving ≡ eqb (t % period) 0
-  pub faulty : r .moving ≡ true → r .faulty ≡ fieldOf plan (placementAt 16 (t / period)) placementBits
+  pub faulty : r .moving ≡ true → r .faulty ≡ fieldOf plan (placementAt w (t / period)) placementBits

@@ -2,6 +2,7 @@
 ghost use mathlib.Core.Path.{_≡_};
 ghost use Prim.Native.Nat.{_+_, _*_, _^_, _≤_, _<_};
 ghost use lib.ListN.{length};
+ghost use Rattle.plan.specs.Form.{mostWidth};
 ghost use Rattle.plan.specs.Header.{forgeryBits};
 ghost use Rattle.plan.specs.Parts.{forgeryIn};
 ghost use Rattle.plan.specs.Steps.{forgery};
@@ -23,11 +24,11 @@ pub const ENTRY: usize = 8;
 pub const STARTS: usize = 129;
 
 // The forged message that stands from bit `at` on.
-fn message_at(part: &[u8], at: usize) -> Forged
-    requires { ⌜ (at + forgeryBits 16 ≤ 8 * length (now part)) × (at < 2 ^ 50) ⌝ }
-    ensures { λ r. ⌜ (forgery r ≡ forgeryIn 16 (now (part .entry)) at) × (r .at < 128) × (r .value < 2 ^ 16) ⌝ }
+fn message_at(part: &[u8], at: usize, width: u8) -> Forged
+    requires { ⌜ (at + forgeryBits width ≤ 8 * length (now part)) × (at < 2 ^ 50) × (width ≤ mostWidth) ⌝ }
+    ensures { λ r. ⌜ (forgery width r ≡ forgeryIn width (now (part .entry)) at) × (r .at < 128) × (r .value < 2 ^ width) ⌝ }
 {
-    Forged::of(bits::field(part, at, Forged::BITS))
+    Forged::of(bits::field(part, at, Forged::bits(width)), width)
 }
 
 // The number, if it is that of a known pair with this value; else NO_PAIR.
@@ -69,6 +70,7 @@ pub fn fill(
     work: &mut [u8],
     part: &[u8],
     offset: usize,
+    width: u8,
     count: usize,
     plan: &[u8],
     links: Links,
@@ -76,14 +78,15 @@ pub fn fill(
     values: &[u32; PLACES],
     m: usize,
 )
-    requires { ⌜ Fillable (now work) (now part) offset count (now plan) links n m ⌝ }
-    ensures { λ _. ⌜ Filled (now (work .entry)) (now (work .exit)) count (forgedAt (now (part .entry)) offset)
-        (λ e. delayOf (now (plan .entry)) links (forgedAt (now (part .entry)) offset e))
-        (λ e. knownNumber (now (values .entry)) m (forgedAt (now (part .entry)) offset e)) ⌝ }
+    requires { ⌜ Fillable width (now work) (now part) offset count (now plan) links n m ⌝ }
+    ensures { λ _. ⌜ Filled (now (work .entry)) (now (work .exit)) count (forgedAt width (now (part .entry)) offset)
+        (λ e. delayOf (now (plan .entry)) links (forgedAt width (now (part .entry)) offset e))
+        (λ e. knownNumber width (now (values .entry)) m (forgedAt width (now (part .entry)) offset e)) ⌝ }
 {
+    let bits = Forged::bits(width);
     let mut e: usize = 0;
     while e < count {
-        let g = message_at(part, offset + Forged::BITS * e);
+        let g = message_at(part, offset + bits * e, width);
         let number = known_number(values, m, g.value, g.number);
         let delay = delays::delay(
             plan,

@@ -57,10 +57,11 @@ pub fn arrivals(work: &[u8], number: u8, ends: [u8; READERS], t: u8, delta: u8) 
 }
 
 // Is tick t a movement, and the placement that it brings.
-pub fn movement(plan: &[u8], period: u8, t: u8) -> Movement
-    requires { ⌜ (0 < period) × (placementAt 16 (t / period) + placementBits ≤ 8 * length (now plan)) ⌝ }
-    ensures { λ r. ⌜ Moves (now (plan .entry)) period t r ⌝ }
+pub fn movement(plan: &[u8], h: Shape, t: u8) -> Movement
+    requires { ⌜ (0 < h .period) × (placementAt (h .width) (t / h .period) + placementBits ≤ 8 * length (now plan)) ⌝ }
+    ensures { λ r. ⌜ Moves (h .width) (now (plan .entry)) (h .period) t r ⌝ }
 {
+    let period = h.period;
     if t % period != 0 {
         return Movement {
             moving: false,
@@ -71,7 +72,7 @@ pub fn movement(plan: &[u8], period: u8, t: u8) -> Movement
         moving: true,
         faulty: bits::field(
             plan,
-            Shape::placement_at((t / period) as usize),
+            h.placement_at((t / period) as usize),
             Shape::PLACEMENT_BITS,
         ) as u16,
     }

@@ -2,12 +2,13 @@
 ghost use mathlib.Core.Path.{_≡_};
 ghost use Prim.Native.Nat.{_≤_};
 ghost use lib.ListN.{length};
+ghost use Rattle.plan.specs.Form.{mostWidth};
 ghost use Rattle.plan.specs.Header.{headerOf};
 ghost use Rattle.plan.specs.Playable.{Playable};
 ghost use Rattle.plan.specs.Shape.{Ranged, shape};
 ghost use Rattle.calendar.specs.Layout.{places};
 ghost use Rattle.script.specs.Forged.{entriesEnd};
-ghost use Rattle.script.specs.Script.{RulesOf, LinksOf, Entered, Scripted};
+ghost use Rattle.script.specs.Script.{RulesOf, LinksOf, Entered, Scripted, widthIn};
 use forged::STARTS;
 use operations::Reads;
 use operations::Writes;
@@ -42,8 +43,8 @@ fn rules_of(header: Shape) -> Rules
 }
 
 fn links_of(header: Shape) -> Links
-    requires { ⌜ Ranged (shape header) ⌝ }
-    ensures { λ r. ⌜ LinksOf (shape header) r ⌝ }
+    requires { ⌜ Ranged (shape header) × (header .width ≤ mostWidth) ⌝ }
+    ensures { λ r. ⌜ LinksOf (header .width) (shape header) r ⌝ }
 {
     Links {
         at: header.delays_at(),
@@ -53,8 +54,9 @@ fn links_of(header: Shape) -> Links
 
 // The forged entries, into the workspace, and where those of each tick start. The forged part is read from the byte that holds its first bit.
 fn forge(plan: &[u8], work: &mut [u8], header: Shape, links: Links, writes: Writes) -> [u16; STARTS]
-    requires { ⌜ Playable 16 (now plan) × (shape header ≡ headerOf 16 (now plan)) × LinksOf (shape header) links × (entriesEnd ≤ length (now work)) × (writes .known .m ≤ places) ⌝ }
-    ensures { λ r. ⌜ Entered (now (plan .entry)) (now (work .entry)) (now (work .exit)) (writes .known .values) (writes .known .m) r ⌝ }
+    requires { ⌜ Playable (header .width) (now plan) × (header .width ≤ mostWidth) × (shape header ≡ headerOf (header .width) (now plan))
+        × LinksOf (header .width) (shape header) links × (entriesEnd ≤ length (now work)) × (writes .known .m ≤ places) ⌝ }
+    ensures { λ r. ⌜ Entered (header .width) (now (plan .entry)) (now (work .entry)) (now (work .exit)) (writes .known .values) (writes .known .m) r ⌝ }
 {
     let at = header.forgeries_at();
     let byte = at / 8;
@@ -65,6 +67,7 @@ fn forge(plan: &[u8], work: &mut [u8], header: Shape, links: Links, writes: Writ
         work,
         &plan[byte..],
         at % 8,
+        header.width,
         count,
         plan,
         links,
@@ -76,17 +79,17 @@ fn forge(plan: &[u8], work: &mut [u8], header: Shape, links: Links, writes: Writ
 }
 
 // Decodes a plan that can be played.
-pub fn read(plan: &[u8], work: &mut [u8]) -> Script
-    requires { ⌜ Playable 16 (now plan) × (entriesEnd ≤ length (now work)) ⌝ }
-    ensures { λ r. ⌜ Scripted (now (plan .entry)) (now (work .entry)) (now (work .exit)) r ⌝ }
+pub fn read(plan: &[u8], width: u8, work: &mut [u8]) -> Script
+    requires { ⌜ Playable width (now plan) × (width ≤ mostWidth) × (entriesEnd ≤ length (now work)) ⌝ }
+    ensures { λ r. ⌜ Scripted (now (plan .entry)) (now (work .entry)) (now (work .exit)) r × (widthIn r ≡ width) ⌝ }
 {
-    let header = Shape::read(plan);
+    let header = Shape::read(plan, width);
     let rules = rules_of(header);
     let links = links_of(header);
     let at = header.operations_at();
     let count = header.operations as usize;
-    let writes = operations::writes_of(plan, at, count, header.initial);
-    let reads = operations::reads_of(plan, at, count);
+    let writes = operations::writes_of(plan, at, width, count, header.initial);
+    let reads = operations::reads_of(plan, at, width, count);
     let starts = forge(plan, work, header, links, writes);
     Script {
         shape: header,

@@ -24,17 +24,18 @@ pub struct Reads {
 }
 
 // The writes among the operations that stand from bit `at` on.
-pub fn writes_of(plan: &[u8], at: usize, count: usize, initial: u32) -> Writes
-    requires { ⌜ Room (now plan) at count × (initial < 2 ^ 16) ⌝ }
-    ensures { λ r. ⌜ Written (writesFrom 16 1 (tab count (opAt (now (plan .entry)) at))) initial (r .known .values) (r .begun) (r .known .m) ⌝ }
+pub fn writes_of(plan: &[u8], at: usize, width: u8, count: usize, initial: u32) -> Writes
+    requires { ⌜ Room width (now plan) at count × (initial < 2 ^ width) ⌝ }
+    ensures { λ r. ⌜ Written width (writesFrom width 1 (tab count (opAt width (now (plan .entry)) at))) initial (r .known .values) (r .begun) (r .known .m) ⌝ }
 {
+    let bits = Operation::bits(width);
     let mut values = [0u32; PLACES];
     let mut begun = [0u8; PLACES];
     values[0] = initial;
     let mut m: usize = 1;
     let mut i: usize = 0;
     while i < count {
-        let o = Operation::read(plan, at + Operation::BITS * i);
+        let o = Operation::read(plan, at + bits * i, width);
         if o.party == 0 {
             values[m] = o.value;
             begun[m] = o.at;
@@ -53,16 +54,17 @@ pub fn writes_of(plan: &[u8], at: usize, count: usize, initial: u32) -> Writes
 }
 
 // The reads among the operations that stand from bit `at` on.
-pub fn reads_of(plan: &[u8], at: usize, count: usize) -> Reads
-    requires { ⌜ Room (now plan) at count ⌝ }
-    ensures { λ r. ⌜ ReadIn (readsFrom (tab count (opAt (now (plan .entry)) at))) (r .begun) (r .reader) (r .m) ⌝ }
+pub fn reads_of(plan: &[u8], at: usize, width: u8, count: usize) -> Reads
+    requires { ⌜ Room width (now plan) at count ⌝ }
+    ensures { λ r. ⌜ ReadIn (readsFrom (tab count (opAt width (now (plan .entry)) at))) (r .begun) (r .reader) (r .m) ⌝ }
 {
+    let bits = Operation::bits(width);
     let mut begun = [0u8; TABLE_READS];
     let mut reader = [0u8; TABLE_READS];
     let mut m: usize = 0;
     let mut i: usize = 0;
     while i < count {
-        let o = Operation::read(plan, at + Operation::BITS * i);
+        let o = Operation::read(plan, at + bits * i, width);
         if o.party != 0 {
             begun[m] = o.at;
             reader[m] = o.party;

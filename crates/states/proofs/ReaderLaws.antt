@@ -40,14 +40,11 @@ module _ (P : Plan) (m t : ℕ) where
 
 -- ---- one tick
 
-module _ (P : Plan) (G : Good P) (F : Fed) (fit : cluster-specs.Inputs.Fits P (F .t) (F .plan) (F .rules) (F .known) (F .links) (F .arrivals) (F .movement))
-    (K : cluster-specs.Inputs.Knows P (cluster-specs.Inputs.pairAt (F .known)) (F .known .m)) (c r : cluster-specs.declared.Cluster.Cluster) (work : List ℕ) (D : Ticked F c r work (P .n))
-    (S : State P (cluster-specs.Inputs.pairAt (F .known)) (F .known .m) (F .t) c (F .work)) where
+module _ (P : Plan) (G : Good P) (F : Fed) {g : ℕ → ℕ} (fit : cluster-specs.Inputs.Fits P g (F .t) (F .plan) (F .rules) (F .known) (F .links) (F .arrivals) (F .movement))
+    (K : cluster-specs.Inputs.Knows P g (F .known .m)) (c r : cluster-specs.declared.Cluster.Cluster) (work : List ℕ) (D : Ticked F c r work (P .n))
+    (S : State P g (F .known .m) (F .t) c (F .work)) where
   abbrev t : ℕ
   t = F .t
-
-  abbrev g : ℕ → ℕ
-  g = cluster-specs.Inputs.pairAt (F .known)
 
   abbrev m : ℕ
   m = F .known .m

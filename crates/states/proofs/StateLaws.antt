@@ -14,7 +14,7 @@ use Rattle.calendar.specs.{Layout.rows, Layout.places, Layout.rowOf, Layout.sen
 use Rattle.calendar.proofs.Spans.{empty-spanned}
 use Rattle.cluster.specs as cluster-specs
 use Rattle.serving.specs as serving-specs
-use Rattle.cluster.specs.Inputs.{pairAt, Knows, Fits}
+use Rattle.cluster.specs.Inputs.{Knows, Fits}
 use Rattle.cluster.specs.Tick.{Fed, Ticked, Started, noReader}
 use Rattle.states.specs as states-specs
 use Rattle.cluster.proofs.Settled.{first-settled, settled-next}
@@ -22,19 +22,19 @@ use Rattle.states.proofs.{WayLaws.none-any, VoteLaws.new-server, VoteLa
 use Rattle.states.proofs.ReaderLaws.{Begins, Forges, noted-end as reader-noted, hears-next, idle-now, way-next, none-next}
 
 -- the servers are settled, so that a tick may leave alone those that nothing reaches
-pub calm : (P : Plan) (F : Fed) → Fits P (F .t) (F .plan) (F .rules) (F .known) (F .links) (F .arrivals) (F .movement) → (c : cluster-specs.declared.Cluster.Cluster)
-    → states-specs.State.State P (pairAt (F .known)) (F .known .m) (F .t) c (F .work) → cluster-specs.Settled.Calm (F .rules) (F .known) (c .servers)
+pub calm : (P : Plan) (F : Fed) {g : ℕ → ℕ} → Fits P g (F .t) (F .plan) (F .rules) (F .known) (F .links) (F .arrivals) (F .movement) → (c : cluster-specs.declared.Cluster.Cluster)
+    → states-specs.State.State P g (F .known .m) (F .t) c (F .work) → cluster-specs.Settled.Calm (F .rules) (F .known) (c .servers)
 calm P F fit c S b l = rw (fit .echo, fit .reply) (S .settled b (omega (arith, fit .n)))
 
-module _ (P : Plan) (G : register-laws.Good.Good P) (F : Fed) (fit : Fits P (F .t) (F .plan) (F .rules) (F .known) (F .links) (F .arrivals) (F .movement))
-    (K : Knows P (pairAt (F .known)) (F .known .m)) (c r : cluster-specs.declared.Cluster.Cluster) (work : List ℕ) (fed : Ticked F c r work (F .rules .n))
-    (S : states-specs.State.State P (pairAt (F .known)) (F .known .m) (F .t) c (F .work)) where
+module _ (P : Plan) (G : register-laws.Good.Good P) (F : Fed) {g : ℕ → ℕ} (fit : Fits P g (F .t) (F .plan) (F .rules) (F .known) (F .links) (F .arrivals) (F .movement))
+    (K : Knows P g (F .known .m)) (c r : cluster-specs.declared.Cluster.Cluster) (work : List ℕ) (fed : Ticked F c r work (F .rules .n))
+    (S : states-specs.State.State P g (F .known .m) (F .t) c (F .work)) where
   D : Ticked F c r work (P .n)
   D = subst (λ (n : ℕ). Ticked F c r work n) (fit .n) fed
 
   -- a read that ends in this tick: its reader has noted what the definitions say
   pub noted-end : (q : Read) → register-specs.Lists.In q (P .reads) → F .t ≡ readEnd P q → (j i : ℕ) → j < F .known .m
-      → serving-specs.Bits.sets (getD (r .readers) (q .reader - 1) noReader .named) j i ≡ (ltb i (P .n) && register-specs.Server.has (register-specs.Reading.notedBy P q) (pairAt (F .known) j) i)
+      → serving-specs.Bits.sets (getD (r .readers) (q .reader - 1) noReader .named) j i ≡ (ltb i (P .n) && register-specs.Server.has (register-specs.Reading.notedBy P q) (g j) i)
   noted-end = reader-noted P G F fit K c r work D S
 
   module _ (after : List cluster-specs.declared.Reader.Reader) (B : Begins P (F .known .m) (F .t) (r .readers) after) where
@@ -48,8 +48,8 @@ module _ (P : Plan) (G : register-laws.Good.Good P) (F : Fed) (fit : Fits P (F .
   -- a tick of the engine is a tick of the cluster
   pub next-state : (n : cluster-specs.declared.Cluster.Cluster) (then : List ℕ) (f : ℕ → ℕ → ℕ → Bool) → n .servers ≡ r .servers → Begins P (F .known .m) (F .t) (r .readers) (n .readers)
       → ((x j i : ℕ) → x < rows → j < places → sender then x j i ≡ (sender work x j i || f x j i)) → Spanned then
-      → Forges P (F .known .m) (F .t) (pairAt (F .known)) f
-      → states-specs.State.State P (pairAt (F .known)) (F .known .m) (suc (F .t)) n then
+      → Forges P (F .known .m) (F .t) g f
+      → states-specs.State.State P g (F .known .m) (suc (F .t)) n then
   next-state n then f same B cells spans Y = record {
     servers = λ b lb. rw same (new-server P G F fit K c r work D S b lb);
     settled = λ b lb. rw (same, ← fit .echo, ← fit .reply)

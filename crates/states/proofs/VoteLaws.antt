@@ -32,14 +32,11 @@ stages-law m rules w votes asks live mv false h h' t s o k2 delta e r a b c d f 
 
 -- ---- one tick
 
-module _ (P : Plan) (G : register-laws.Good.Good P) (F : cluster-specs.Tick.Fed) (fit : cluster-specs.Inputs.Fits P (F .t) (F .plan) (F .rules) (F .known) (F .links) (F .arrivals) (F .movement))
-    (K : cluster-specs.Inputs.Knows P (cluster-specs.Inputs.pairAt (F .known)) (F .known .m)) (c r : cluster-specs.declared.Cluster.Cluster) (work : List ℕ) (D : cluster-specs.Tick.Ticked F c r work (P .n))
-    (S : State P (cluster-specs.Inputs.pairAt (F .known)) (F .known .m) (F .t) c (F .work)) where
+module _ (P : Plan) (G : register-laws.Good.Good P) (F : cluster-specs.Tick.Fed) {g : ℕ → ℕ} (fit : cluster-specs.Inputs.Fits P g (F .t) (F .plan) (F .rules) (F .known) (F .links) (F .arrivals) (F .movement))
+    (K : cluster-specs.Inputs.Knows P g (F .known .m)) (c r : cluster-specs.declared.Cluster.Cluster) (work : List ℕ) (D : cluster-specs.Tick.Ticked F c r work (P .n))
+    (S : State P g (F .known .m) (F .t) c (F .work)) where
   abbrev t : ℕ
   t = F .t
-
-  abbrev g : ℕ → ℕ
-  g = cluster-specs.Inputs.pairAt (F .known)
 
   abbrev m : ℕ
   m = F .known .m

@@ -1,7 +1,7 @@
 -- `play` meets its contract: the ticks, in which the answers are written.
 use borrow.Author.Needs.{needs}
 use native.Mathlib.Omega.{arith}
-use Rattle.player.proofs.Whole.{ready, begun, all-there}
+use Rattle.player.proofs.Whole.{ready, begun, answers-room, all-there}
 use Rattle.player.proofs.play.Statement.{statement}
 use Rattle.player.proofs.play.Tie as tie
 
@@ -10,11 +10,11 @@ run-requires c κs =
     let b = c .before .before .before .before in
     let r = b .before .before .before .before in
     let p = r .before .before .before .before .before .pre in (
-      ready _ _ _ _ _ (p .0) (p .2) (r .read .ensures) _ (b .begin .ensures),
-      begun _ _ _ _ _ (p .0) (p .2) (r .read .ensures) _ (b .begin .ensures),
+      ready _ _ _ _ _ _ (p .0) (p .3) (r .read .ensures) _ (b .begin .ensures),
+      begun _ _ _ _ _ _ (p .0) (p .3) (r .read .ensures) _ (b .begin .ensures),
       rw (b .begin .ensures .first) (omega arith),
       omega arith,
-      omega (arith, r .read .ensures .reads .count, p .1),
+      answers-room _ _ _ _ _ _ (p .0) (p .3) (r .read .ensures) _ (b .begin .ensures) _ (p .2),
     )
 
 zero-requires : tie.Need-zero-requires
@@ -22,17 +22,17 @@ zero-requires c κs =
     let d = c .before .before .before .before .before in
     let b = d .before .before .before .before .before in
     let r = b .before .before .before .before in
-    omega (arith, r .before .before .before .before .before .pre .2, r .read .ensures .forged .filled .size, b .begin .ensures .kept .size, d .run .ensures .0 .kept .size)
+    omega (arith, r .before .before .before .before .before .pre .3, r .read .ensures .0 .forged .filled .size, b .begin .ensures .kept .size, d .run .ensures .0 .kept .size)
 
 pub play-spec : {M : Type 1} → statement M
 play-spec =
     tie.close
-    (tie.spec (λ c κs. let p = c .before .before .before .before .pre in (p .0, omega (arith, p .2)))
-    (λ c κs. omega (arith, c .before .before .before .before .before .before .before .before .pre .2, c .before .before .before .read .ensures .forged .filled .size)) run-requires zero-requires
+    (tie.spec (λ c κs. let p = c .before .before .before .before .pre in (p .0, p .1, omega (arith, p .3)))
+    (λ c κs. omega (arith, c .before .before .before .before .before .before .before .before .pre .3, c .before .before .before .read .ensures .0 .forged .filled .size)) run-requires zero-requires
     (search needs) (search needs)
     (λ c.
     let d = c .before .before .before .before .before .before .before .before in
     let b = d .before .before .before .before .before in
     let r = b .before .before .before .before in
     let p = r .before .before .before .before .before .pre in
-    all-there _ _ _ _ _ (p .0) (p .2) (r .read .ensures) _ (b .begin .ensures) _ _ _ _ (d .run .ensures .0) (d .run .ensures .1) _ (c .before .before .zero .ensures)))
+    all-there _ _ _ _ _ _ (p .0) (p .3) (r .read .ensures) _ (b .begin .ensures) _ _ _ _ (d .run .ensures .0) (d .run .ensures .1) _ (c .before .before .zero .ensures)))

@@ -1,7 +1,9 @@
 -- `reading::go_on` meets its contract: reads end, then begin.
 use borrow.Author.Needs.{needs}
 use native.Mathlib.Omega.{arith}
-use Rattle.reading.proofs.Cursors.{there-part}
+use Rattle.answers.specs.Answers.{answerSize}
+use Rattle.script.specs.Script.{widthIn}
+use Rattle.reading.proofs.Cursors.{there-part, fewer-fit}
 use Rattle.reading.proofs.go_on.Statement.{statement}
 use Rattle.reading.proofs.go_on.Tie as tie
 
@@ -9,7 +11,7 @@ end-all-requires : tie.Need-end-all-requires
 end-all-requires c κs =
     let s = c .before .before .before .before .before .before .before .before .before .before .before in
     let e = c .before .first-from .ensures in
-    (there-part _ _ (s .pre .0 .table) _ _ (e .from) (e .few), s .pre .0 .pairs, s .pre .0 .narrow, omega (arith, s .pre .3, e .few))
+    (there-part _ _ (s .pre .0 .table) _ _ (e .from) (e .few), s .pre .0 .pairs, s .pre .0 .width, s .pre .0 .narrow, fewer-fit (answerSize (widthIn (s .args .script))) _ _ _ (e .few) (s .pre .3))
 
 begin-all-requires : tie.Need-begin-all-requires
 begin-all-requires c κs = let e = c .before .before .first-from2 .ensures in there-part _ _ (c .before .before .before .before .before .before .before .before .before .before .before .before .before .before .before .before .before .before .before .before .pre .0 .table) _ _ (e .from) (e .few)

@@ -45,6 +45,7 @@ use denote.Triple.Walked.{says, needs, Stays, stay-none, stay-none-slice, gave-s
 use denote.Exit.{yes}
 use borrow.Table.OneValue.{part-in, part-out}
 use Rattle.answers.specs.Answers.{answerSize}
+use Rattle.script.specs.Script.{widthIn}
 use Rattle.script.specs.declared.Script.{Script}
 use Rattle.script.proofs.Script as S
 use Rattle.script.proofs.Script.Laws as S′
@@ -72,7 +73,7 @@ mach = LL.val T.the-type T′.the-laws
 
 -- what is asked of `tick`, and what it says of the state, the answers and the workspace that it leaves
 abbrev Asked : Playing → RefT (List ℕ) → RefT (List ℕ) → RefT (List ℕ) → Script → Type 0
-Asked h p a w s = Ready (now p) (now w) s × PlayedTo (now p) (now w) s h × (h .tick < s .shape .ticks) × (answerSize 16 * s .reads .m ≤ length (now a))
+Asked h p a w s = Ready (now p) (now w) s × PlayedTo (now p) (now w) s h × (h .tick < s .shape .ticks) × (answerSize (widthIn s) * s .reads .m ≤ length (now a))
 
 abbrev Said : Playing → RefT (List ℕ) → RefT (List ℕ) → RefT (List ℕ) → Script → Playing → List ℕ → List ℕ → Type 0
 Said h p a w s r ys zs = Went (now p) (now w) zs (now a) ys s h r × (r .tick ≡ suc (h .tick))

@@ -41,6 +41,7 @@ use denote.Triple.Table.{entered, cited}
 use denote.Triple.Walked.{says, needs, Stays, stay-ref, stay-none, stay-none-slice, gave-slice, walkOf, AllGo, goes-none, goes-none-slice, goes-gave-slice, goes-ref, Walks, ends-at, walked, walk-meets}
 use denote.Exit.{yes}
 use Rattle.answers.specs.Answers.{answerSize}
+use Rattle.script.specs.Script.{widthIn}
 use Rattle.script.specs.declared.Script.{Script}
 use Rattle.script.proofs.Script as S
 use Rattle.script.proofs.Script.Laws as S′
@@ -71,7 +72,7 @@ vals = LL.vals T.the-type T′.the-laws
 
 -- what is asked of `one`, and what it says of the answers and the workspace that it leaves
 abbrev Asked : Playing → RefT (List ℕ) → RefT (List ℕ) → RefT (List ℕ) → Script → Type 0
-Asked h p a w s = Ready (now p) (now w) s × PlayedTo (now p) (now w) s h × (h .tick < s .shape .ticks) × (answerSize 16 * s .reads .m ≤ length (now a))
+Asked h p a w s = Ready (now p) (now w) s × PlayedTo (now p) (now w) s h × (h .tick < s .shape .ticks) × (answerSize (widthIn s) * s .reads .m ≤ length (now a))
 
 abbrev Said : Playing → RefT (List ℕ) → RefT (List ℕ) → RefT (List ℕ) → Script → Playing → List ℕ → List ℕ → Type 0
 Said h p a w s r ys zs = Went (now p) (now w) zs (now a) ys s h r × (r .tick ≡ suc (h .tick))

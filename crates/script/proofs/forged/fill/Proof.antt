@@ -6,17 +6,20 @@ use borrow.Author.Needs.{needs}
 use denote.Ref.{now}
 use Rattle.register.specs.Plan.{Forgery}
 use Rattle.register.proofs.Stamped.{value-stamped, number-stamped}
-use Rattle.script.specs.Forged.{Filled, forgedAt, delayOf, knownNumber}
+use Rattle.plan.specs.Header.{forgeryBits}
+use Rattle.script.specs.Forged.{numberIn, Filled, forgedAt, delayOf, knownNumber}
+use Rattle.plan.proofs.Sizes.{forgeries-few}
+use Rattle.script.proofs.Records.{times-more}
 use Rattle.script.proofs.Entries.{filled-none, filled-more}
 use Rattle.script.proofs.forged.fill.Statement.{statement}
 use Rattle.script.proofs.forged.fill.Tie as tie
 
 abbrev Inv-loop : tie.InvT-loop
-Inv-loop work₀ part offset count plan links n values m e₀ work e =
-    (e ≤ count) × Filled work₀ work e (forgedAt part offset) (λ i. delayOf plan links (forgedAt part offset i)) (λ i. knownNumber values m (forgedAt part offset i))
+Inv-loop work₀ part offset width count plan links n values m bits e₀ work e =
+    (e ≤ count) × Filled work₀ work e (forgedAt width part offset) (λ i. delayOf plan links (forgedAt width part offset i)) (λ i. knownNumber width values m (forgedAt width part offset i))
 
 abbrev μ-loop : tie.MeasureT-loop
-μ-loop work₀ part offset count plan links n values m e₀ work e = count - e
+μ-loop work₀ part offset width count plan links n values m bits e₀ work e = count - e
 
 abbrev at : Forgery → ℕ
 at g = g .at
@@ -27,19 +30,44 @@ from g = g .from
 abbrev to : Forgery → ℕ
 to g = g .to
 
+mul-message-at : tie.Need-mul-message-at Inv-loop μ-loop
+mul-message-at c =
+    let s = c .before .before .before .before .before .before in
+    let bits = c .before .before .bits in
+    omega (arith, forgeries-few (bits .result) (c .before .loop .e) (omega (arith, s .pre .narrow, bits .ensures)) (omega (arith, c .loop-test .taken, s .pre .few)))
+
+add-message-at : tie.Need-add-message-at Inv-loop μ-loop
+add-message-at c =
+    let s = c .before .before .before .before .before .before in
+    let bits = c .before .before .bits in
+    omega (arith, s .pre .start, forgeries-few (bits .result) (c .before .loop .e) (omega (arith, s .pre .narrow, bits .ensures)) (omega (arith, c .loop-test .taken, s .pre .few)))
+
+message-at-requires : tie.Need-message-at-requires Inv-loop μ-loop
+message-at-requires c κs =
+    let h = c .before .loop in
+    let s = c .before .before .before .before .before .before in
+    let bits = c .before .before .bits in
+    let w = s .args .width in
+    let l : h .e < s .args .count = c .loop-test .taken in (
+      rw (bits .ensures) (omega (arith, s .pre .inside, times-more (forgeryBits w) (h .e) (s .args .count) l)),
+      omega (arith, s .pre .start, forgeries-few (bits .result) (h .e) (omega (arith, s .pre .narrow, bits .ensures)) (omega (arith, s .pre .few))),
+      s .pre .narrow,
+    )
+
 put-entry-requires : tie.Need-put-entry-requires Inv-loop μ-loop
 put-entry-requires c κs =
     let p = c .before .before .before .before .before .before .before .before in
     let h = p .before .loop in
-    let s = p .before .before .before .before .before in
+    let s = p .before .before .before .before .before .before in
     let l : h .e < s .args .count = p .loop-test .taken in
     (omega (arith, s .pre .room, s .pre .few, h .inv .1 .size), omega (arith, s .pre .few))
 
 delay-requires : tie.Need-delay-requires Inv-loop μ-loop
 delay-requires c κs =
     let p = c .before .before .before .before in
-    let E = p .message-at .ensures .0 in
-    let R = p .before .before .before .before .before .before .pre .reach _ (p .before .loop-test .taken) in
+    let s = p .before .before .before .before .before .before .before in
+    let E = rw (p .before .before .before .bits .ensures) at (p .message-at .ensures .0) in
+    let R = s .pre .reach _ (p .before .loop-test .taken) in
     rw (ap at E, ap from E, ap to E) R
 
 add-put-entry-2 : tie.Need-add-put-entry-2 Inv-loop μ-loop
@@ -50,14 +78,16 @@ add-put-entry-2 c =
 loop-again : tie.Need-loop-again Inv-loop μ-loop
 loop-again c =
     let p = c .before .before .before .before .before .before .before .before .before .before in
-    let E = p .message-at .ensures .0 in
     let h = p .before .before .loop in
-    let s = p .before .before .before .before .before .before in
+    let s = p .before .before .before .before .before .before .before in
+    let w = s .args .width in
+    let E = rw (p .before .before .before .bits .ensures) at (p .message-at .ensures .0) in
     let l : h .e < s .args .count = p .before .loop-test .taken in
     let g = p .message-at .result in
     let v = p .message-at .ensures .2 in
-    let known = rw (value-stamped 16 (g .value) (g .number) v, number-stamped 16 (g .value) (g .number) v) at (ap (knownNumber (now (s .args .values)) (s .args .m)) E) in
-    let number = c .before .before .before .before .before .before .before .before .before .known-number .ensures ∙ known in (
+    let known = rw (value-stamped w (g .value) (g .number) v, number-stamped w (g .value) (g .number) v) at (ap (knownNumber w (now (s .args .values)) (s .args .m)) E) in
+    let found = c .before .before .before .before .before .before .before .before .before .known-number in
+    let number = _∙_ {b = numberIn (now (s .args .values)) (s .args .m) (g .value) (g .number)} (found .ensures) known in (
       omega arith,
       rw (c .before .before .put-entry .ensures, c .before .before .before .before .before .delay .ensures .0, number, ap at E, ap from E, ap to E)
           (filled-more (s .args .work .now) (h .work) (h .e) _ _ _ (h .inv .1) (omega (arith, s .pre .room, s .pre .few, h .inv .1 .size))),
@@ -66,9 +96,9 @@ loop-again c =
 pub fill-spec : {M : Type 1} → statement M
 fill-spec =
     tie.close
-    (tie.spec Inv-loop μ-loop (λ c. (search needs, filled-none _ _ _ _)) (search needs) (search needs) (search needs) (search needs) (search needs) (search needs)
-    (search needs) delay-requires (search needs) (search needs) (search needs) add-put-entry-2 put-entry-requires
-    (λ c. let s = c .before .before .before .before .before .before .before .before .before .before .before in omega (arith, s .loop-test .taken, s .before .before .before .before .before .pre .few))
+    (tie.spec Inv-loop μ-loop (search needs) (λ c. (search needs, filled-none _ _ _ _)) mul-message-at add-message-at message-at-requires (search needs) (search needs)
+    (search needs) (search needs) delay-requires (search needs) (search needs) (search needs) add-put-entry-2 put-entry-requires
+    (λ c. let s = c .before .before .before .before .before .before .before .before .before .before .before in omega (arith, s .loop-test .taken, s .before .before .before .before .before .before .pre .few))
     (search needs) loop-again
     (λ c. c .before .loop .inv .1 .size)
-    (λ c. let e : c .before .loop .e ≡ c .before .before .before .before .before .args .count = omega arith in rw e at (c .before .loop .inv .1)))
+    (λ c. let e : c .before .loop .e ≡ c .before .before .before .before .before .before .args .count = omega arith in rw e at (c .before .loop .inv .1)))
