@@ -21,41 +21,41 @@ use Rattle.simulator.specs.Judge.{readOf, answerFits}
 use Rattle.regular.specs.Tables.{Tables}
 use Rattle.judge.specs.Fitting.{fitsRead}
 
-module _ (s : List ℕ) (m : ℕ) (e : checkOf 16 s ≡ result m) where
-  A : plan-specs.Playable.Playable 16 s
-  A = playable 16 s m e
+module _ (w : ℕ) (s : List ℕ) (m : ℕ) (e : checkOf w s ≡ result m) where
+  A : plan-specs.Playable.Playable w s
+  A = playable w s m e
 
   pub few-answers : m ≤ 255
-  few-answers = omega (arith, reads-counted 16 s m e, plan-laws.AcceptReads.few-reads 16 s, in-range 16 s A .operations-hi)
+  few-answers = omega (arith, reads-counted w s m e, plan-laws.AcceptReads.few-reads w s, in-range w s A .operations-hi)
 
   -- the header by value
-  module _ (x : plan-specs.declared.header.Shape.Shape) (same : shape x ≡ headerOf 16 s) where
-    pub delta-same : planOf 16 s .delta ≡ x .delta
+  module _ (x : plan-specs.declared.header.Shape.Shape) (same : shape x ≡ headerOf w s) where
+    pub delta-same : planOf w s .delta ≡ x .delta
     unfolding planOf
     delta-same = sym (ap (λ (h : Header). h .delta) same)
 
     -- the bit where the operations start
-    module _ (at : ℕ) (start : at ≡ placementAt 16 (moves (shape x))) where
-      pub write-tables : (values begun : List ℕ) (n : ℕ) → Written (writesFrom 16 1 (tab (x .operations) (opAt s at))) (x .initial) values begun n
-          → Tables (planOf 16 s) values begun n
+    module _ (at : ℕ) (start : at ≡ placementAt w (moves (shape x))) where
+      pub write-tables : (values begun : List ℕ) (n : ℕ) → Written w (writesFrom w 1 (tab (x .operations) (opAt w s at))) (x .initial) values begun n
+          → Tables w (planOf w s) values begun n
       unfolding planOf
       write-tables values begun n decoded =
-          let W = rw (writes-same s A x same at start) at decoded in
+          let W = rw (writes-same w s A x same at start) at decoded in
           record {
             initial = rw (W .first, ← same);
             written = rw (W .first) W;
-            rising = λ i j l h. omega (arith, plan-laws.AcceptWrites.writes-apart 16 s A noWrite i j l h);
+            rising = λ i j l h. omega (arith, plan-laws.AcceptWrites.writes-apart w s A noWrite i j l h);
           }
 
-      module _ (begun reader : List ℕ) (q : ℕ) (R : ReadIn (readsFrom (tab (x .operations) (opAt s at))) begun reader q) where
-        read-is : (i : ℕ) → i < m → readOf (planOf 16 s) i ≡ record { begun = getD begun i 0; reader = getD reader i 0 }
+      module _ (begun reader : List ℕ) (q : ℕ) (R : ReadIn (readsFrom (tab (x .operations) (opAt w s at))) begun reader q) where
+        read-is : (i : ℕ) → i < m → readOf (planOf w s) i ≡ record { begun = getD begun i 0; reader = getD reader i 0 }
         read-is i l =
-            let Q = rw (reads-same s A x same at start) at R in
-            Q .each i (omega (arith, reads-counted 16 s m e, Q .count))
+            let Q = rw (reads-same w s A x same at start) at R in
+            Q .each i (omega (arith, reads-counted w s m e, Q .count))
 
-        pub read-begins : (i : ℕ) → i < m → readOf (planOf 16 s) i .begun ≡ getD begun i 0
+        pub read-begins : (i : ℕ) → i < m → readOf (planOf w s) i .begun ≡ getD begun i 0
         read-begins i l = ap (λ (r : Read). r .begun) (read-is i l)
 
-        pub fits-same : (a : List ℕ) → allUpTo m (λ i. fitsRead a i (getD begun i 0) (getD reader i 0)) ≡ allUpTo m (answerFits 16 s a)
+        pub fits-same : (a : List ℕ) → allUpTo m (λ i. fitsRead w a i (getD begun i 0) (getD reader i 0)) ≡ allUpTo m (answerFits w s a)
         unfolding fitsRead answerFits
-        fits-same a = plan-laws.Laws.all-same _ (answerFits 16 s a) m (λ i l. rw (read-is i l))
+        fits-same a = plan-laws.Laws.all-same _ (answerFits w s a) m (λ i l. rw (read-is i l))

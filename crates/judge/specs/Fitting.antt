@@ -6,5 +6,5 @@ use lib.Dec.{eqb}
 use Rattle.answers.specs.Answers.{beginIn, readerIn, zeroIn}
 
 -- begin, reader and zero bit of answer i are those of a read
-unfoldable pub fitsRead : List ℕ → ℕ → ℕ → ℕ → Bool
-fitsRead a i begun reader = eqb (beginIn 16 a i) begun && (eqb (readerIn 16 a i) reader && eqb (zeroIn 16 a i) 0)
+unfoldable pub fitsRead : ℕ → List ℕ → ℕ → ℕ → ℕ → Bool
+fitsRead w a i begun reader = eqb (beginIn w a i) begun && (eqb (readerIn w a i) reader && eqb (zeroIn w a i) 0)

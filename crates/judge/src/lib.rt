@@ -2,6 +2,7 @@
 use calendar::PLACES;
 use plan::Checked;
 use plan::Refusal;
+use plan::form;
 use plan::header::Shape;
 use regular::is_allowed;
 use script::operations::TABLE_READS;
@@ -15,14 +16,16 @@ ghost use Rattle.register.specs.Lists.{allUpTo};
 ghost use Rattle.register.specs.Plan.{Plan};
 ghost use Rattle.register.specs.Regular.{allowed};
 ghost use Rattle.answers.specs.Answers.{answerSize, pairIn};
+ghost use Rattle.plan.specs.Form.{mostWidth};
 ghost use Rattle.plan.specs.Check.{result, checkOf};
-ghost use Rattle.simulator.specs.{Judge.readOf, Judge.judgeAfter, Judge.judgeOf, Numbered.judged};
+ghost use Rattle.simulator.specs.{Judge.readOf, Judge.judgeAfter, Judge.judgeIn, Numbered.judged};
 ghost use Rattle.regular.specs.Tables.{Tables};
 ghost use Rattle.judge.specs.Fitting.{fitsRead};
 
 // Do all answers hold allowed pairs?
 fn all_allowed(
     answers: &[u8],
+    width: u8,
     values: &[u32; PLACES],
     begun: &[u8; PLACES],
     m: usize,
@@ -30,16 +33,23 @@ fn all_allowed(
     reads: &[u8; TABLE_READS],
     count: usize,
 ) -> bool
-    requires { ⌜ (1 ≤ m) × (m ≤ 65) × (count ≤ 255) × (answerSize 16 * count ≤ length (now answers)) ⌝ }
-    ensures { λ r. ⌜ ((P : Plan) → Tables P (now (values .entry)) (now (begun .entry)) m → P .delta ≡ delta
+    requires { ⌜ (1 ≤ m) × (m ≤ 65) × (count ≤ 255) × (width ≤ mostWidth) × (answerSize width * count ≤ length (now answers)) ⌝ }
+    ensures { λ r. ⌜ ((P : Plan) → Tables width P (now (values .entry)) (now (begun .entry)) m → P .delta ≡ delta
         → ((i : ℕ) → i < count → readOf P i .begun ≡ getD (now (reads .entry)) i 0)
-        → r ≡ allUpTo count (λ i. allowed P (readOf P i) (pairIn 16 (now (answers .entry)) i))) ⌝ }
+        → r ≡ allUpTo count (λ i. allowed P (readOf P i) (pairIn width (now (answers .entry)) i))) ⌝ }
 {
     let mut i: usize = 0;
     while i < count {
-        let value = answers::field(answers, i, answers::VALUE);
-        let number = answers::field(answers, i, answers::NUMBER) as u8;
-        if !is_allowed(values, begun, m, delta, reads[i], value, number) {
+        let answer = answers::read(answers, width, i);
+        if !is_allowed(
+            values,
+            begun,
+            m,
+            delta,
+            reads[i],
+            answer.value,
+            answer.number,
+        ) {
             return false;
         }
         i += 1;
@@ -48,32 +58,34 @@ fn all_allowed(
 }
 
 // Are begin, reader and zero bit of answer i those of its read?
-fn is_fitting(answers: &[u8], i: usize, begun: u8, reader: u8) -> bool
-    requires { ⌜ (answerSize 16 * i + answerSize 16 ≤ length (now answers)) × (i < 256) ⌝ }
-    ensures { λ r. ⌜ r ≡ fitsRead (now (answers .entry)) i begun reader ⌝ }
+fn is_fitting(answers: &[u8], width: u8, i: usize, begun: u8, reader: u8) -> bool
+    requires { ⌜ (answerSize width * i + answerSize width ≤ length (now answers)) × (i < 256) × (width ≤ mostWidth) ⌝ }
+    ensures { λ r. ⌜ r ≡ fitsRead width (now (answers .entry)) i begun reader ⌝ }
 {
-    if answers::field(answers, i, answers::BEGIN) != begun as u32 {
+    let answer = answers::read(answers, width, i);
+    if answer.begin != begun {
         return false;
     }
-    if answers::field(answers, i, answers::READER) != reader as u32 {
+    if answer.reader != reader {
         return false;
     }
-    answers::field(answers, i, answers::ZERO) == 0
+    answer.zero == 0
 }
 
 // The same of all answers. Both tables are fields of one struct, so they share a lifetime.
 fn all_fit<'a>(
     answers: &[u8],
+    width: u8,
     begun: &'a [u8; TABLE_READS],
     reader: &'a [u8; TABLE_READS],
     count: usize,
 ) -> bool
-    requires { ⌜ (count ≤ 255) × (answerSize 16 * count ≤ length (now answers)) ⌝ }
-    ensures { λ r. ⌜ r ≡ allUpTo count (λ i. fitsRead (now (answers .entry)) i (getD (now (begun .entry)) i 0) (getD (now (reader .entry)) i 0)) ⌝ }
+    requires { ⌜ (count ≤ 255) × (width ≤ mostWidth) × (answerSize width * count ≤ length (now answers)) ⌝ }
+    ensures { λ r. ⌜ r ≡ allUpTo count (λ i. fitsRead width (now (answers .entry)) i (getD (now (begun .entry)) i 0) (getD (now (reader .entry)) i 0)) ⌝ }
 {
     let mut i: usize = 0;
     while i < count {
-        if !is_fitting(answers, i, begun[i], reader[i]) {
+        if !is_fitting(answers, width, i, begun[i], reader[i]) {
             return false;
         }
         i += 1;
@@ -82,24 +94,25 @@ fn all_fit<'a>(
 }
 
 // The answers to an accepted plan with so many reads.
-fn judge_answers(plan: &[u8], answers: &[u8], count: usize) -> Judged
-    requires { ⌜ checkOf 16 (now plan) ≡ result count ⌝ }
-    ensures { λ r. ⌜ judged r ≡ judgeAfter 16 (now (plan .entry)) (now (answers .entry)) (result count) ⌝ }
+fn judge_answers(plan: &[u8], width: u8, answers: &[u8], count: usize) -> Judged
+    requires { ⌜ (checkOf width (now plan) ≡ result count) × (width ≤ mostWidth) ⌝ }
+    ensures { λ r. ⌜ judged r ≡ judgeAfter width (now (plan .entry)) (now (answers .entry)) (result count) ⌝ }
 {
-    if answers.len() != Shape::ANSWER_BYTES * count {
+    if answers.len() != answers::size(width) * count {
         return Judged::Refused(Refusal::WrongLength);
     }
-    let shape = Shape::read(plan);
+    let shape = Shape::read(plan, width);
     let at = shape.operations_at();
     let operations = shape.operations as usize;
-    let reads = reads_of(plan, at, operations);
-    if !all_fit(answers, &reads.begun, &reads.reader, count) {
+    let reads = reads_of(plan, at, width, operations);
+    if !all_fit(answers, width, &reads.begun, &reads.reader, count) {
         return Judged::Refused(Refusal::WrongRead);
     }
-    let writes = writes_of(plan, at, operations, shape.initial);
+    let writes = writes_of(plan, at, width, operations, shape.initial);
     let known = writes.known;
     if all_allowed(
         answers,
+        width,
         &known.values,
         &writes.begun,
         known.m,
@@ -114,12 +127,12 @@ fn judge_answers(plan: &[u8], answers: &[u8], count: usize) -> Judged
 }
 
 // Judges answers against a plan: Check's refusals, 12, 13, then yes or no.
-pub fn judge(plan: &[u8], answers: &[u8]) -> Judged
-    ensures { λ r. ⌜ judged r ≡ judgeOf 16 (now (plan .entry)) (now (answers .entry)) ⌝ }
+pub fn judge(form: usize, plan: &[u8], answers: &[u8]) -> Judged
+    ensures { λ r. ⌜ judged r ≡ judgeIn form (now (plan .entry)) (now (answers .entry)) ⌝ }
 {
-    let checked = checks::check(plan);
+    let checked = checks::check(form, plan);
     match checked {
         Checked::Refused(refusal) => Judged::Refused(refusal),
-        Checked::Reads(count) => judge_answers(plan, answers, count),
+        Checked::Reads(count) => judge_answers(plan, form::width(form), answers, count),
     }
 }

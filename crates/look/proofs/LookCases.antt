@@ -8,6 +8,7 @@ use lib.ListN.{length, getD, replicate}
 use borrow.Author.Tests.{lt-ltb, le-ltb}
 use Rattle.register.specs as register-specs
 use Rattle.register.specs.Server.{Server, Status, faulty, cured, correct}
+use Rattle.plan.specs.Form.{widthOf}
 use Rattle.plan.specs.Header.{headerOf}
 use Rattle.plan.specs as plan-specs
 use Rattle.register.proofs.Stamped.{value-stamped, number-stamped}
@@ -17,55 +18,62 @@ use Rattle.cluster.specs.Inputs.{pairAt, Narrow}
 use Rattle.simulator.specs as simulator-specs
 use Rattle.serving.specs.Stored.{keys}
 use Rattle.answers.specs.Workspace.{workspaceSize, zeroed}
-use Rattle.simulator.specs.Look.{Stamped, conditionOf, shownBy, placeWith, emptyPlace, placesOf, Looked, lookShown, lookRefused, lookAfter, lookOf}
+use Rattle.simulator.specs.Look.{Stamped, conditionOf, shownBy, placeWith, emptyPlace, placesOf, Looked, lookShown, lookRefused, lookAfter, lookIn}
 use Rattle.simulator.specs.Numbered.{valuedPlace, shownIn, lookedAs, seenOf}
 
-module _ (s workspace : List ℕ) (b t : ℕ) where
-  abbrev refusedBy : ℕ → Looked
-  refusedBy number = lookRefused 16 s workspace b t number
+-- In a form, whose values have w bits.
+module _ (form : ℕ) (s workspace : List ℕ) (b t : ℕ) where
+  abbrev w : ℕ
+  w = widthOf form
 
-  pub look-checked : (n : ℕ) → plan-specs.Check.checkOf 16 s ≡ plan-specs.Check.refused n → refusedBy n ≡ lookOf 16 s workspace b t
-  unfolding lookOf lookAfter
+  abbrev refusedBy : ℕ → Looked
+  refusedBy number = lookRefused w s workspace b t number
+
+  pub look-checked : (n : ℕ) → plan-specs.Check.checkIn form s ≡ plan-specs.Check.refused n → refusedBy n ≡ lookIn form s workspace b t
+  unfolding lookIn lookAfter
   look-checked n e = rw e
 
-  module _ (m : ℕ) (accepted : plan-specs.Check.checkOf 16 s ≡ plan-specs.Check.result m) where
-    pub look-ten : length workspace < workspaceSize → refusedBy 10 ≡ lookOf 16 s workspace b t
-    unfolding lookOf lookAfter
+  module _ (m : ℕ) (accepted : plan-specs.Check.checkIn form s ≡ plan-specs.Check.result m) where
+    pub look-ten : length workspace < workspaceSize → refusedBy 10 ≡ lookIn form s workspace b t
+    unfolding lookIn lookAfter
     look-ten h = rw (accepted, lt-ltb (length workspace) workspaceSize h)
 
     module _ (room : workspaceSize ≤ length workspace) where
-      pub look-server : headerOf 16 s .n ≤ b → refusedBy 11 ≡ lookOf 16 s workspace b t
-      unfolding lookOf lookAfter
-      look-server h = rw (accepted, le-ltb (length workspace) workspaceSize room, le-ltb b (headerOf 16 s .n) h)
+      pub look-server : headerOf w s .n ≤ b → refusedBy 11 ≡ lookIn form s workspace b t
+      unfolding lookIn lookAfter
+      look-server h = rw (accepted, le-ltb (length workspace) workspaceSize room, le-ltb b (headerOf w s .n) h)
 
-      module _ (server : b < headerOf 16 s .n) where
-        pub look-tick : headerOf 16 s .ticks ≤ t → refusedBy 11 ≡ lookOf 16 s workspace b t
-        unfolding lookOf lookAfter
-        look-tick h = rw (accepted, le-ltb (length workspace) workspaceSize room, lt-ltb b (headerOf 16 s .n) server, le-ltb t (headerOf 16 s .ticks) h)
+      module _ (server : b < headerOf w s .n) where
+        pub look-tick : headerOf w s .ticks ≤ t → refusedBy 11 ≡ lookIn form s workspace b t
+        unfolding lookIn lookAfter
+        look-tick h = rw (accepted, le-ltb (length workspace) workspaceSize room, lt-ltb b (headerOf w s .n) server, le-ltb t (headerOf w s .ticks) h)
 
-        pub look-done : t < headerOf 16 s .ticks → (x : Looked) → x ≡ lookShown (shownBy 16 (register-specs.Cluster.serverOf (register-specs.Cluster.cluster (plan-specs.Packed.planOf 16 s) (suc t)) b)) (zeroed workspace)
-            → x ≡ lookOf 16 s workspace b t
-        unfolding lookOf lookAfter
-        look-done h x e = rw (accepted, le-ltb (length workspace) workspaceSize room, lt-ltb b (headerOf 16 s .n) server, lt-ltb t (headerOf 16 s .ticks) h) e
+        pub look-done : t < headerOf w s .ticks → (x : Looked)
+            → x ≡ lookShown (shownBy w (register-specs.Cluster.serverOf (register-specs.Cluster.cluster (plan-specs.Packed.planOf w s) (suc t)) b)) (zeroed workspace)
+            → x ≡ lookIn form s workspace b t
+        unfolding lookIn lookAfter
+        look-done h x e = rw (accepted, le-ltb (length workspace) workspaceSize room, lt-ltb b (headerOf w s .n) server, lt-ltb t (headerOf w s .ticks) h) e
 
 -- the pairs of a plan with the known pairs, by their numbers
-module _ (known : Known) (narrow : Narrow known) where
-  shown-keys : (ps : List Kept) → map (λ p. record { value = register-specs.Plan.valueOf 16 p; number = register-specs.Plan.numberOf 16 p }) (map (pairAt known) (keys ps)) ≡ shownIn (map (valuedPlace (known .values)) ps)
-  unfolding keys shownIn
+module _ (w : ℕ) (known : Known) (narrow : Narrow w known) where
+  shows : ℕ → Stamped
+  shows k = record { value = register-specs.Plan.valueOf w k; number = register-specs.Plan.numberOf w k }
+
+  shown-keys : (ps : List Kept) → map shows (map (pairAt w known) (keys ps)) ≡ shownIn (map (valuedPlace (known .values)) ps)
+  unfolding keys shownIn shows
   shown-keys [] = refl
   shown-keys (p ∷ ps) = go (p .kept) (shown-keys ps)
     where
-      shows : ℕ → Stamped
-      shows k = record { value = register-specs.Plan.valueOf 16 k; number = register-specs.Plan.numberOf 16 k }
-
       pair : Stamped
       pair = record { value = getD (known .values) (p .number) 0; number = p .number }
 
-      first : shows (pairAt known (p .number)) ≡ pair
-      first = rw (value-stamped 16 (getD (known .values) (p .number) 0) (p .number) (narrow (p .number)), number-stamped 16 (getD (known .values) (p .number) 0) (p .number) (narrow (p .number)))
+      first : shows (pairAt w known (p .number)) ≡ pair
+      first =
+          let v = getD (known .values) (p .number) 0 in
+          rw (value-stamped w v (p .number) (narrow (p .number)), number-stamped w v (p .number) (narrow (p .number)))
 
-      go : (c : Bool) → map shows (map (pairAt known) (keys ps)) ≡ shownIn (map (valuedPlace (known .values)) ps)
-          → map shows (map (pairAt known) (cond c (p .number ∷ keys ps) [])) ≡ cond c (pair ∷ shownIn (map (valuedPlace (known .values)) ps)) []
+      go : (c : Bool) → map shows (map (pairAt w known) (keys ps)) ≡ shownIn (map (valuedPlace (known .values)) ps)
+          → map shows (map (pairAt w known) (cond c (p .number ∷ keys ps) [])) ≡ cond c (pair ∷ shownIn (map (valuedPlace (known .values)) ps)) []
       go true e = rw (first, e)
       go false e = refl
 
@@ -85,9 +93,10 @@ shown-places pairs = go pairs (plan-specs.Packed.storeDepth - length pairs)
     go [] (suc m) = refl
     go (p ∷ pairs) m = rw (go pairs m)
 
-module _ (x : Server) (status : Status) (kept : List Kept) (known : Known) (es : x .status ≡ status) (ek : x .kept ≡ map (pairAt known) (keys kept)) (narrow : Narrow known) where
-  pub shown : (seen : simulator-specs.declared.look.Seen.Seen) (valued places : List simulator-specs.declared.look.Place.Place) (w v : List ℕ) → seen ≡ seenOf status → valued ≡ map (valuedPlace (known .values)) kept → places ≡ placesOf (shownIn valued) → w ≡ v
-      → record { outcome = lookedAs (shownIn places) seen; places = places; workspace = w } ≡ lookShown (shownBy 16 x) v
-  unfolding shownBy
-  shown seen valued places w v e d p z =
-      rw (p, e, z, d, shown-places (shownIn (map (valuedPlace (known .values)) kept)), shown-as status (shownIn (map (valuedPlace (known .values)) kept)), es, ek, shown-keys known narrow kept)
+module _ (w : ℕ) (x : Server) (status : Status) (kept : List Kept) (known : Known) (es : x .status ≡ status) (ek : x .kept ≡ map (pairAt w known) (keys kept))
+    (narrow : Narrow w known) where
+  pub shown : (seen : simulator-specs.declared.look.Seen.Seen) (valued places : List simulator-specs.declared.look.Place.Place) (a v : List ℕ) → seen ≡ seenOf status → valued ≡ map (valuedPlace (known .values)) kept → places ≡ placesOf (shownIn valued) → a ≡ v
+      → record { outcome = lookedAs (shownIn places) seen; places = places; workspace = a } ≡ lookShown (shownBy w x) v
+  unfolding shownBy shows
+  shown seen valued places a v e d p z =
+      rw (p, e, z, d, shown-places (shownIn (map (valuedPlace (known .values)) kept)), shown-as status (shownIn (map (valuedPlace (known .values)) kept)), es, ek, shown-keys w known narrow kept)

@@ -4,7 +4,7 @@ use mathlib.Core.Path.{_≡_, refl, sym, ap, _∙_}
 use mathlib.Core.Bool.{Bool, true, false, not, _&&_}
 use mathlib.Core.Logic.{_⊎_, inl, inr}
 use mathlib.Core.List.{List}
-use Prim.Native.Nat.{ℕ, zero, suc, _≤_, _<_}
+use Prim.Native.Nat.{ℕ, zero, suc, _^_, _≤_, _<_}
 use native.Mathlib.Omega.{arith}
 use native.Mathlib.Decide.{decLe, ℕ-discrete}
 use lib.Dec.{T, eqb, leb, eqb→eq, leb→le, le→leb, eqb-refl, T-not, not-T}
@@ -20,26 +20,26 @@ use Rattle.register.proofs.Stamped.{value-stamped, number-stamped, stamped-rise
 use Rattle.script.specs.Operations.{noWrite}
 use Rattle.regular.specs.Tables.{Tables, Last}
 
--- the pair of a number, and its write
-abbrev pub pairAt : List ℕ → ℕ → ℕ
-pairAt values j = stamped 16 (getD values j 0) j
+-- the pair of a number, with a value of w bits, and its write
+abbrev pub pairAt : ℕ → List ℕ → ℕ → ℕ
+pairAt w values j = stamped w (getD values j 0) j
 
-abbrev pub writeAt : List ℕ → List ℕ → ℕ → Write
-writeAt values begun j = record { begun = getD begun j 0; pair = pairAt values j }
+abbrev pub writeAt : ℕ → List ℕ → List ℕ → ℕ → Write
+writeAt w values begun j = record { begun = getD begun j 0; pair = pairAt w values j }
 
 -- the tables of a plan's writes, and the last one that finished before a read
-pub record Sought (P : Plan) (x : Read) (values begun : List ℕ) (m last : ℕ) : Type 0 where
-  pub tables : Tables P values begun m
-  pub found : Last (λ j. finished P x (writeAt values begun j)) m last
+pub record Sought (w : ℕ) (P : Plan) (x : Read) (values begun : List ℕ) (m last : ℕ) : Type 0 where
+  pub tables : Tables w P values begun m
+  pub found : Last (λ j. finished P x (writeAt w values begun j)) m last
 
-module _ {P : Plan} {x : Read} {values begun : List ℕ} {m last : ℕ} (K : Sought P x values begun m last) where
-  write-in : (j : ℕ) → 0 < j → j < m → In (writeAt values begun j) (P .writes)
+module _ {w : ℕ} {P : Plan} {x : Read} {values begun : List ℕ} {m last : ℕ} (K : Sought w P x values begun m last) where
+  write-in : (j : ℕ) → 0 < j → j < m → In (writeAt w values begun j) (P .writes)
   write-in zero l h = absurd (omega arith)
   write-in (suc j) l h =
       let k : j < length (P .writes) = omega (arith, K .tables .written .count) in
       rw (K .tables .written .each j k) at (getD-in (P .writes) j noWrite k)
 
-  in-write : (u : Write) → In u (P .writes) → (j : ℕ) × (0 < j) × (j < m) × (u ≡ writeAt values begun j)
+  in-write : (u : Write) → In u (P .writes) → (j : ℕ) × (0 < j) × (j < m) × (u ≡ writeAt w values begun j)
   in-write u i =
       let (j, l, e) = in-getD (P .writes) u noWrite i in
       (suc j, omega arith, omega (arith, K .tables .written .count), e ∙ K .tables .written .each j l)
@@ -52,59 +52,59 @@ module _ {P : Plan} {x : Read} {values begun : List ℕ} {m last : ℕ} (K : Sou
       let a : i < length (P .writes) = omega arith in
       rw (K .tables .written .each i a, K .tables .written .each j b) at (K .tables .rising i j (omega arith) b)
 
-  pair-rises : (i j : ℕ) → i < j → pairAt values i < pairAt values j
-  pair-rises i j l = stamped-rises 16 (getD values i 0) (getD values j 0) i j (K .tables .written .small i) l
+  pair-rises : (i j : ℕ) → i < j → pairAt w values i < pairAt w values j
+  pair-rises i j l = stamped-rises w (getD values i 0) (getD values j 0) i j (K .tables .written .small i) l
 
   -- a number and its value are those of the pair
-  same-pair : (j v number : ℕ) → v < 65536 → stamped 16 v number ≡ pairAt values j → (number ≡ j) × (v ≡ getD values j 0)
+  same-pair : (j v number : ℕ) → v < 2 ^ w → stamped w v number ≡ pairAt w values j → (number ≡ j) × (v ≡ getD values j 0)
   same-pair j v number l e = (
-    sym (number-stamped 16 v number l) ∙ ap (numberOf 16) e ∙ number-stamped 16 (getD values j 0) j (K .tables .written .small j),
-    sym (value-stamped 16 v number l) ∙ ap (valueOf 16) e ∙ value-stamped 16 (getD values j 0) j (K .tables .written .small j),
+    sym (number-stamped w v number l) ∙ ap (numberOf w) e ∙ number-stamped w (getD values j 0) j (K .tables .written .small j),
+    sym (value-stamped w v number l) ∙ ap (valueOf w) e ∙ value-stamped w (getD values j 0) j (K .tables .written .small j),
   )
 
   -- what has not finished is later than the last that has
-  after-last : (j : ℕ) → 0 < j → j < m → T (not (finished P x (writeAt values begun j))) → last < j
+  after-last : (j : ℕ) → 0 < j → j < m → T (not (finished P x (writeAt w values begun j))) → last < j
   after-last j p l n = go (decLe (suc last) j) (ℕ-discrete j last)
     where
       go : Dec (last < j) → Dec (j ≡ last) → last < j
       go (yes h) d = h
-      go (no h) (yes e) = absurd (T-not (finished P x (writeAt values begun j)) n (rw e (K .found .passing (omega arith))))
+      go (no h) (yes e) = absurd (T-not (finished P x (writeAt w values begun j)) n (rw e (K .found .passing (omega arith))))
       go (no h) (no d) =
-          let f = finished-by P x (writeAt values begun last) (K .found .passing (omega arith)) in
-          let u = unfinished-from P x (writeAt values begun j) n in
+          let f = finished-by P x (writeAt w values begun last) (K .found .passing (omega arith)) in
+          let u = unfinished-from P x (writeAt w values begun j) n in
           let r = begun-rises j last p (omega arith) (K .found .below) in
           absurd (omega arith)
 
-  not-later : (j : ℕ) → j < m → T (finished P x (writeAt values begun j)) → j ≤ last
+  not-later : (j : ℕ) → j < m → T (finished P x (writeAt w values begun j)) → j ≤ last
   not-later j l t = elim (decLe j last) [
     | yes h ↦ h
-    | no h ↦ absurd (T-not (finished P x (writeAt values begun j)) (K .found .failing j (omega arith) l) t)
+    | no h ↦ absurd (T-not (finished P x (writeAt w values begun j)) (K .found .failing j (omega arith) l) t)
   ]
 
-  no-higher : 0 < last → lastFinished P x < pairAt values last → ⊥
+  no-higher : 0 < last → lastFinished P x < pairAt w values last → ⊥
   no-higher p l =
-      T-not (finished P x (writeAt values begun last)) (unfinished-above P x (writeAt values begun last) (write-in last p (K .found .below)) l) (K .found .passing p)
+      T-not (finished P x (writeAt w values begun last)) (unfinished-above P x (writeAt w values begun last) (write-in last p (K .found .below)) l) (K .found .passing p)
 
-  pub last-pair : lastFinished P x ≡ pairAt values last
+  pub last-pair : lastFinished P x ≡ pairAt w values last
   last-pair = go (last-cases P x)
     where
       Either : Type 0
       Either = (lastFinished P x ≡ P .initial) ⊎ ((u : Write) × In u (P .writes) × (lastFinished P x ≡ u .pair) × T (finished P x u))
 
-      by-number : (j : ℕ) → j ≤ last → lastFinished P x ≡ pairAt values j → Dec (j ≡ last) → lastFinished P x ≡ pairAt values last
-      by-number j l e (yes d) = e ∙ ap (pairAt values) d
+      by-number : (j : ℕ) → j ≤ last → lastFinished P x ≡ pairAt w values j → Dec (j ≡ last) → lastFinished P x ≡ pairAt w values last
+      by-number j l e (yes d) = e ∙ ap (pairAt w values) d
       by-number j l e (no d) = absurd (no-higher (omega arith) (omega (arith, pair-rises j last (omega arith))))
 
-      go : Either → lastFinished P x ≡ pairAt values last
+      go : Either → lastFinished P x ≡ pairAt w values last
       go (inl e) = by-number 0 (omega arith) (e ∙ K .tables .initial) (ℕ-discrete 0 last)
       go (inr (u, i, e, t)) =
-          let (j, p, l, w) = in-write u i in
-          by-number j (not-later j l (rw w at t)) (e ∙ ap (λ (z : Write). z .pair) w) (ℕ-discrete j last)
+          let (j, p, l, z) = in-write u i in
+          by-number j (not-later j l (rw z at t)) (e ∙ ap (λ (q : Write). q .pair) z) (ℕ-discrete j last)
 
   -- an allowed pair is the last finished one, or a later one whose write began by the read's end
   pub record AllowedAs (p j : ℕ) : Type 0 where
     pub below : j < m
-    pub same : p ≡ pairAt values j
+    pub same : p ≡ pairAt w values j
     pub cases : (j ≡ last) ⊎ ((last < j) × (getD begun j 0 ≤ readEnd P x))
 
   allowed-number : (p : ℕ) → T (allowed P x p) → (j : ℕ) × AllowedAs p j
@@ -118,7 +118,7 @@ module _ {P : Plan} {x : Read} {values begun : List ℕ} {m last : ℕ} (K : Sou
       go (inl h) = (last, record { below = K .found .below; same = eqb→eq p (lastFinished P x) h ∙ last-pair; cases = inl refl })
       go (inr h) =
           let (u, i, t) = any-in meant (P .writes) h in
-          let (j, z, l, w) = in-write u i in
+          let (j, z, l, y) = in-write u i in
           let e : T (eqb (u .pair) p) = and-l (eqb (u .pair) p) (concurrent P x u) t in
           let c : T (concurrent P x u) = and-r (eqb (u .pair) p) (concurrent P x u) t in
           let n : T (not (finished P x u)) = and-l (not (finished P x u)) (leb (u .begun) (readEnd P x)) c in
@@ -126,55 +126,55 @@ module _ {P : Plan} {x : Read} {values begun : List ℕ} {m last : ℕ} (K : Sou
             j,
             record {
               below = l;
-              same = sym (eqb→eq (u .pair) p e) ∙ ap (λ (q : Write). q .pair) w;
-              cases = inr (after-last j z l (rw w at n), leb→le (getD begun j 0) (readEnd P x) (rw w at b));
+              same = sym (eqb→eq (u .pair) p e) ∙ ap (λ (q : Write). q .pair) y;
+              cases = inr (after-last j z l (rw y at n), leb→le (getD begun j 0) (readEnd P x) (rw y at b));
             },
           )
 
-  later-allowed : (j : ℕ) → last < j → j < m → getD begun j 0 ≤ readEnd P x → T (allowed P x (pairAt values j))
+  later-allowed : (j : ℕ) → last < j → j < m → getD begun j 0 ≤ readEnd P x → T (allowed P x (pairAt w values j))
   unfolding allowed concurrent
   later-allowed j l h b =
-      let u : Write = writeAt values begun j in
-      or-r (eqb (pairAt values j) (lastFinished P x)) _
-      (in-any (λ u. eqb (u .pair) (pairAt values j) && concurrent P x u) u (P .writes) (write-in j (omega arith) h)
-      (and-i (eqb (pairAt values j) (pairAt values j)) (concurrent P x u) (eqb-refl (pairAt values j))
+      let u : Write = writeAt w values begun j in
+      or-r (eqb (pairAt w values j) (lastFinished P x)) _
+      (in-any (λ u. eqb (u .pair) (pairAt w values j) && concurrent P x u) u (P .writes) (write-in j (omega arith) h)
+      (and-i (eqb (pairAt w values j) (pairAt w values j)) (concurrent P x u) (eqb-refl (pairAt w values j))
       (and-i (not (finished P x u)) (leb (getD begun j 0) (readEnd P x)) (K .found .failing j l h) (le→leb (getD begun j 0) (readEnd P x) b))))
 
   -- no pair is allowed by a number without these
-  refused-unless : (v number : ℕ) → v < 65536 → (AllowedAs (stamped 16 v number) number → ⊥) → allowed P x (stamped 16 v number) ≡ false
+  refused-unless : (v number : ℕ) → v < 2 ^ w → (AllowedAs (stamped w v number) number → ⊥) → allowed P x (stamped w v number) ≡ false
   refused-unless v number l f = F-eq (allowed P x p) (not-T (allowed P x p) (λ t. none (allowed-number p t)))
     where
       p : ℕ
-      p = stamped 16 v number
+      p = stamped w v number
 
       none : (j : ℕ) × AllowedAs p j → ⊥
       none (j, S) = f (rw (← same-pair j v number l (S .same) .0) at S)
 
   -- the cases of a value and a number: no such number, not its value, the last finished, an earlier one, a later one
   module _ (v number : ℕ) where
-    pub unknown-number : v < 65536 → m ≤ number → allowed P x (stamped 16 v number) ≡ false
+    pub unknown-number : v < 2 ^ w → m ≤ number → allowed P x (stamped w v number) ≡ false
     unknown-number l h = refused-unless v number l (λ S. omega (arith, S .below))
 
-    pub other-value : v < 65536 → (getD values number 0 ≡ v → ⊥) → allowed P x (stamped 16 v number) ≡ false
+    pub other-value : v < 2 ^ w → (getD values number 0 ≡ v → ⊥) → allowed P x (stamped w v number) ≡ false
     other-value l n = refused-unless v number l (λ S. n (sym (same-pair number v number l (S .same) .1)))
 
-    pub is-last : getD values number 0 ≡ v → number ≡ last → allowed P x (stamped 16 v number) ≡ true
+    pub is-last : getD values number 0 ≡ v → number ≡ last → allowed P x (stamped w v number) ≡ true
     unfolding allowed
     is-last e d =
-        let q : stamped 16 v number ≡ lastFinished P x = rw (← e, d) (sym last-pair) in
-        T-eq (allowed P x (stamped 16 v number))
-        (or-l (eqb (stamped 16 v number) (lastFinished P x)) _ (rw q (eqb-refl (lastFinished P x))))
+        let q : stamped w v number ≡ lastFinished P x = rw (← e, d) (sym last-pair) in
+        T-eq (allowed P x (stamped w v number))
+        (or-l (eqb (stamped w v number) (lastFinished P x)) _ (rw q (eqb-refl (lastFinished P x))))
 
-    pub too-early : getD values number 0 ≡ v → number < last → allowed P x (stamped 16 v number) ≡ false
+    pub too-early : getD values number 0 ≡ v → number < last → allowed P x (stamped w v number) ≡ false
     too-early e l = refused-unless v number (rw e at (K .tables .written .small number))
         (λ S. elim (S .cases) [ inl d ↦ omega arith | inr h ↦ omega arith ])
 
     pub later-by-end : getD values number 0 ≡ v → last < number → number < m
-        → allowed P x (stamped 16 v number) ≡ leb (getD begun number 0) (readEnd P x)
+        → allowed P x (stamped w v number) ≡ leb (getD begun number 0) (readEnd P x)
     later-by-end e l h = rw (← e) (T-iff (allowed P x p) inside to (λ t. later-allowed number l h (leb→le (getD begun number 0) (readEnd P x) t)))
       where
         p : ℕ
-        p = pairAt values number
+        p = pairAt w values number
 
         inside : Bool
         inside = leb (getD begun number 0) (readEnd P x)

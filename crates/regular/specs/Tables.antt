@@ -9,9 +9,9 @@ use Rattle.register.specs.Plan.{Plan, stamped}
 use Rattle.script.specs.Operations.{noWrite, Written}
 
 -- the tables have the plan's initial pair and its writes, which begin one after the other
-pub record Tables (P : Plan) (values begun : List ℕ) (m : ℕ) : Type 0 where
-  pub initial : P .initial ≡ stamped 16 (getD values 0 0) 0
-  pub written : Written (P .writes) (getD values 0 0) values begun m
+pub record Tables (w : ℕ) (P : Plan) (values begun : List ℕ) (m : ℕ) : Type 0 where
+  pub initial : P .initial ≡ stamped w (getD values 0 0) 0
+  pub written : Written w (P .writes) (getD values 0 0) values begun m
   pub rising : (i j : ℕ) → i < j → j < length (P .writes) → getD (P .writes) i noWrite .begun < getD (P .writes) j noWrite .begun
 
 -- r is the last of the numbers 1 .. m - 1 that passes the test, or 0

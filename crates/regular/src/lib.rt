@@ -49,9 +49,9 @@ pub fn is_allowed(
     value: u32,
     number: u8,
 ) -> bool
-    requires { ⌜ (1 ≤ m) × (m ≤ 65) × (value < 2 ^ 16) ⌝ }
-    ensures { λ r. ⌜ ((P : Plan) (x : Read) → Tables P (now (values .entry)) (now (begun .entry)) m → P .delta ≡ delta → x .begun ≡ read
-        → r ≡ allowed P x (stamped 16 value number)) ⌝ }
+    requires { ⌜ (1 ≤ m) × (m ≤ 65) ⌝ }
+    ensures { λ r. ⌜ ((w : ℕ) (P : Plan) (x : Read) → value < 2 ^ w → Tables w P (now (values .entry)) (now (begun .entry)) m → P .delta ≡ delta → x .begun ≡ read
+        → r ≡ allowed P x (stamped w value number)) ⌝ }
 {
     let last = last_finished(begun, m, delta, read);
     let j = number as usize;

@@ -8,16 +8,16 @@ use native.Mathlib.Omega.{arith}
 use lib.Dec.{ltb}
 use lib.ListN.{length, take, drop}
 use borrow.Author.Tests.{ltb-false}
-use Rattle.plan.specs.Check.{Outcome, refused, result, checkOf}
-use Rattle.answers.specs.Answers.{answersOf}
-use Rattle.answers.specs.Workspace.{workspaceSize, zeroed}
+use Rattle.plan.specs.{Form.widthOf, Check.Outcome, Check.refused, Check.result, Check.checkIn}
+use Rattle.plan.proofs.Forms.{form-passed, form-known}
+use Rattle.answers.specs.{Answers.answerSize, Answers.answersOf, Workspace.workspaceSize, Workspace.zeroed}
 use Rattle.simulator.specs.declared.judge.Judged.{Judged}
 use Rattle.simulator.specs.declared.judge.Judged.the-variants as J
 use Rattle.simulator.specs.declared.rehearse.Rehearsed.{Rehearsed as Ended}
 use Rattle.simulator.specs.declared.rehearse.Rehearsed.the-variants as E
-use Rattle.simulator.specs.Play.{Played, playRefused, playAfter, playOf}
-use Rattle.simulator.specs.Judge.{judgeOf}
-use Rattle.simulator.specs.Rehearse.{Verdict, yes, Rehearsed, verdictOn, rehearseAfter, rehearseFrom, rehearseOf}
+use Rattle.simulator.specs.Play.{Played, playRefused, playAfter, playIn}
+use Rattle.simulator.specs.Judge.{judgeAfter, judgeOf, judgeIn}
+use Rattle.simulator.specs.Rehearse.{Verdict, yes, Rehearsed, verdictOn, rehearseAfter, rehearseFrom, rehearseIn}
 use Rattle.simulator.specs.Numbered.{judged, saysYes, NotNo}
 use Rattle.simulator.proofs.Promised.{reads-few}
 
@@ -37,43 +37,51 @@ unfolding isNo
 not-no r e = record { never = λ q. let z : true ≡ false = sym (ap isNo q) ∙ e in let y : _≡_ {A = ℕ} 0 1 = cc in omega arith }
 
 -- what Play has not refused: the plan is accepted, and the answers have their room
-room-after : (s answers workspace : List ℕ) (m : ℕ) (o : Outcome ℕ) → playAfter 16 s answers workspace o .outcome ≡ result m → (o ≡ result m) × (5 * m ≤ length answers)
+room-after : (w : ℕ) (s answers workspace : List ℕ) (m : ℕ) (o : Outcome ℕ) → playAfter w s answers workspace o .outcome ≡ result m → (o ≡ result m) × (answerSize w * m ≤ length answers)
 unfolding playAfter
-room-after s answers workspace m (refused n) e = let z : _≡_ {A = ℕ} 0 1 = cc in absurd (omega arith)
-room-after s answers workspace m (result k) e = go (ltb (length answers) (5 * k)) (ltb (length workspace) workspaceSize) refl e
+room-after w s answers workspace m (refused n) e = let z : _≡_ {A = ℕ} 0 1 = cc in absurd (omega arith)
+room-after w s answers workspace m (result k) e = go (ltb (length answers) (answerSize w * k)) (ltb (length workspace) workspaceSize) refl e
   where
-    go : (x y : Bool) → ltb (length answers) (5 * k) ≡ x
-        → (cond x (playRefused 16 s answers workspace 9) (cond y (playRefused 16 s answers workspace 10) (record {
+    go : (x y : Bool) → ltb (length answers) (answerSize w * k) ≡ x
+        → (cond x (playRefused w s answers workspace 9) (cond y (playRefused w s answers workspace 10) (record {
           outcome = result k;
-          answers = answersOf 16 s ++ drop (5 * k) answers;
+          answers = answersOf w s ++ drop (answerSize w * k) answers;
           workspace = zeroed workspace;
         }))) .outcome ≡ result m
-        → (result k ≡ result m) × (5 * m ≤ length answers)
+        → (result k ≡ result m) × (answerSize w * m ≤ length answers)
     go true y h q = let z : _≡_ {A = ℕ} 0 1 = cc in absurd (omega arith)
     go false true h q = let z : _≡_ {A = ℕ} 0 1 = cc in absurd (omega arith)
-    go false false h q = let z : k ≡ m = cc in (q, omega (arith, ltb-false (length answers) (5 * k) h))
+    go false false h q = let z : k ≡ m = cc in (q, rw (← z) (ltb-false (length answers) (answerSize w * k) h))
 
-pub play-room : (s answers workspace : List ℕ) (p : Played) (m : ℕ) → p ≡ playOf 16 s answers workspace → p .outcome ≡ result m
-    → (m ≤ 255) × (5 * m ≤ length answers)
-unfolding playOf
-play-room s answers workspace p m is e =
-    let r = room-after s answers workspace m (checkOf 16 s) (sym (ap (λ (x : Played). x .outcome) is) ∙ e) in
-    (reads-few s m (r .0), r .1)
+-- In a form, whose values have w bits.
+module _ (form : ℕ) (s answers workspace : List ℕ) (p : Played) (is : p ≡ playIn form s answers workspace) where
+  abbrev w : ℕ
+  w = widthOf form
 
-module _ (s answers workspace : List ℕ) (p : Played) (is : p ≡ playOf 16 s answers workspace) where
+  pub play-room : (m : ℕ) → p .outcome ≡ result m → (checkIn form s ≡ result m) × (m ≤ 255) × (answerSize w * m ≤ length answers)
+  unfolding playIn
+  play-room m e =
+      let r = room-after w s answers workspace m (checkIn form s) (sym (ap (λ (x : Played). x .outcome) is) ∙ e) in
+      (r .0, reads-few w s m (form-passed form s m (r .0) .1), r .1)
+
   abbrev leaves : Outcome Verdict → Rehearsed
   leaves o = record { outcome = o; answers = p .answers; workspace = p .workspace }
 
-  from-play : (o : Outcome Verdict) → rehearseAfter 16 s (p .outcome) (p .answers) ≡ o → leaves o ≡ rehearseOf 16 s answers workspace
-  unfolding rehearseFrom rehearseOf
-  from-play o e = ap leaves (sym e) ∙ ap (rehearseFrom 16 s) is
+  from-play : (o : Outcome Verdict) → rehearseAfter w s (p .outcome) (p .answers) ≡ o → leaves o ≡ rehearseIn form s answers workspace
+  unfolding rehearseFrom rehearseIn
+  from-play o e = ap leaves (sym e) ∙ ap (rehearseFrom w s) is
 
-  pub rehearse-refused : (n : ℕ) → p .outcome ≡ refused n → leaves (refused n) ≡ rehearseOf 16 s answers workspace
+  pub rehearse-refused : (n : ℕ) → p .outcome ≡ refused n → leaves (refused n) ≡ rehearseIn form s answers workspace
   unfolding rehearseAfter
-  rehearse-refused n e = from-play (refused n) (ap (λ (o : Outcome ℕ). rehearseAfter 16 s o (p .answers)) e)
+  rehearse-refused n e = from-play (refused n) (ap (λ (o : Outcome ℕ). rehearseAfter w s o (p .answers)) e)
 
-  pub rehearse-yes : (m : ℕ) → p .outcome ≡ result m → judgeOf 16 s (take (5 * m) (p .answers)) ≡ result true
-      → leaves (result (yes m)) ≡ rehearseOf 16 s answers workspace
+  pub rehearse-yes : (m : ℕ) → p .outcome ≡ result m → judgeOf w s (take (answerSize w * m) (p .answers)) ≡ result true
+      → leaves (result (yes m)) ≡ rehearseIn form s answers workspace
   unfolding rehearseAfter verdictOn
   rehearse-yes m e j =
-      from-play (result (yes m)) (ap (λ (o : Outcome ℕ). rehearseAfter 16 s o (p .answers)) e ∙ ap (verdictOn m) j)
+      from-play (result (yes m)) (ap (λ (o : Outcome ℕ). rehearseAfter w s o (p .answers)) e ∙ ap (verdictOn m) j)
+
+  -- Judge in the form is Judge at its width
+  pub judge-at : (m : ℕ) → p .outcome ≡ result m → (a : List ℕ) → judgeIn form s a ≡ judgeOf w s a
+  unfolding judgeIn judgeOf
+  judge-at m e a = ap (judgeAfter w s a) (form-known form s (form-passed form s m (play-room m e .0) .0))

@@ -1,8 +1,8 @@
 // A rehearsal in one call: Play, then Judge over the answers that it wrote.
 ghost use mathlib.Core.Path.{_≡_};
-ghost use Rattle.simulator.specs.Rehearse.{rehearseOf};
+ghost use Rattle.simulator.specs.Rehearse.{rehearseIn};
 ghost use Rattle.simulator.specs.Numbered.{rehearsed, saysYes, NotNo};
-use plan::header::Shape;
+use plan::form;
 use simulator::judge::Judged;
 use simulator::play::Played;
 use simulator::rehearse::Rehearsed;
@@ -18,16 +18,16 @@ fn is_yes(verdict: Judged) -> bool
 }
 
 // It is never No: point 3.
-pub fn rehearse(plan: &[u8], answers: &mut [u8], work: &mut [u8]) -> Rehearsed
-    ensures { λ r. ⌜ record { outcome = rehearsed r; answers = now (answers .exit); workspace = now (work .exit) } ≡ rehearseOf 16 (now (plan .entry)) (now (answers .entry)) (now (work .entry)) ⌝ }
+pub fn rehearse(form: usize, plan: &[u8], answers: &mut [u8], work: &mut [u8]) -> Rehearsed
+    ensures { λ r. ⌜ record { outcome = rehearsed r; answers = now (answers .exit); workspace = now (work .exit) } ≡ rehearseIn form (now (plan .entry)) (now (answers .entry)) (now (work .entry)) ⌝ }
     ensures { λ r. ⌜ NotNo r ⌝ }
 {
-    let played = play::play(plan, answers, work);
+    let played = play::play(form, plan, answers, work);
     match played {
         Played::Refused(why) => Rehearsed::Refused(why),
         Played::Reads(reads) => {
-            let end = Shape::ANSWER_BYTES * reads;
-            if is_yes(judge::judge(plan, &answers[..end])) {
+            let end = answers::size(form::width(form)) * reads;
+            if is_yes(judge::judge(form, plan, &answers[..end])) {
                 return Rehearsed::Yes(reads);
             }
             Rehearsed::No

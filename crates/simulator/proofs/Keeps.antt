@@ -57,24 +57,24 @@ module _ (P : Plan) where
   keeps one (suc t) b l = rw (cluster-servers P t b l) (step-keeps t b (cluster P t .log) (serverOf (cluster P t) b) (keeps one t b l))
 
 -- so Look shows no pair of a faulty server, and every place of its array is empty
-module _ (s : List ℕ) (t b : ℕ) (l : b < headerOf 16 s .n) where
+module _ (w : ℕ) (s : List ℕ) (t b : ℕ) (l : b < headerOf w s .n) where
   abbrev seen : Server
-  seen = serverOf (cluster (planOf 16 s) t) b
+  seen = serverOf (cluster (planOf w s) t) b
 
-  shown-keeps : Keeps (planOf 16 s) seen
+  shown-keeps : Keeps (planOf w s) seen
   unfolding planOf
-  shown-keeps = keeps (planOf 16 s) (omega arith) t b l
+  shown-keeps = keeps (planOf w s) (omega arith) t b l
 
   module _ (h : T (isFaulty (seen .status))) where
-    pub faulty-shows-none : shownBy 16 seen .pairs ≡ []
+    pub faulty-shows-none : shownBy w seen .pairs ≡ []
     unfolding shownBy
     faulty-shows-none = rw (shown-keeps .0 h)
 
-    pub faulty-places-empty : placesOf (shownBy 16 seen .pairs) ≡ replicate storeDepth emptyPlace
+    pub faulty-places-empty : placesOf (shownBy w seen .pairs) ≡ replicate storeDepth emptyPlace
     unfolding placesOf
     faulty-places-empty = rw faulty-shows-none
 
   -- and of none more than the array has places
-  pub few-shown : length (shownBy 16 seen .pairs) ≤ storeDepth
+  pub few-shown : length (shownBy w seen .pairs) ≤ storeDepth
   unfolding shownBy planOf
   few-shown = rw (length-map (seen .kept) _) (shown-keeps .1)

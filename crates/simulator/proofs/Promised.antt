@@ -6,35 +6,50 @@ use mathlib.Core.List.{List}
 use Prim.Native.Nat.{ℕ, _*_, _≤_}
 use native.Mathlib.Omega.{arith}
 use lib.ListN.{take}
-use Rattle.plan.specs.Check.{Outcome, refused, result, checkOf}
+use Rattle.plan.specs.Form.{widthOf}
+use Rattle.plan.specs.Check.{Outcome, refused, result, checkOf, checkIn}
 use Rattle.plan.proofs.Accept.{playable, reads-counted, in-range}
+use Rattle.plan.proofs.Forms.{form-passed, form-known}
 use Rattle.plan.proofs.AcceptReads.{few-reads}
-use Rattle.simulator.specs.Play.{Played, playAfter, playOf}
+use Rattle.answers.specs.Answers.{answerSize}
+use Rattle.simulator.specs.Play.{Played, playAfter, playOf, playIn}
 use Rattle.simulator.specs.Judge.{judgeOf}
 use Rattle.simulator.specs.PointThree.{PointThree}
 use Rattle.simulator.specs.Promised.{Promised}
 use Rattle.simulator.proofs.PointThree.{pointThree}
 
 -- an accepted plan has at most 255 reads
-pub reads-few : (s : List ℕ) (m : ℕ) → checkOf 16 s ≡ result m → m ≤ 255
-reads-few s m e = omega (arith, reads-counted 16 s m e, few-reads 16 s, in-range 16 s (playable 16 s m e) .operations-hi)
+pub reads-few : (w : ℕ) (s : List ℕ) (m : ℕ) → checkOf w s ≡ result m → m ≤ 255
+reads-few w s m e = omega (arith, reads-counted w s m e, few-reads w s, in-range w s (playable w s m e) .operations-hi)
 
--- who is not refused by Play is not refused by Check
-point-after : (s answers workspace : List ℕ) (k : ℕ) (o : Outcome ℕ) → checkOf 16 s ≡ o → playAfter 16 s answers workspace o .outcome ≡ result k → PointThree 16 s
-unfolding playAfter
-point-after s answers workspace k (refused n) e q = let z : _≡_ {A = ℕ} 0 1 = cc in absurd (omega arith)
-point-after s answers workspace k (result m) e q = pointThree 16 s m e
+-- In a form: who is not refused by Play is not refused by Check.
+module _ (form : ℕ) (s answers workspace : List ℕ) where
+  abbrev w : ℕ
+  w = widthOf form
 
-module _ (s answers workspace : List ℕ) (p : Played) (is : p ≡ playOf 16 s answers workspace) where
-  plays : (k : ℕ) → p .outcome ≡ result k → playOf 16 s answers workspace .outcome ≡ result k
-  plays k q = sym (ap (λ (x : Played). x .outcome) is) ∙ q
+  after : (k : ℕ) (o : Outcome ℕ) → checkIn form s ≡ o → playAfter w s answers workspace o .outcome ≡ result k → (m : ℕ) × (checkIn form s ≡ result m)
+  unfolding playAfter
+  after k (refused n) e q = let z : _≡_ {A = ℕ} 0 1 = cc in absurd (omega arith)
+  after k (result m) e q = (m, e)
 
-  point : (k : ℕ) → p .outcome ≡ result k → PointThree 16 s
-  unfolding playOf
-  point k q = point-after s answers workspace k (checkOf 16 s) refl (plays k q)
+  module _ (p : Played) (is : p ≡ playIn form s answers workspace) where
+    plays : (k : ℕ) → p .outcome ≡ result k → playIn form s answers workspace .outcome ≡ result k
+    plays k q = sym (ap (λ (x : Played). x .outcome) is) ∙ q
 
-  judged : (k : ℕ) → p .outcome ≡ result k → judgeOf 16 s (take (5 * k) (p .answers)) ≡ result true
-  judged k q = rw (ap (λ (x : Played). x .answers) is) (point k q .judged answers workspace k (plays k q))
+    accepted : (k : ℕ) → p .outcome ≡ result k → (m : ℕ) × (checkIn form s ≡ result m)
+    unfolding playIn
+    accepted k q = after k (checkIn form s) refl (plays k q)
 
-  pub promised : Promised s (p .outcome) (p .answers)
-  promised = record { point = point; judged = judged }
+    point : (k : ℕ) → p .outcome ≡ result k → PointThree w s
+    point k q = let (m, e) = accepted k q in pointThree w s m (form-passed form s m e .1)
+
+    -- in a form that there is, it is Play at the form's width
+    same : (k : ℕ) → p .outcome ≡ result k → p ≡ playOf w s answers workspace
+    unfolding playOf playIn
+    same k q = let (m, e) = accepted k q in is ∙ ap (playAfter w s answers workspace) (form-known form s (form-passed form s m e .0))
+
+    judged : (k : ℕ) → p .outcome ≡ result k → judgeOf w s (take (answerSize w * k) (p .answers)) ≡ result true
+    judged k q = rw (ap (λ (x : Played). x .answers) (same k q)) (point k q .judged answers workspace k (sym (ap (λ (x : Played). x .outcome) (same k q)) ∙ q))
+
+    pub promised : Promised w s (p .outcome) (p .answers)
+    promised = record { point = point; judged = judged }

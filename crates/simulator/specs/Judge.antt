@@ -8,7 +8,8 @@ use Rattle.register.specs.Lists.{allUpTo}
 use Rattle.register.specs.Plan.{Plan, Read}
 use Rattle.register.specs.Regular.{allowed}
 use Rattle.plan.specs.Packed.{planOf}
-use Rattle.plan.specs.Check.{Outcome, refused, result, unless, checkOf}
+use Rattle.plan.specs.Form.{widthOf}
+use Rattle.plan.specs.Check.{Outcome, refused, result, unless, checkOf, checkIn}
 use Rattle.answers.specs.Answers.{answerSize, beginIn, readerIn, pairIn, zeroIn}
 
 -- read i of a plan
@@ -36,3 +37,7 @@ module _ (w : ℕ) (s a : List ℕ) where
   -- 'Check's refusals; 12 length other than 5 times the reads; 13 .. Then yes or no'
   unfoldable pub judgeOf : Outcome Bool
   judgeOf = judgeAfter (checkOf w s)
+
+-- Ten: 'The caller names the form'; '12 count[s] the form's answer bytes'
+unfoldable pub judgeIn : ℕ → List ℕ → List ℕ → Outcome Bool
+judgeIn form s a = judgeAfter (widthOf form) s a (checkIn form s)

@@ -9,7 +9,8 @@ use Rattle.register.specs.Server.{Server, Status, faulty, cured, correct}
 use Rattle.register.specs.Cluster.{cluster, serverOf}
 use Rattle.plan.specs.Header.{Header, headerOf}
 use Rattle.plan.specs.Packed.{storeDepth, planOf}
-use Rattle.plan.specs.Check.{Outcome, refused, result, checkOf}
+use Rattle.plan.specs.Form.{widthOf}
+use Rattle.plan.specs.Check.{Outcome, refused, result, checkOf, checkIn}
 use Rattle.simulator.specs.declared.look.Place.{Place}
 use Rattle.answers.specs.Workspace.{workspaceSize, zeroed}
 
@@ -78,3 +79,7 @@ module _ (w : ℕ) (s workspace : List ℕ) (b t : ℕ) where
   -- 'Look at a box after a tick, same workspace and rule for it. Check's refusals; then 10; 11 box not below n, or tick not below H.'
   unfoldable pub lookOf : Looked
   lookOf = lookAfter (checkOf w s)
+
+-- Ten: 'The caller names the form'
+unfoldable pub lookIn : ℕ → List ℕ → List ℕ → ℕ → ℕ → Looked
+lookIn form s workspace b t = lookAfter (widthOf form) s workspace b t (checkIn form s)

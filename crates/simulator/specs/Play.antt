@@ -4,7 +4,8 @@ use mathlib.Core.List.{List, _++_}
 use Prim.Native.Nat.{ℕ, _*_}
 use lib.Dec.{ltb}
 use lib.ListN.{length, drop}
-use Rattle.plan.specs.Check.{Outcome, refused, result, checkOf}
+use Rattle.plan.specs.Form.{widthOf}
+use Rattle.plan.specs.Check.{Outcome, refused, result, checkOf, checkIn}
 use Rattle.answers.specs.Answers.{answerSize, answersOf}
 use Rattle.answers.specs.Workspace.{workspaceSize, zeroed}
 
@@ -32,3 +33,7 @@ module _ (w : ℕ) (s answers workspace : List ℕ) where
   -- answers are unchanged'
   unfoldable pub playOf : Played
   playOf = playAfter (checkOf w s)
+
+-- Ten: 'The caller names the form'; '9 .. count[s] the form's answer bytes'
+unfoldable pub playIn : ℕ → List ℕ → List ℕ → List ℕ → Played
+playIn form s answers workspace = playAfter (widthOf form) s answers workspace (checkIn form s)

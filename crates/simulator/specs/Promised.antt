@@ -9,8 +9,8 @@ use Rattle.answers.specs.Answers.{answerSize}
 use Rattle.simulator.specs.Judge.{judgeOf}
 use Rattle.simulator.specs.PointThree.{PointThree}
 
-pub record Promised (s : List ℕ) (outcome : Outcome ℕ) (answers : List ℕ) : Type 0 where
+pub record Promised (w : ℕ) (s : List ℕ) (outcome : Outcome ℕ) (answers : List ℕ) : Type 0 where
   -- the plan has point 3, whole
-  pub point : (m : ℕ) → outcome ≡ result m → PointThree 16 s
+  pub point : (m : ℕ) → outcome ≡ result m → PointThree w s
   -- and Judge says yes to the answers that stand in the buffer
-  pub judged : (m : ℕ) → outcome ≡ result m → judgeOf 16 s (take (answerSize 16 * m) answers) ≡ result true
+  pub judged : (m : ℕ) → outcome ≡ result m → judgeOf w s (take (answerSize w * m) answers) ≡ result true

@@ -3,9 +3,10 @@ use mathlib.Core.Bool.{Bool, true, false}
 use mathlib.Core.List.{List}
 use Prim.Native.Nat.{ℕ, _*_}
 use lib.ListN.{take}
+use Rattle.plan.specs.Form.{widthOf}
 use Rattle.plan.specs.Check.{Outcome, refused, result}
 use Rattle.answers.specs.Answers.{answerSize}
-use Rattle.simulator.specs.Play.{Played, playOf}
+use Rattle.simulator.specs.Play.{Played, playOf, playIn}
 use Rattle.simulator.specs.Judge.{judgeOf}
 
 -- Judge's verdict on so many reads
@@ -33,3 +34,7 @@ module _ (w : ℕ) (s : List ℕ) where
 
   unfoldable pub rehearseOf : List ℕ → List ℕ → Rehearsed
   rehearseOf answers workspace = rehearseFrom (playOf w s answers workspace)
+
+-- Ten: 'The caller names the form'
+unfoldable pub rehearseIn : ℕ → List ℕ → List ℕ → List ℕ → Rehearsed
+rehearseIn form s answers workspace = rehearseFrom (widthOf form) s (playIn form s answers workspace)

@@ -10,19 +10,21 @@ use lib.ListN.{getD}
 use denote.Ref.{now}
 use Rattle.register.specs.Lists.{allUpTo}
 use Rattle.plan.proofs.Laws.{all-none, all-more, all-stop, all-end}
+use Rattle.script.proofs.Records.{times-more}
+use Rattle.answers.specs.Answers.{answerSize}
 use Rattle.judge.specs.Fitting.{fitsRead}
 use Rattle.judge.proofs.all_fit.Statement.{statement}
 use Rattle.judge.proofs.all_fit.Tie as tie
 
 -- answer i fits its read
-abbrev fits : List ℕ → List ℕ → List ℕ → ℕ → Bool
-fits answers begun reader i = fitsRead answers i (getD begun i 0) (getD reader i 0)
+abbrev fits : ℕ → List ℕ → List ℕ → List ℕ → ℕ → Bool
+fits width answers begun reader i = fitsRead width answers i (getD begun i 0) (getD reader i 0)
 
 abbrev Inv-loop : tie.InvT-loop
-Inv-loop answers begun reader count i₀ i = (i ≤ count) × (allUpTo i (fits answers begun reader) ≡ true)
+Inv-loop answers width begun reader count i₀ i = (i ≤ count) × (allUpTo i (fits width answers begun reader) ≡ true)
 
 abbrev μ-loop : tie.MeasureT-loop
-μ-loop answers begun reader count i₀ i = count - i
+μ-loop answers width begun reader count i₀ i = count - i
 
 loop-holds : tie.Need-loop-holds Inv-loop μ-loop
 loop-holds c = (search needs, all-none _)
@@ -34,13 +36,17 @@ element-copy-out-is-fitting-2 : tie.Need-element-copy-out-is-fitting-2 Inv-loop 
 element-copy-out-is-fitting-2 c = search needs
 
 is-fitting-requires : tie.Need-is-fitting-requires Inv-loop μ-loop
-is-fitting-requires c κs = search needs
+is-fitting-requires c κs =
+    let s = c .before .before .before .before .before in
+    let i = c .before .before .before .loop .i in
+    let l = c .before .before .loop-test .taken in
+    (omega (arith, s .pre .2, times-more (answerSize (s .args .width)) i (s .args .count) l), omega (arith, s .pre .0), s .pre .1)
 
 returns : tie.Need-returns Inv-loop μ-loop
 returns c =
     let a = c .before .before .before .before .before .before .before .args in
     let l = c .before .before .before .before .before .loop in
-    sym (all-stop (fits (now (a .answers)) (now (a .begun)) (now (a .reader))) (l .i) (a .count) (omega arith)
+    sym (all-stop (fits (a .width) (now (a .answers)) (now (a .begun)) (now (a .reader))) (l .i) (a .count) (omega arith)
     (sym (c .before .is-fitting .ensures) ∙ not-true _ (c .if1 .taken)))
 
 add-i : tie.Need-add-i Inv-loop μ-loop
@@ -54,7 +60,7 @@ loop-again c =
     let a = c .before .before .before .before .before .before .before .args in
     let l = c .before .before .before .before .before .loop in (
       search needs,
-      all-more (fits (now (a .answers)) (now (a .begun)) (now (a .reader))) (l .i) (l .inv .1)
+      all-more (fits (a .width) (now (a .answers)) (now (a .begun)) (now (a .reader))) (l .i) (l .inv .1)
           (sym (c .before .is-fitting .ensures) ∙ not-false _ (c .if1 .left)),
     )
 
@@ -62,7 +68,7 @@ returns-2 : tie.Need-returns-2 Inv-loop μ-loop
 returns-2 c =
     let a = c .before .before .before .args in
     let l = c .before .loop in
-    all-end (fits (now (a .answers)) (now (a .begun)) (now (a .reader))) (l .i) (a .count) (omega arith) (omega arith) (l .inv .1)
+    all-end (fits (a .width) (now (a .answers)) (now (a .begun)) (now (a .reader))) (l .i) (a .count) (omega arith) (omega arith) (l .inv .1)
 
 pub all-fit-spec : {M : Type 1} → statement M
 all-fit-spec =

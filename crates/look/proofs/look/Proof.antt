@@ -1,13 +1,24 @@
 -- `look` meets its contract: each way that it ends is its definition's.
-use mathlib.Core.Path.{sym, ap, _∙_}
+use mathlib.Core.Path.{_≡_, sym, ap, _∙_}
 use native.Mathlib.Omega.{arith}
-use borrow.Author.Needs.{needs}
-use Rattle.plan.specs.Header.{Header}
-use Rattle.plan.specs.Numbered.{numbered}
-use Rattle.plan.proofs.Accept.{playable, header-there}
+use denote.Ref.{now}
+use Rattle.plan.specs.{Form.widthOf, Header.Header, Header.headerOf, Check.result, Check.checkOf, Check.checkIn, Shape.shape, Numbered.numbered}
+use Rattle.plan.proofs.{Accept.playable, Accept.header-there, Forms.form-passed}
 use Rattle.look.proofs.LookCases.{look-checked, look-ten, look-server, look-tick, look-done, shown}
+use borrow.Author.Needs.{needs}
 use Rattle.look.proofs.look.Statement.{statement}
 use Rattle.look.proofs.look.Tie as tie
+
+-- the plan that Check accepted, in its form and at its width
+accepted : (c : tie.After-known-told2) → checkIn (c .before .before .before .before .before .before .args .form) (now (c .before .before .before .before .before .before .args .plan)) ≡ result (c .before .checked2 .given .0 .0)
+accepted c = sym (c .before .before .before .check .ensures) ∙ ap numbered (c .before .checked2 .given .1)
+
+checked-at : (c : tie.After-width) → checkOf (c .width .result) (now (c .before .before .before .before .before .before .before .before .args .plan)) ≡ result (c .before .before .before .checked2 .given .0 .0)
+checked-at c = rw (c .width .ensures .0) (form-passed _ _ _ (accepted (c .before .before)) .1)
+
+-- the header that was read is the plan's
+header : (c : tie.After-read) → shape (c .read .result) ≡ headerOf (widthOf (c .before .before .before .before .before .before .before .before .before .args .form)) (now (c .before .before .before .before .before .before .before .before .before .args .plan))
+header c = rw (c .before .width .ensures .0) at (c .read .ensures .0)
 
 check-requires : tie.Need-check-requires
 check-requires c κs = search needs
@@ -25,10 +36,13 @@ refusal-requires-2 : tie.Need-refusal-requires-2
 refusal-requires-2 c κs = search needs
 
 returns : tie.Need-returns
-returns c = rw (c .refusal2 .ensures) (look-ten _ _ _ _ _ (sym (c .before .before .before .before .before .check .ensures) ∙ ap numbered (c .before .before .before .checked2 .given .1)) (c .before .if1 .taken))
+returns c = rw (c .refusal2 .ensures) (look-ten _ _ _ _ _ _ (accepted (c .before .before)) (c .before .if1 .taken))
+
+width-requires : tie.Need-width-requires
+width-requires c κs = search needs
 
 read-requires : tie.Need-read-requires
-read-requires c κs = header-there 16 _ (playable 16 _ _ (sym (c .before .before .before .before .check .ensures) ∙ ap numbered (c .before .before .checked2 .given .1)))
+read-requires c κs = (header-there _ _ (playable _ _ _ (checked-at c)), c .width .ensures .1)
 
 cast-if2 : tie.Need-cast-if2
 cast-if2 c = search needs
@@ -38,8 +52,9 @@ refusal-requires-3 c κs = search needs
 
 returns-2 : tie.Need-returns-2
 returns-2 c =
-    let n = ap (λ (h : Header). h .n) (c .before .before .before .read .ensures) in
-    rw (c .refusal3 .ensures) (look-server _ _ _ _ _ (sym (c .before .before .before .before .before .before .before .before .check .ensures) ∙ ap numbered (c .before .before .before .before .before .before .checked2 .given .1)) (c .before .before .before .before .if1 .left) (omega (arith, n, c .before .if2 .taken)))
+    let l = c .before .before .before in
+    let n = ap (λ (h : Header). h .n) (header l) in
+    rw (c .refusal3 .ensures) (look-server _ _ _ _ _ _ (accepted (l .before .before .before)) (l .before .before .if1 .left) (omega (arith, n, c .before .if2 .taken)))
 
 cast-if3 : tie.Need-cast-if3
 cast-if3 c = search needs
@@ -49,18 +64,21 @@ refusal-requires-4 c κs = search needs
 
 returns-3 : tie.Need-returns-3
 returns-3 c =
-    let n = ap (λ (h : Header). h .n) (c .before .before .before .before .before .read .ensures) in
-    let t = ap (λ (h : Header). h .ticks) (c .before .before .before .before .before .read .ensures) in
-    rw (c .refusal4 .ensures) (look-tick _ _ _ _ _ (sym (c .before .before .before .before .before .before .before .before .before .before .check .ensures) ∙ ap numbered (c .before .before .before .before .before .before .before .before .checked2 .given .1)) (c .before .before .before .before .before .before .if1 .left) (omega (arith, n, c .before .before .before .if2 .left)) (omega (arith, t, c .before .if3 .taken)))
+    let l = c .before .before .before .before .before in
+    let n = ap (λ (h : Header). h .n) (header l) in
+    let t = ap (λ (h : Header). h .ticks) (header l) in
+    rw (c .refusal4 .ensures)
+    (look-tick _ _ _ _ _ _ (accepted (l .before .before .before)) (l .before .before .if1 .left) (omega (arith, n, c .before .before .before .if2 .left)) (omega (arith, t, c .before .if3 .taken)))
 
 cast-look : tie.Need-cast-look
 cast-look c = search needs
 
 look-requires : tie.Need-look-requires
 look-requires c κs =
-    let n = ap (λ (h : Header). h .n) (c .before .before .before .before .before .read .ensures) in
-    let t = ap (λ (h : Header). h .ticks) (c .before .before .before .before .before .read .ensures) in
-    (playable 16 _ _ (sym (c .before .before .before .before .before .before .before .before .before .before .check .ensures) ∙ ap numbered (c .before .before .before .before .before .before .before .before .checked2 .given .1)), c .before .before .before .before .before .before .if1 .left, omega (arith, n, c .before .before .before .if2 .left), omega (arith, t, c .before .if3 .left))
+    let l = c .before .before .before .before .before in
+    let n = ap (λ (h : Header). h .n) (l .read .ensures .0) in
+    let t = ap (λ (h : Header). h .ticks) (l .read .ensures .0) in
+    (playable _ _ _ (checked-at (l .before)), l .before .width .ensures .1, l .before .before .if1 .left, omega (arith, n, c .before .before .before .if2 .left), omega (arith, t, c .before .if3 .left))
 
 condition-requires : tie.Need-condition-requires
 condition-requires c κs = search needs
@@ -72,18 +90,22 @@ shown-places-requires : tie.Need-shown-places-requires
 shown-places-requires c κs = search needs
 
 returns-4 : tie.Need-returns-4
-returns-4 c = rw (c .refusal .ensures) (look-checked _ _ _ _ _ (sym (c .before .before .before .before .check .ensures) ∙ ap numbered (c .before .before .checked .given .1)))
+returns-4 c =
+    rw (c .refusal .ensures) (look-checked _ _ _ _ _ _ (sym (c .before .before .before .before .check .ensures) ∙ ap numbered (c .before .before .checked .given .1)))
 
 same-length : tie.Need-same-length
 same-length c = search needs
 
 returns-5 : tie.Need-returns-5
 returns-5 c =
-    let n = ap (λ (h : Header). h .n) (c .before .before .before .before .before .before .before .before .before .before .before .before .before .before .before .read .ensures) in
-    let t = ap (λ (h : Header). h .ticks) (c .before .before .before .before .before .before .before .before .before .before .before .before .before .before .before .read .ensures) in
+    let l = c .before .before .before .before .before .before .before .before .before .before .before .before .before .before .before in
+    let n = ap (λ (h : Header). h .n) (header l) in
+    let t = ap (λ (h : Header). h .ticks) (header l) in
     let d = c .before .before .before .before .before .before .before .before .before .look in
-    look-done _ _ _ _ _ (sym (c .before .before .before .before .before .before .before .before .before .before .before .before .before .before .before .before .before .before .before .before .check .ensures) ∙ ap numbered (c .before .before .before .before .before .before .before .before .before .before .before .before .before .before .before .before .before .before .checked2 .given .1)) (c .before .before .before .before .before .before .before .before .before .before .before .before .before .before .before .before .if1 .left) (omega (arith, n, c .before .before .before .before .before .before .before .before .before .before .before .before .before .if2 .left)) (omega (arith, t, c .before .before .before .before .before .before .before .before .before .before .before .if3 .left)) _
-    (shown _ _ (d .result .server .kept) (d .result .known) (d .ensures .status) (d .ensures .kept) (d .ensures .narrow) _ _ _ _ _ (c .before .before .condition .ensures) (c .before .valued .ensures) (c .shown-places .ensures) (d .ensures .workspace))
+    let x = rw (l .before .width .ensures .0) at (d .ensures) in
+    look-done _ _ _ _ _ _ (accepted (l .before .before .before)) (l .before .before .if1 .left) (omega (arith, n, c .before .before .before .before .before .before .before .before .before .before .before .before .before .if2 .left)) (omega (arith, t, c .before .before .before .before .before .before .before .before .before .before .before .if3 .left)) _
+    (shown _ _ _ (d .result .server .kept) (d .result .known) (x .status) (x .kept) (x .narrow) _ _ _ _ _ (c .before .before .condition .ensures) (c .before .valued .ensures)
+    (c .shown-places .ensures) (x .workspace))
 
 pub look-spec : {M : Type 1} → statement M
 look-spec =
@@ -95,6 +117,7 @@ look-spec =
     enum-known-checked-2
     refusal-requires-2
     returns
+    width-requires
     read-requires
     cast-if2
     refusal-requires-3

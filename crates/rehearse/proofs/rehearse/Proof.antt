@@ -1,14 +1,28 @@
 -- `rehearse` meets its contracts: each way that it ends is its definition's, and a no is not among them.
 use mathlib.Core.Path.{_≡_, refl, sym, ap, _∙_}
 use mathlib.Core.Bool.{true, false}
-use Prim.Native.Nat.{ℕ, _*_}
-use lib.Seq.{length-take-le}
+use Prim.Native.Nat.{ℕ, _*_, _≤_}
 use native.Mathlib.Omega.{arith}
-use borrow.Author.Needs.{needs}
+use denote.Ref.{now}
+use lib.ListN.{length}
+use lib.Seq.{length-take-le}
+use Rattle.plan.specs.{Form.widthOf, Check.result}
+use Rattle.answers.specs.Answers.{answerSize}
 use Rattle.simulator.specs.Numbered.{played}
-use Rattle.rehearse.proofs.RehearseCases.{is-yes, not-no, isNo, play-room, rehearse-refused, rehearse-yes}
+use Rattle.rehearse.proofs.RehearseCases.{is-yes, not-no, isNo, play-room, rehearse-refused, rehearse-yes, judge-at}
+use borrow.Author.Needs.{needs}
 use Rattle.rehearse.proofs.rehearse.Statement.{statement}
 use Rattle.rehearse.proofs.rehearse.Tie as tie
+
+-- what Play returned, and so the room that its answers have, in the form's bytes
+result-is : (c : tie.After-size) → played (c .before .before .before .before .before .before .before .before .before .play .result) ≡ result (c .before .before .before .played2 .given .0 .0)
+result-is c = ap played (c .before .before .before .played2 .given .1)
+
+sized : (c : tie.After-size) → c .size .result ≡ answerSize (widthOf (c .before .before .before .before .before .before .before .before .before .before .before .before .before .before .before .args .form))
+sized c = c .size .ensures ∙ ap answerSize (c .before .width .ensures .0)
+
+room : (c : tie.After-size) → c .size .result * c .before .before .before .played2 .given .0 .0 ≤ length (now (c .before .before .before .before .before .before .before .before .before .before .before .before .before .before .before .args .answers))
+room c = rw (sized c) (play-room _ _ _ _ _ (c .before .before .before .before .before .before .before .before .before .play .ensures .0) _ (result-is c) .2)
 
 play-requires : tie.Need-play-requires
 play-requires c κs = search needs
@@ -19,17 +33,23 @@ enum-known-played c = search needs
 enum-known-played-2 : tie.Need-enum-known-played-2
 enum-known-played-2 c = search needs
 
+width-requires : tie.Need-width-requires
+width-requires c κs = search needs
+
+size-requires : tie.Need-size-requires
+size-requires c κs = search needs
+
 mul-end : tie.Need-mul-end
-mul-end c = let h = play-room _ _ _ _ _ (c .before .before .before .before .before .before .before .play .ensures .0) (ap played (c .before .played2 .given .1)) in search needs
+mul-end c = omega (arith, room c)
 
 slice-reshare-prefix-judge : tie.Need-slice-reshare-prefix-judge
-slice-reshare-prefix-judge c = let h = play-room _ _ _ _ _ (c .before .before .before .before .before .before .before .play .ensures .0) (ap played (c .before .played2 .given .1)) in search needs
+slice-reshare-prefix-judge c = omega (arith, room c, c .before .before .before .before .before .before .before .before .before .play .kept .1 .1 .0)
 
 slice-aggregate-judge : tie.Need-slice-aggregate-judge
 slice-aggregate-judge c =
-    let x = c .before .before .before .before .before .before .before .before .play in
-    let h = play-room _ _ _ _ _ (x .ensures .0) (ap played (c .before .before .played2 .given .1)) in
-    sym (length-take-le (5 * c .before .before .played2 .given .0 .0) (x .last .1 .0) (omega (arith, h .1, x .kept .1 .0)))
+    let l = c .before in
+    let x = l .before .before .before .before .before .before .before .before .before .play in
+    sym (length-take-le (l .size .result * l .before .before .before .played2 .given .0 .0) (x .last .1 .1 .0) (omega (arith, room l, x .kept .1 .1 .0)))
 
 judge-requires : tie.Need-judge-requires
 judge-requires c κs = search needs
@@ -46,9 +66,9 @@ same-length-2 c = search needs
 returns : tie.Need-returns
 unfolding isNo
 returns c =
-    let x = c .before .before .before .before .before .before .before .before .before .before .before .play .ensures in
-    let e = ap played (c .before .before .before .before .before .played2 .given .1) in
-    (rehearse-yes _ _ _ _ (x .0) _ e (x .1 .judged _ e), not-no _ refl)
+    let l = c .before .before .before .before in
+    let x = l .before .before .before .before .before .before .before .before .before .play .ensures in
+    (rehearse-yes _ _ _ _ _ (x .0) _ (result-is l) (x .1 .judged _ (result-is l)), not-no _ refl)
 
 same-length-3 : tie.Need-same-length-3
 same-length-3 c = search needs
@@ -58,7 +78,7 @@ same-length-4 c = search needs
 
 returns-2 : tie.Need-returns-2
 unfolding isNo
-returns-2 c = (rehearse-refused _ _ _ _ (c .before .before .before .before .before .before .before .play .ensures .0) _ (ap played (c .before .played .given .1)), not-no _ refl)
+returns-2 c = (rehearse-refused _ _ _ _ _ (c .before .before .before .before .before .before .before .play .ensures .0) _ (ap played (c .before .played .given .1)), not-no _ refl)
 
 same-length-5 : tie.Need-same-length-5
 same-length-5 c = search needs
@@ -68,10 +88,12 @@ same-length-6 c = search needs
 
 returns-3 : tie.Need-returns-3
 returns-3 c =
-    let x = c .before .before .before .before .before .before .before .before .before .before .before .play .ensures in
-    let e = ap played (c .before .before .before .before .before .played2 .given .1) in
+    let l = c .before .before .before .before in
+    let x = l .before .before .before .before .before .before .before .before .before .play .ensures in
+    let e = result-is l in
     let j = c .before .before .judge in
-    let z : true ≡ false = sym (is-yes (j .result) (j .ensures ∙ x .1 .judged _ e)) ∙ sym (c .before .is-yes .ensures) ∙ c .if1 .left in
+    let yes = rw (sized l) at (j .ensures) ∙ judge-at _ _ _ _ _ (x .0) _ e _ ∙ x .1 .judged _ e in
+    let z : true ≡ false = sym (is-yes (j .result) yes) ∙ sym (c .before .is-yes .ensures) ∙ c .if1 .left in
     let y : _≡_ {A = ℕ} 0 1 = cc in
     absurd (omega arith)
 
@@ -82,6 +104,8 @@ rehearse-spec =
     play-requires
     enum-known-played
     enum-known-played-2
+    width-requires
+    size-requires
     mul-end
     slice-reshare-prefix-judge
     slice-aggregate-judge
