@@ -1,0 +1,5 @@
+pub mod Carrying
+pub mod Kept
+pub mod Checked
+pub mod Answers
+pub mod Carried
