@@ -5,8 +5,9 @@ use mathlib.Core.List.{List, [], _∷_, _++_}
 use Prim.Native.Nat.{ℕ, _+_, _*_, _/_, _%_, _^_, _<_}
 use lib.ListN.{length, take, drop, getD}
 use Rattle.simulator.specs.declared.look.Place.{Place}
+use Rattle.plan.specs.Form.{mostWidth}
 use Rattle.plan.specs.Check.{Outcome, refused, result}
-use Rattle.simulator.specs.Look.{Condition, is-faulty, is-cured, is-correct, Stamped, Shown, emptyPlace, Looked, lookOf}
+use Rattle.simulator.specs.Look.{Condition, is-faulty, is-cured, is-correct, Stamped, Shown, emptyPlace, Looked, lookIn}
 
 -- what a refusal's number is added to, above every result
 abbrev pub refusedFrom : ℕ
@@ -50,17 +51,17 @@ shownNumber shown = conditionCode (shown .condition) + perPair * length (shown .
 abbrev pub shownCode : Outcome Shown → ℕ
 shownCode o = codeOf (inNumbers shownNumber o)
 
--- the bytes of a pair: the value's high and low byte, the number
+-- the bytes of a pair, in either form: three of the value, the highest first, and the number
 abbrev pub pairSize : ℕ
-pairSize = 3
+pairSize = 4
 
--- the values in the places of an array have two bytes
-abbrev pub TwoBytes : List Place → Type 0
-TwoBytes places = (q : ℕ) → getD places q emptyPlace .value < 2 ^ 16
+-- the values in the places of an array have three bytes
+abbrev pub ThreeBytes : List Place → Type 0
+ThreeBytes places = (q : ℕ) → getD places q emptyPlace .value < 2 ^ mostWidth
 
 unfoldable pub pairBytes : List Stamped → List ℕ
 pairBytes [] = []
-pairBytes (p ∷ ps) = p .value / 256 ∷ p .value % 256 ∷ p .number ∷ pairBytes ps
+pairBytes (p ∷ ps) = p .value / 256 / 256 ∷ p .value / 256 % 256 ∷ p .value % 256 ∷ p .number ∷ pairBytes ps
 
 -- a buffer with as many whole pairs at its start as fit it, the bytes behind them as they were
 unfoldable pub pairsOver : List Stamped → List ℕ → List ℕ
@@ -82,6 +83,6 @@ pub record Coded : Type 0 where
 abbrev pub codedIn : List ℕ → Looked → Coded
 codedIn pairs x = record { code = shownCode (x .outcome); workspace = x .workspace; pairs = pairsOver (pairsOf (x .outcome)) pairs }
 
--- Look at values of 16 bits
-abbrev pub lookCoded : List ℕ → List ℕ → ℕ → ℕ → List ℕ → Coded
-lookCoded plan workspace server tick pairs = codedIn pairs (lookOf 16 plan workspace server tick)
+-- Look in a form
+abbrev pub lookCoded : ℕ → List ℕ → List ℕ → ℕ → ℕ → List ℕ → Coded
+lookCoded form plan workspace server tick pairs = codedIn pairs (lookIn form plan workspace server tick)

@@ -5,7 +5,9 @@ ghost use Prim.Native.Nat.{_≤_};
 ghost use Rattle.plan.specs.Numbered.{refusalNumber, numbered};
 ghost use Rattle.simulator.specs.Numbered.{played, judged, lookedAs};
 ghost use Rattle.pack.specs.Numbered.{packed};
+ghost use Rattle.carry.specs.Numbered.{carried};
 ghost use Rattle.codes.specs.Codes.{refusalCode, codeOf, verdictCode, shownCode};
+use carry::Carried;
 use pack::Packed;
 use plan::Checked;
 use plan::Refusal;
@@ -101,5 +103,15 @@ pub fn of_pack(p: Packed) -> usize
     match p {
         Packed::Bytes(m) => m,
         Packed::Refused(why) => refusal(why),
+    }
+}
+
+// The number of bytes.
+pub fn of_carry(c: Carried) -> usize
+    ensures { λ r. ⌜ r ≡ codeOf (carried c) ⌝ }
+{
+    match c {
+        Carried::Bytes(m) => m,
+        Carried::Refused(why) => refusal(why),
     }
 }

@@ -19,11 +19,11 @@ use Rattle.simulator.specs.Judge.{readOf}
 use Rattle.simulator.proofs as simulator-laws
 use Rattle.fields.specs.Fields.{answerFields, answerField}
 use Rattle.lines.specs.declared.Answer.{Answer as Fields}
-use Rattle.lines.specs.{Text.lineOf, Text.linesFor, Lines.answerIn, Lines.lineFor, Lines.linesIn}
+use Rattle.lines.specs.{Text.programWidth, Text.lineOf, Text.linesFor, Lines.answerIn, Lines.lineFor, Lines.linesIn}
 
 -- what the fields of a read's answer have to be
 abbrev fieldsOf : register-specs.Plan.Read → register-specs.Reading.Answer → Fields
-fieldsOf r a = record { begin = r .begun; reader = r .reader; value = register-specs.Plan.valueOf 16 (a .pair); number = register-specs.Plan.numberOf 16 (a .pair); count = a .count }
+fieldsOf r a = record { begin = r .begun; reader = r .reader; value = register-specs.Plan.valueOf programWidth (a .pair); number = register-specs.Plan.numberOf programWidth (a .pair); count = a .count }
 
 abbrev fieldsIn : List ℕ → Fields
 fieldsIn x = record { begin = getD x 0 0; reader = getD x 1 0; value = getD x 2 0; number = getD x 3 0; count = getD x 4 0 }
@@ -31,60 +31,60 @@ fieldsIn x = record { begin = getD x 0 0; reader = getD x 1 0; value = getD x 2 
 -- the begin of an answer, whatever the bytes
 pub begin-low : (a : List ℕ) (i : ℕ) → answerIn a i .begin < 128
 unfolding answerIn answerField answerFields
-begin-low a i = go (ltb i (length a / answerSize 16)) (field-lt a (answerAt 16 a i) 7)
+begin-low a i = go (ltb i (length a / answerSize programWidth)) (field-lt a (answerAt programWidth a i) 7)
   where
     go : (t : Bool) {x : ℕ} → x < 128 → cond t x 0 < 128
     go true h = h
     go false h = omega arith
 
-lines-append : (P : register-specs.Plan.Plan) (a b : List register-specs.Plan.Read) → linesFor 16 P (a ++ b) ≡ linesFor 16 P a ++ linesFor 16 P b
+lines-append : (P : register-specs.Plan.Plan) (a b : List register-specs.Plan.Read) → linesFor programWidth P (a ++ b) ≡ linesFor programWidth P a ++ linesFor programWidth P b
 unfolding linesFor
 lines-append P [] b = refl
-lines-append P (r ∷ a) b = rw (lines-append P a b) (sym (append-assoc (lineOf 16 P r) _ _))
+lines-append P (r ∷ a) b = rw (lines-append P a b) (sym (append-assoc (lineOf programWidth P r) _ _))
 
-module _ (s : List ℕ) (m : ℕ) (e : plan-specs.Check.checkOf 16 s ≡ plan-specs.Check.result m) where
+module _ (s : List ℕ) (m : ℕ) (e : plan-specs.Check.checkOf programWidth s ≡ plan-specs.Check.result m) where
   abbrev P : register-specs.Plan.Plan
-  P = plan-specs.Packed.planOf 16 s
+  P = plan-specs.Packed.planOf programWidth s
 
   abbrev none : register-specs.Plan.Read
   none = record { begun = 0; reader = 0 }
 
   inside : (i : ℕ) → i < m → i < length (P .reads)
-  inside i l = rw (plan-laws.Accept.reads-counted 16 s m e) at l
+  inside i l = rw (plan-laws.Accept.reads-counted programWidth s m e) at l
 
   -- every answer fits its fields
-  pub answer-fits : (r : register-specs.Plan.Read) → register-specs.Lists.In r (P .reads) → simulator-laws.AnswerBytes.FieldsFit 16 r (register-specs.Reading.answerOf P r)
-  answer-fits r i = simulator-laws.Judged.fits 16 s (plan-laws.Accept.accepted 16 s m e) r i (simulator-laws.PointThree.pointThree 16 s m e .served r i)
+  pub answer-fits : (r : register-specs.Plan.Read) → register-specs.Lists.In r (P .reads) → simulator-laws.AnswerBytes.FieldsFit programWidth r (register-specs.Reading.answerOf P r)
+  answer-fits r i = simulator-laws.Judged.fits programWidth s (plan-laws.Accept.accepted programWidth s m e) r i (simulator-laws.PointThree.pointThree programWidth s m e .served r i)
 
-  fields-are : (i : ℕ) → i < m → answerIn (answersOf 16 s) i ≡ fieldsOf (readOf P i) (register-specs.Reading.answerOf P (readOf P i))
+  fields-are : (i : ℕ) → i < m → answerIn (answersOf programWidth s) i ≡ fieldsOf (readOf P i) (register-specs.Reading.answerOf P (readOf P i))
   unfolding answerIn answerField answerFields answersOf
   fields-are i l =
       let n = inside i l in
       let F = answer-fits (readOf P i) (plan-laws.Tests.getD-in (P .reads) i none n) in
-      let whole : i < length (answersFor 16 P (P .reads)) / answerSize 16 = omega (arith, answers-length 16 P (P .reads)) in
-      rw (lt-ltb _ _ whole) (ap fieldsIn (simulator-laws.AnswerBytes.numbers-of 16 P (P .reads) none i n F))
+      let whole : i < length (answersFor programWidth P (P .reads)) / answerSize programWidth = omega (arith, answers-length programWidth P (P .reads)) in
+      rw (lt-ltb _ _ whole) (ap fieldsIn (simulator-laws.AnswerBytes.numbers-of programWidth P (P .reads) none i n F))
 
-  line-is : (i : ℕ) → i < m → lineFor (2 * P .delta) (answerIn (answersOf 16 s) i) ≡ lineOf 16 P (readOf P i)
+  line-is : (i : ℕ) → i < m → lineFor (2 * P .delta) (answerIn (answersOf programWidth s) i) ≡ lineOf programWidth P (readOf P i)
   unfolding lineFor lineOf
   line-is i l = rw (fields-are i l)
 
-  first-lines : (i : ℕ) → i ≤ m → linesIn (answersOf 16 s) (2 * P .delta) i ≡ linesFor 16 P (take i (P .reads))
+  first-lines : (i : ℕ) → i ≤ m → linesIn (answersOf programWidth s) (2 * P .delta) i ≡ linesFor programWidth P (take i (P .reads))
   unfolding linesIn linesFor
   first-lines zero l = refl
   first-lines (suc i) l =
       rw (first-lines i (omega arith), line-is i l, take-suc (P .reads) i none (inside i l), lines-append P (take i (P .reads)) (readOf P i ∷ []), append-nil)
 
-  lines-are : linesIn (answersOf 16 s) (2 * P .delta) m ≡ linesFor 16 P (P .reads)
-  lines-are = first-lines m (le-refl m) ∙ rw (take-all m (P .reads) (omega (arith, plan-laws.Accept.reads-counted 16 s m e)))
+  lines-are : linesIn (answersOf programWidth s) (2 * P .delta) m ≡ linesFor programWidth P (P .reads)
+  lines-are = first-lines m (le-refl m) ∙ rw (take-all m (P .reads) (omega (arith, plan-laws.Accept.reads-counted programWidth s m e)))
 
   -- how long a read lasts, from the header
-  module _ (x : plan-specs.declared.header.Shape.Shape) (same : plan-specs.Shape.shape x ≡ plan-specs.Header.headerOf 16 s) where
+  module _ (x : plan-specs.declared.header.Shape.Shape) (same : plan-specs.Shape.shape x ≡ plan-specs.Header.headerOf programWidth s) where
     span-is : 2 * x .delta ≡ 2 * P .delta
     unfolding plan-specs.Packed.planOf
     span-is = ap (λ (h : plan-specs.Header.Header). 2 * h .delta) same
 
     pub span-few : 2 * x .delta ≤ 30
-    span-few = omega (arith, ap (λ (h : plan-specs.Header.Header). h .delta) same, plan-laws.Accept.in-range 16 s (plan-laws.Accept.accepted 16 s m e .playable) .delta-hi)
+    span-few = omega (arith, ap (λ (h : plan-specs.Header.Header). h .delta) same, plan-laws.Accept.in-range programWidth s (plan-laws.Accept.accepted programWidth s m e .playable) .delta-hi)
 
-    pub all-lines : (a : List ℕ) (i : ℕ) → a ≡ answersOf 16 s → i ≡ m → linesIn a (2 * x .delta) i ≡ linesFor 16 P (P .reads)
+    pub all-lines : (a : List ℕ) (i : ℕ) → a ≡ answersOf programWidth s → i ≡ m → linesIn a (2 * x .delta) i ≡ linesFor programWidth P (P .reads)
     all-lines a i is n = rw (is, span-is, n) lines-are

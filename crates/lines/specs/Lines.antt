@@ -3,11 +3,11 @@ use mathlib.Core.List.{List, [], _∷_, _++_}
 use Prim.Native.Nat.{ℕ, zero, suc, _+_}
 use Rattle.fields.specs.Fields.{answerField}
 use Rattle.lines.specs.declared.Answer.{Answer}
-use Rattle.lines.specs.Text.{lineWith}
+use Rattle.lines.specs.Text.{programForm, lineWith}
 
 -- the fields of answer i
 unfoldable pub answerIn : List ℕ → ℕ → Answer
-answerIn a i = record { begin = answerField a i 0; reader = answerField a i 1; value = answerField a i 2; number = answerField a i 3; count = answerField a i 4 }
+answerIn a i = record { begin = answerField programForm a i 0; reader = answerField programForm a i 1; value = answerField programForm a i 2; number = answerField programForm a i 3; count = answerField programForm a i 4 }
 
 -- the line of an answer to a read that lasts so many ticks
 unfoldable pub lineFor : ℕ → Answer → List ℕ

@@ -5,9 +5,18 @@ use lib.ListN.{length, take, drop}
 use Rattle.decimal.specs.Decimal.{decimalOf}
 use Rattle.register.specs.Plan.{Plan, Read, readEnd, valueOf, numberOf}
 use Rattle.register.specs.Reading.{Answer, answerOf}
+use Rattle.plan.specs.Form.{formOne, widthOf}
 use Rattle.plan.specs.Limits.{mostReads}
 use Rattle.plan.specs.Packed.{planOf}
 use Rattle.plan.specs.Check.{Outcome, refused, result, checkOf}
+
+-- Ten: 'the program reads form one'
+abbrev pub programForm : ℕ
+programForm = formOne
+
+-- the bits of a value in it
+abbrev pub programWidth : ℕ
+programWidth = widthOf programForm
 
 -- "reads "
 abbrev pub readsWord : List ℕ

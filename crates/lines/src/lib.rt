@@ -1,5 +1,6 @@
 // The lines of the text that the program prints for a plan, written into a lent buffer.
 use fields::of_answer;
+use plan::form;
 use plan::header::Shape;
 ghost use mathlib.Core.Path.{_≡_};
 ghost use mathlib.Core.List.{_++_};
@@ -10,8 +11,11 @@ ghost use Rattle.decimal.specs.Stored.{Stored};
 ghost use Rattle.plan.specs.Packed.{planOf};
 ghost use Rattle.plan.specs.Check.{result, checkOf};
 ghost use Rattle.answers.specs.Answers.{answersOf};
-ghost use Rattle.lines.specs.Text.{numberThen, lineFeed, linesFor};
+ghost use Rattle.lines.specs.Text.{programWidth, numberThen, lineFeed, linesFor};
 ghost use Rattle.lines.specs.Lines.{answerIn, lineFor};
+
+// The form of the plans that the program reads.
+pub const FORM: usize = form::ONE;
 
 // A number and the byte behind it.
 fn put_number(out: &mut [u8], at: usize, n: u64, after: u8) -> usize
@@ -48,11 +52,11 @@ impl Answer {
         ensures { λ r. ⌜ (r ≡ answerIn (now (answers .entry)) i) × (r .begin < 128) ⌝ }
     {
         Answer {
-            begin: of_answer(answers, i, 0) as u64,
-            reader: of_answer(answers, i, 1) as u64,
-            value: of_answer(answers, i, 2) as u64,
-            number: of_answer(answers, i, 3) as u64,
-            count: of_answer(answers, i, 4) as u64,
+            begin: of_answer(FORM, answers, i, answers::BEGIN) as u64,
+            reader: of_answer(FORM, answers, i, answers::READER) as u64,
+            value: of_answer(FORM, answers, i, answers::VALUE) as u64,
+            number: of_answer(FORM, answers, i, answers::NUMBER) as u64,
+            count: of_answer(FORM, answers, i, answers::COUNT) as u64,
         }
     }
 }
@@ -73,10 +77,10 @@ fn put_line(out: &mut [u8], at: usize, a: Answer, span: u64) -> usize
 
 // A line for each answer to an accepted plan.
 pub fn put_lines(out: &mut [u8], start: usize, plan: &[u8], answers: &[u8], count: usize) -> usize
-    requires { ⌜ (start < 2 ^ 16) × (checkOf 16 (now plan) ≡ result count) × (now answers ≡ answersOf 16 (now plan)) ⌝ }
-    ensures { λ r. ⌜ Stored (now (out .entry)) start (linesFor 16 (planOf 16 (now (plan .entry))) (planOf 16 (now (plan .entry)) .reads)) (now (out .exit)) r ⌝ }
+    requires { ⌜ (start < 2 ^ 16) × (checkOf programWidth (now plan) ≡ result count) × (now answers ≡ answersOf programWidth (now plan)) ⌝ }
+    ensures { λ r. ⌜ Stored (now (out .entry)) start (linesFor programWidth (planOf programWidth (now (plan .entry))) (planOf programWidth (now (plan .entry)) .reads)) (now (out .exit)) r ⌝ }
 {
-    let shape = Shape::read(plan);
+    let shape = Shape::read(plan, form::width(FORM));
     let span = 2 * shape.delta as u64;
     let mut at = start;
     let mut i: usize = 0;

@@ -16,12 +16,16 @@ use Rattle.simulator.specs.Numbered.{shownIn}
 use Rattle.simulator.proofs.ShownPlaces.{pairOf, Passed, passed, passed-more}
 use Rattle.codes.specs.Codes.{pairSize, pairBytes, pairsOver}
 
-pub stored : (l : List ℕ) (at high low number value least : ℕ) → high ≡ value → low ≡ least
-    → set (set (set l at high) (at + 1) low) (at + 2) number ≡ sets l at (value ∷ least ∷ number ∷ [])
-stored l at high low number value least eh el = rw (eh, el, add-one at, add-two at)
+-- four stores are `sets` of four bytes
+pub stored : (l : List ℕ) (at a b c number high mid least : ℕ) → a ≡ high → b ≡ mid → c ≡ least
+    → set (set (set (set l at a) (at + 1) b) (at + 2) c) (at + 3) number ≡ sets l at (high ∷ mid ∷ least ∷ number ∷ [])
+stored l at a b c number high mid least ea eb ec = rw (ea, eb, ec, add-one at, add-two at, add-three at)
   where
     add-two : (n : ℕ) → n + 2 ≡ suc (suc n)
     add-two n = omega arith
+
+    add-three : (n : ℕ) → n + 3 ≡ suc (suc (suc n))
+    add-three n = omega arith
 
 -- a buffer with no pair over it is as it was
 pub over-none : (l : List ℕ) → pairsOver [] l ≡ l

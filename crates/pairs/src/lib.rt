@@ -6,9 +6,10 @@ ghost use Prim.Native.Nat.{_+_, _*_, _/_, _%_, _^_, _<_, _≤_};
 ghost use lib.Dec.{ltb};
 ghost use lib.ListN.{length};
 ghost use lib.Seq.{sets};
+ghost use Rattle.plan.specs.Form.{mostWidth};
 ghost use Rattle.plan.specs.Packed.{storeDepth};
 ghost use Rattle.simulator.specs.Numbered.{looked, shownIn};
-ghost use Rattle.codes.specs.Codes.{shownCode, pairSize, TwoBytes, pairBytes, pairsOf, pairsOver, lookCoded};
+ghost use Rattle.codes.specs.Codes.{shownCode, pairSize, ThreeBytes, pairBytes, pairsOf, pairsOver, lookCoded};
 use calendar::DEPTH;
 use codes::REFUSED;
 use codes::of_seen;
@@ -19,13 +20,13 @@ use simulator::look::Place;
 pub const PER_PAIR: usize = 4;
 
 // The bytes of a pair that Look shows.
-pub const PAIR_BYTES: usize = 3;
+pub const PAIR_BYTES: usize = 4;
 
 fn high(value: u32) -> u8
-    requires { ⌜ value < 2 ^ 16 ⌝ }
-    ensures { λ r. ⌜ r ≡ value / 256 ⌝ }
+    requires { ⌜ value < 2 ^ mostWidth ⌝ }
+    ensures { λ r. ⌜ r ≡ value / 256 / 256 ⌝ }
 {
-    (value / 256) as u8
+    (value / 256 / 256) as u8
 }
 
 fn low(value: u32) -> u8
@@ -34,9 +35,9 @@ fn low(value: u32) -> u8
     (value % 256) as u8
 }
 
-// Pair i at its own bytes, if there is room for all of them: the value's high and low byte, the number.
+// Pair i at its own bytes, if there is room for all of them: three of the value, the highest first, and the number.
 fn put_pair(out: &mut [u8], i: usize, p: Place)
-    requires { ⌜ (i < storeDepth) × (p .value < 2 ^ 16) ⌝ }
+    requires { ⌜ (i < storeDepth) × (p .value < 2 ^ mostWidth) ⌝ }
     ensures { λ _. ⌜ (length (now (out .exit)) ≡ length (now (out .entry))) × (now (out .exit) ≡ cond (ltb (length (now (out .entry))) (pairSize * i + pairSize))
         (now (out .entry)) (sets (now (out .entry)) (pairSize * i) (pairBytes (record { value = p .value; number = p .number } ∷ [])))) ⌝ }
 {
@@ -45,13 +46,14 @@ fn put_pair(out: &mut [u8], i: usize, p: Place)
         return;
     }
     out[at] = high(p.value);
-    out[at + 1] = low(p.value);
-    out[at + 2] = p.number;
+    out[at + 1] = low(p.value / 256);
+    out[at + 2] = low(p.value);
+    out[at + 3] = p.number;
 }
 
 // As many of the pairs before the first empty place as fit `out`, at its start; how many they are, those left out too.
 fn put_pairs(out: &mut [u8], places: [Place; DEPTH]) -> usize
-    requires { ⌜ TwoBytes places ⌝ }
+    requires { ⌜ ThreeBytes places ⌝ }
     ensures { λ r. ⌜ (r ≤ storeDepth) × (r ≡ length (shownIn places)) × (now (out .exit) ≡ pairsOver (shownIn places) (now (out .entry))) ⌝ }
 {
     let mut i: usize = 0;
@@ -68,7 +70,7 @@ fn put_pairs(out: &mut [u8], places: [Place; DEPTH]) -> usize
 
 // What Look returned: the condition and PER_PAIR for each pair. As many whole pairs as fit stand at the start of `pairs`; a refusal writes none.
 fn of_look(l: Looked, pairs: &mut [u8]) -> usize
-    requires { ⌜ TwoBytes (l .places) ⌝ }
+    requires { ⌜ ThreeBytes (l .places) ⌝ }
     ensures { λ r. ⌜ (r ≡ shownCode (looked l)) × (now (pairs .exit) ≡ pairsOver (pairsOf (looked l)) (now (pairs .entry))) ⌝ }
 {
     let seen = l.seen;
@@ -82,8 +84,15 @@ fn of_look(l: Looked, pairs: &mut [u8]) -> usize
 }
 
 // Look at a server after a tick, as a number and the bytes of its pairs.
-pub fn look(plan: &[u8], work: &mut [u8], server: usize, tick: usize, pairs: &mut [u8]) -> usize
-    ensures { λ r. ⌜ record { code = r; workspace = now (work .exit); pairs = now (pairs .exit) } ≡ lookCoded (now (plan .entry)) (now (work .entry)) server tick (now (pairs .entry)) ⌝ }
+pub fn look(
+    form: usize,
+    plan: &[u8],
+    work: &mut [u8],
+    server: usize,
+    tick: usize,
+    pairs: &mut [u8],
+) -> usize
+    ensures { λ r. ⌜ record { code = r; workspace = now (work .exit); pairs = now (pairs .exit) } ≡ lookCoded form (now (plan .entry)) (now (work .entry)) server tick (now (pairs .entry)) ⌝ }
 {
-    of_look(look::look(plan, work, server, tick), pairs)
+    of_look(look::look(form, plan, work, server, tick), pairs)
 }

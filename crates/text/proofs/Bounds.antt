@@ -16,55 +16,55 @@ use Rattle.plan.specs.Packed.{planOf}
 use Rattle.plan.specs.Check.{Outcome, refused, result, checkOf}
 use Rattle.plan.proofs.Accept.{playable, reads-counted, in-range}
 use Rattle.plan.proofs as plan-laws
-use Rattle.lines.specs.Text.{lineWith, lineOf, linesFor, textAfter, textOf, mostLine, mostText, writtenOver}
+use Rattle.lines.specs.Text.{programWidth, lineWith, lineOf, linesFor, textAfter, textOf, mostLine, mostText, writtenOver}
 use Rattle.lines.proofs.Lines.{answer-fits}
 use Rattle.text.proofs as text-laws
 
-module _ (s : List ℕ) (m : ℕ) (e : checkOf 16 s ≡ result m) where
+module _ (s : List ℕ) (m : ℕ) (e : checkOf programWidth s ≡ result m) where
   abbrev P : Plan
-  P = planOf 16 s
+  P = planOf programWidth s
 
-  line-length : (r : Read) → register-specs.Lists.In r (P .reads) → length (lineOf 16 P r) ≤ mostLine
+  line-length : (r : Read) → register-specs.Lists.In r (P .reads) → length (lineOf programWidth P r) ≤ mostLine
   unfolding lineOf lineWith
   line-length r i =
-      let A = playable 16 s m e in
+      let A = playable programWidth s m e in
       let F = answer-fits s m e r i in
-      let R = plan-laws.AcceptReads.read-stands 16 s A r i in
+      let R = plan-laws.AcceptReads.read-stands programWidth s A r i in
       let a = register-specs.Reading.answerOf P r in
-      let value : valueOf 16 (a .pair) < 10 ^ 5 = lt-of-lt-of-le (value-below 16 (a .pair)) (lit≤ tt) in
+      let value : valueOf programWidth (a .pair) < 10 ^ 5 = lt-of-lt-of-le (value-below programWidth (a .pair)) (lit≤ tt) in
       simp length-append (omega (
         arith,
         decimal-length 2 (r .begun) (omega (arith, F .begun-fits)),
         decimal-length 0 (r .reader) (omega (arith, F .reader-fits)),
-        decimal-length 2 (readEnd P r) (omega (arith, R .ends, in-range 16 s A .ticks-hi)),
-        decimal-length 4 (valueOf 16 (a .pair)) value,
-        decimal-length 2 (numberOf 16 (a .pair)) (omega (arith, F .number-fits)),
+        decimal-length 2 (readEnd P r) (omega (arith, R .ends, in-range programWidth s A .ticks-hi)),
+        decimal-length 4 (valueOf programWidth (a .pair)) value,
+        decimal-length 2 (numberOf programWidth (a .pair)) (omega (arith, F .number-fits)),
         decimal-length 1 (a .count) (omega (arith, F .count-fits)),
       ))
 
-  lines-length : (rs : List Read) → ((r : Read) → register-specs.Lists.In r rs → register-specs.Lists.In r (P .reads)) → length (linesFor 16 P rs) ≤ mostLine * length rs
+  lines-length : (rs : List Read) → ((r : Read) → register-specs.Lists.In r rs → register-specs.Lists.In r (P .reads)) → length (linesFor programWidth P rs) ≤ mostLine * length rs
   unfolding linesFor
   lines-length [] h = omega arith
   lines-length (r ∷ rs) h = rw length-append (omega (arith, line-length r (h r (inl refl)), lines-length rs (λ q i. h q (inr i))))
 
-  reads-length : length (textAfter 16 s (result m)) ≤ mostText
+  reads-length : length (textAfter programWidth s (result m)) ≤ mostText
   unfolding textAfter lineWith
   reads-length =
-      let few = plan-laws.Longest.most-reads s m e in
-      simp length-append (omega (arith, decimal-length 2 m (omega arith), lines-length (P .reads) (λ r i. i), reads-counted 16 s m e))
+      let few = plan-laws.Longest.most-reads programWidth s m e in
+      simp length-append (omega (arith, decimal-length 2 m (omega arith), lines-length (P .reads) (λ r i. i), reads-counted programWidth s m e))
 
-refused-length : (s : List ℕ) (n : ℕ) → n ≤ 8 → length (textAfter 16 s (refused n)) ≤ mostText
+refused-length : (s : List ℕ) (n : ℕ) → n ≤ 8 → length (textAfter programWidth s (refused n)) ≤ mostText
 unfolding textAfter lineWith
 refused-length s n h = simp length-append (omega (arith, decimal-length 0 n (omega arith)))
 
-pub text-length : (s : List ℕ) → length (textOf 16 s) ≤ mostText
+pub text-length : (s : List ℕ) → length (textOf programWidth s) ≤ mostText
 unfolding textOf
-text-length s = go (checkOf 16 s) refl
+text-length s = go (checkOf programWidth s) refl
   where
-    go : (o : Outcome ℕ) → checkOf 16 s ≡ o → length (textAfter 16 s o) ≤ mostText
-    go (refused n) e = refused-length s n (text-laws.Refusals.refusal-low s n e)
+    go : (o : Outcome ℕ) → checkOf programWidth s ≡ o → length (textAfter programWidth s o) ≤ mostText
+    go (refused n) e = refused-length s n (text-laws.Refusals.refusal-low programWidth s n e)
     go (result m) e = reads-length s m e
 
 -- so a buffer of MOST_BYTES has every text whole
-pub text-whole : (s buffer : List ℕ) → mostText ≤ length buffer → take (length (textOf 16 s)) (writtenOver (textOf 16 s) buffer .bytes) ≡ textOf 16 s
-text-whole s buffer h = text-laws.Over.whole (textOf 16 s) buffer (omega (arith, text-length s))
+pub text-whole : (s buffer : List ℕ) → mostText ≤ length buffer → take (length (textOf programWidth s)) (writtenOver (textOf programWidth s) buffer .bytes) ≡ textOf programWidth s
+text-whole s buffer h = text-laws.Over.whole (textOf programWidth s) buffer (omega (arith, text-length s))

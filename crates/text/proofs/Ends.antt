@@ -8,54 +8,58 @@ use lib.ListN.{length, take}
 use borrow.Author.Tests.{lt-ltb, le-ltb}
 use Rattle.plan.specs.Limits.{mostReads}
 use Rattle.plan.specs.Packed.{planOf}
-use Rattle.plan.specs.Check.{Outcome, refused, result, checkOf}
+use Rattle.plan.specs.Check.{Outcome, refused, result, checkOf, checkIn}
 use Rattle.plan.proofs.Accept.{accepted}
 use Rattle.plan.proofs.Longest.{most-reads}
-use Rattle.answers.specs.Answers.{answersOf}
+use Rattle.answers.specs.Answers.{answerSize, answersOf}
 use Rattle.answers.specs.Workspace.{workspaceSize}
-use Rattle.simulator.specs.Play.{Played, playAfter, playOf}
+use Rattle.simulator.specs.Play.{Played, playAfter, playOf, playIn}
 use Rattle.simulator.proofs.Played.{play-plays, play-writes}
 use Rattle.codes.specs.Codes.{refusedFrom, codeOf}
 use Rattle.codes.proofs.Apart.{outcomeIn, code-apart, reads-below}
-use Rattle.lines.specs.Text.{readsWord, refusedWord, numberThen, lineFeed, lineWith, linesFor, textAfter, textOf}
+use Rattle.lines.specs.Text.{programForm, programWidth, readsWord, refusedWord, numberThen, lineFeed, lineWith, linesFor, textAfter, textOf}
 
 -- what the code of Play's outcome says of the plan, where Play left answers `a`
 pub record Decided (s : List ℕ) (code : ℕ) (a : List ℕ) : Type 0 where
-  pub accepted : code < refusedFrom → checkOf 16 s ≡ result code
+  pub accepted : code < refusedFrom → checkOf programWidth s ≡ result code
   pub few : code < refusedFrom → code ≤ mostReads
-  pub answers : code < refusedFrom → take (5 * code) a ≡ answersOf 16 s
-  pub refused-text : refusedFrom ≤ code → refusedWord ++ numberThen lineFeed (code - refusedFrom) ≡ textOf 16 s
-  pub reads-text : code < refusedFrom → (readsWord ++ numberThen lineFeed code) ++ linesFor 16 (planOf 16 s) (planOf 16 s .reads) ≡ textOf 16 s
+  pub answers : code < refusedFrom → take (answerSize programWidth * code) a ≡ answersOf programWidth s
+  pub refused-text : refusedFrom ≤ code → refusedWord ++ numberThen lineFeed (code - refusedFrom) ≡ textOf programWidth s
+  pub reads-text : code < refusedFrom → (readsWord ++ numberThen lineFeed code) ++ linesFor programWidth (planOf programWidth s) (planOf programWidth s .reads) ≡ textOf programWidth s
 
-module _ (s answers workspace : List ℕ) (room : 5 * mostReads ≤ length answers) (work : workspaceSize ≤ length workspace) where
+module _ (s answers workspace : List ℕ) (room : answerSize programWidth * mostReads ≤ length answers) (work : workspaceSize ≤ length workspace) where
   -- buffers for the most reads are never refused
-  outcome-is : playOf 16 s answers workspace .outcome ≡ checkOf 16 s
+  outcome-is : playOf programWidth s answers workspace .outcome ≡ checkOf programWidth s
   unfolding playOf playAfter
-  outcome-is = go (checkOf 16 s) refl
+  outcome-is = go (checkOf programWidth s) refl
     where
-      go : (o : Outcome ℕ) → checkOf 16 s ≡ o → playAfter 16 s answers workspace (checkOf 16 s) .outcome ≡ checkOf 16 s
+      go : (o : Outcome ℕ) → checkOf programWidth s ≡ o → playAfter programWidth s answers workspace (checkOf programWidth s) .outcome ≡ checkOf programWidth s
       go (refused n) e = rw e
-      go (result m) e = let few = most-reads s m e in play-plays 16 s m e answers workspace (omega arith) work ∙ sym e
+      go (result m) e = let few = most-reads programWidth s m e in play-plays programWidth s m e answers workspace (omega arith) work ∙ sym e
 
-  module _ (p : Played) (is : p ≡ playOf 16 s answers workspace) (code : ℕ) (coded : code ≡ codeOf (p .outcome)) where
-    checked : p .outcome ≡ checkOf 16 s
+  module _ (p : Played) (in-form : p ≡ playIn programForm s answers workspace) (code : ℕ) (coded : code ≡ codeOf (p .outcome)) where
+    is : p ≡ playOf programWidth s answers workspace
+    unfolding playIn playOf checkIn
+    is = in-form
+
+    checked : p .outcome ≡ checkOf programWidth s
     checked = ap (λ (x : Played). x .outcome) is ∙ outcome-is
 
-    told : outcomeIn code ≡ checkOf 16 s
-    told = rw coded (code-apart (p .outcome) (λ m e. reads-below s m (sym checked ∙ e)) ∙ checked)
+    told : outcomeIn code ≡ checkOf programWidth s
+    told = rw coded (code-apart (p .outcome) (λ m e. reads-below programWidth s m (sym checked ∙ e)) ∙ checked)
 
-    is-result : code < refusedFrom → checkOf 16 s ≡ result code
+    is-result : code < refusedFrom → checkOf programWidth s ≡ result code
     is-result h = sym told ∙ rw (lt-ltb code refusedFrom h)
 
-    is-refused : refusedFrom ≤ code → checkOf 16 s ≡ refused (code - refusedFrom)
+    is-refused : refusedFrom ≤ code → checkOf programWidth s ≡ refused (code - refusedFrom)
     is-refused h = sym told ∙ rw (le-ltb code refusedFrom h)
 
     pub decided : Decided s code (p .answers)
     unfolding textOf textAfter lineWith
     decided = record {
       accepted = is-result;
-      few = λ h. most-reads s code (is-result h);
-      answers = λ h. rw is (play-writes 16 s (accepted 16 s code (is-result h)) answers workspace code (outcome-is ∙ is-result h));
+      few = λ h. most-reads programWidth s code (is-result h);
+      answers = λ h. rw is (play-writes programWidth s (accepted programWidth s code (is-result h)) answers workspace code (outcome-is ∙ is-result h));
       refused-text = λ h. rw (is-refused h);
       reads-text = λ h. rw (is-result h);
     }

@@ -8,7 +8,7 @@ use native.Mathlib.Omega.{arith}
 use lib.Dec.{lit≤, leb, eqb}
 use lib.ListN.{length}
 use Rattle.bits.specs.Fill.{bytesFor}
-use Rattle.plan.specs.Header.{headerOf, bitLength}
+use Rattle.plan.specs.Header.{headerOf, headerBits, bitLength}
 use Rattle.plan.specs.Check
 use Rattle.plan.proofs.Chain.{from1, from2, from3, from4, from5, from6, from7, from8, from9}
 
@@ -16,15 +16,15 @@ low : (b : Bool) (number : ℕ) (rest : Check.Outcome ℕ) (n : ℕ) → number 
 low true number rest n l h e = h e
 low false number rest n l h e = let z : number ≡ n = cc in omega arith
 
-pub refusal-low : (s : List ℕ) (n : ℕ) → Check.checkOf 16 s ≡ Check.refused n → n ≤ 8
-refusal-low s n e =
-    let h = headerOf 16 s in
-    low (leb 8 (length s)) 1 (from2 s) n (lit≤ tt)
-    (low (Check.headerInRange h) 2 (from3 s) n (lit≤ tt)
-    (low (Check.enoughServers h) 3 (from4 s) n (lit≤ tt)
-    (low (eqb (length s) (bytesFor (bitLength 16 h))) 4 (from5 s) n (lit≤ tt)
-    (low (Check.placementsStand 16 s h) 5 (from6 s) n (lit≤ tt)
-    (low (Check.operationsStand 16 s h) 6 (from7 s) n (lit≤ tt)
-    (low (Check.forgeriesStand 16 s h) 7 (from8 s) n (lit≤ tt)
-    (low (Check.delaysStand 16 s h && Check.finalBitsZero 16 s h) 8 (from9 s) n (lit≤ tt) (λ q. let z : _≡_ {A = ℕ} 0 1 = cc in absurd (omega arith)))))))))
-    (sym (from1 s) ∙ e)
+pub refusal-low : (w : ℕ) (s : List ℕ) (n : ℕ) → Check.checkOf w s ≡ Check.refused n → n ≤ 8
+refusal-low w s n e =
+    let h = headerOf w s in
+    low (leb (bytesFor (headerBits w)) (length s)) 1 (from2 w s) n (lit≤ tt)
+    (low (Check.headerInRange h) 2 (from3 w s) n (lit≤ tt)
+    (low (Check.enoughServers h) 3 (from4 w s) n (lit≤ tt)
+    (low (eqb (length s) (bytesFor (bitLength w h))) 4 (from5 w s) n (lit≤ tt)
+    (low (Check.placementsStand w s h) 5 (from6 w s) n (lit≤ tt)
+    (low (Check.operationsStand w s h) 6 (from7 w s) n (lit≤ tt)
+    (low (Check.forgeriesStand w s h) 7 (from8 w s) n (lit≤ tt)
+    (low (Check.delaysStand w s h && Check.finalBitsZero w s h) 8 (from9 w s) n (lit≤ tt) (λ q. let z : _≡_ {A = ℕ} 0 1 = cc in absurd (omega arith)))))))))
+    (sym (from1 w s) ∙ e)

@@ -10,6 +10,7 @@ use Rattle.decimal.specs.Stored.{Stored}
 use Rattle.decimal.proofs.Stores.{stored-as, stored-none, stored-then}
 use Rattle.plan.proofs.Longest.{most-reads}
 use Rattle.plan.proofs.Accept.{header-there, playable}
+use Rattle.lines.specs.Text.{programWidth}
 use Rattle.lines.specs.Lines.{linesIn}
 use Rattle.lines.proofs.Lines.{span-few, all-lines}
 use Rattle.lines.proofs.put_lines.Statement.{statement}
@@ -21,8 +22,13 @@ Inv-loop out₀ start plan answers count span at₀ i₀ out at i = (i ≤ count
 abbrev μ-loop : tie.MeasureT-loop
 μ-loop out₀ start plan answers count span at₀ i₀ out at i = count - i
 
+-- the program's form has values of the width that the definitions say
+width-requires : tie.Need-width-requires Inv-loop μ-loop
+width-requires c κs = search needs
+
 read-requires : tie.Need-read-requires Inv-loop μ-loop
-read-requires c κs = header-there 16 _ (playable 16 _ _ (c .before .before .before .pre .1))
+read-requires c κs =
+    (rw (c .width .ensures .0) (header-there programWidth _ (playable programWidth _ _ (c .before .before .before .before .pre .1))), c .width .ensures .1)
 
 cast-span : tie.Need-cast-span Inv-loop μ-loop
 cast-span c = search needs
@@ -40,9 +46,9 @@ read-requires-2 c κs = search needs
 put-line-requires : tie.Need-put-line-requires Inv-loop μ-loop
 put-line-requires c κs =
     let r = c .before .before .before .before .before in
-    let s = r .before .before .before .before in
-    let few = most-reads _ _ (s .pre .1) in
-    (search needs, c .read2 .ensures .1, omega (arith, span-few _ _ (s .pre .1) _ (r .read .ensures)))
+    let s = r .before .before .before .before .before in
+    let few = most-reads programWidth _ _ (s .pre .1) in
+    (search needs, c .read2 .ensures .1, omega (arith, span-few _ _ (s .pre .1) (r .read .result) (rw (r .before .width .ensures .0) at (r .read .ensures .0))))
 
 add-i : tie.Need-add-i Inv-loop μ-loop
 add-i c = search needs
@@ -68,9 +74,9 @@ returns : tie.Need-returns Inv-loop μ-loop
 returns c =
     let a = c .before in
     let r = a .before .before in
-    let s = r .before .before .before .before in
+    let s = r .before .before .before .before .before in
     let all : a .loop .i ≡ s .args .count = omega arith in
-    stored-as (all-lines _ _ (s .pre .1) _ (r .read .ensures) _ _ (s .pre .2) all) (a .loop .inv .3)
+    stored-as (all-lines _ _ (s .pre .1) (r .read .result) (rw (r .before .width .ensures .0) at (r .read .ensures .0)) _ _ (s .pre .2) all) (a .loop .inv .3)
 
 pub put-lines-spec : {M : Type 1} → statement M
 put-lines-spec =
@@ -78,6 +84,7 @@ put-lines-spec =
     (tie.spec
     Inv-loop
     μ-loop
+    width-requires
     read-requires
     cast-span
     mul-span

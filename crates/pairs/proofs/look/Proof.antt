@@ -2,7 +2,7 @@
 use mathlib.Core.Path.{ap}
 use Rattle.simulator.specs.Look.{Looked}
 use Rattle.codes.specs.Codes.{codedIn}
-use Rattle.codes.proofs.TwoBytes.{look-two}
+use Rattle.codes.proofs.ThreeBytes.{look-three}
 use borrow.Author.Needs.{needs}
 use Rattle.pairs.proofs.look.Statement.{statement}
 use Rattle.pairs.proofs.look.Tie as tie
@@ -11,7 +11,7 @@ look-requires : tie.Need-look-requires
 look-requires c κs = search needs
 
 of-look-requires : tie.Need-of-look-requires
-of-look-requires c κs = rw (ap (λ (x : Looked). x .places) (c .before .before .before .look .ensures)) (look-two _ _ _ _)
+of-look-requires c κs = rw (ap (λ (x : Looked). x .places) (c .before .before .before .look .ensures)) (look-three _ _ _ _ _)
 
 same-length : tie.Need-same-length
 same-length c = search needs

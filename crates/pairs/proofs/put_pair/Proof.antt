@@ -1,4 +1,4 @@
--- `put_pair` meets its contract: nothing without room, else three stores, which are `sets` of three bytes.
+-- `put_pair` meets its contract: nothing without room, else four stores, which are `sets` of four bytes.
 use mathlib.Core.Path.{refl}
 use Prim.Native.Nat.{_*_}
 use native.Mathlib.Omega.{arith}
@@ -34,11 +34,20 @@ add-out c = search needs
 slice-write-out-2 : tie.Need-slice-write-out-2
 slice-write-out-2 c = simp length-set (omega arith)
 
+low-requires-2 : tie.Need-low-requires-2
+low-requires-2 c κs = search needs
+
 add-out-2 : tie.Need-add-out-2
 add-out-2 c = search needs
 
 slice-write-out-3 : tie.Need-slice-write-out-3
 slice-write-out-3 c = simp length-set (omega arith)
+
+add-out-3 : tie.Need-add-out-3
+add-out-3 c = search needs
+
+slice-write-out-4 : tie.Need-slice-write-out-4
+slice-write-out-4 c = simp length-set (omega arith)
 
 same-length : tie.Need-same-length
 same-length c = search needs
@@ -46,8 +55,12 @@ same-length c = search needs
 returns-2 : tie.Need-returns-2
 unfolding pairBytes
 returns-2 c =
-    let a = c .before .before .before .before .args in
-    (simp length-set, rw (le-ltb _ _ (c .before .before .if1 .left)) (stored (a .out .now) (pairSize * a .i) _ _ (a .p .number) _ _ (c .before .high .ensures) (c .low .ensures)))
+    let a = c .before .before .before .before .before .before .args in
+    let high = c .before .before .before .high .ensures in
+    let mid = c .before .low .ensures in
+    let least = c .low2 .ensures in
+    let all = stored (a .out .now) (pairSize * a .i) _ _ _ (a .p .number) _ _ _ high mid least in
+    (simp length-set, rw (le-ltb _ _ (c .before .before .before .before .if1 .left)) all)
 
 pub put-pair-spec : {M : Type 1} → statement M
 put-pair-spec =
@@ -61,7 +74,10 @@ put-pair-spec =
     low-requires
     add-out
     slice-write-out-2
+    low-requires-2
     add-out-2
     slice-write-out-3
+    add-out-3
+    slice-write-out-4
     same-length
     returns-2)
