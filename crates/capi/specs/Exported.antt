@@ -1,9 +1,12 @@
--- What C is handed by Play and by Pack: the result as a number, and the lent bytes afterwards. Built on the operations' own definitions.
+-- What C is handed by Play, by Pack and by carrying: the result as a number, and the lent bytes afterwards. Built on the operations' own definitions.
+use mathlib.Core.Bool.{cond}
 use mathlib.Core.List.{List}
 use Prim.Native.Nat.{ℕ}
 use Rattle.lists.specs.Lists.{Lists}
-use Rattle.pack.specs.Pack.{Packed, packOf}
-use Rattle.simulator.specs.Play.{Played, playOf}
+use Rattle.plan.specs.Form.{isForm, widthOf}
+use Rattle.pack.specs.Pack.{Packed, packIn}
+use Rattle.answers.specs.Answers.{answerSize}
+use Rattle.simulator.specs.Play.{Played, playIn}
 use Rattle.codes.specs.Codes.{codeOf}
 
 pub record Answered : Type 0 where
@@ -14,9 +17,9 @@ pub record Answered : Type 0 where
 abbrev pub answeredBy : Played → Answered
 answeredBy x = record { code = codeOf (x .outcome); answers = x .answers; workspace = x .workspace }
 
--- Play at values of 16 bits
-abbrev pub playExported : List ℕ → List ℕ → List ℕ → Answered
-playExported plan answers workspace = answeredBy (playOf 16 plan answers workspace)
+-- Play in a form
+abbrev pub playExported : ℕ → List ℕ → List ℕ → List ℕ → Answered
+playExported form plan answers workspace = answeredBy (playIn form plan answers workspace)
 
 pub record Written : Type 0 where
   pub code : ℕ
@@ -25,6 +28,10 @@ pub record Written : Type 0 where
 abbrev pub writtenBy : Packed → Written
 writtenBy x = record { code = codeOf (x .outcome); out = x .out }
 
--- Pack at values of 16 bits
-abbrev pub packExported : Lists → List ℕ → Written
-packExported l out = writtenBy (packOf 16 l out)
+-- Pack in a form
+abbrev pub packExported : ℕ → Lists → List ℕ → Written
+packExported form l out = writtenBy (packIn form l out)
+
+-- the bytes of an answer in a form; 0 where there is no such form
+abbrev pub answerBytesIn : ℕ → ℕ
+answerBytesIn form = cond (isForm form) (answerSize (widthOf form)) 0
