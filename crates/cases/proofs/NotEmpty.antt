@@ -4,22 +4,19 @@ use mathlib.Core.Path.{_≡_, refl, ap}
 use mathlib.Core.Bool.{Bool, true}
 use mathlib.Core.List.{List, _++_}
 use Prim.Native.Nat.{ℕ, _≤_}
-use lib.Dec.{ltb}
+use lib.Dec.{ltb, lit≤}
 use lib.ListN.{length, take}
-use Rattle.register.specs.Lists.{allUpTo, filter}
-use Rattle.register.specs.Plan.{Plan, Forgery, stamped, kk}
-use Rattle.register.specs.Reading.{countOf}
+use Rattle.register.specs.{Lists.allUpTo, Lists.filter, Plan.Plan, Plan.Forgery, Plan.stamped, Plan.kk, Reading.countOf}
 use Rattle.plan.specs.Header.{headerOf, moves}
 use Rattle.plan.specs.Packed.{planOf}
 use Rattle.plan.specs.Check.{Outcome, result, checkOf}
 use Rattle.answers.specs.Answers.{answersOf}
-use Rattle.simulator.specs.Play.{playOf}
-use Rattle.simulator.specs.Judge.{readOf, judgeOf}
-use Rattle.simulator.specs.PointThree.{PointThree}
-use Rattle.cases.proofs.Starred.{opened}
-use Rattle.simulator.proofs.Played.{play-plays}
-use Rattle.simulator.proofs.PointThree.{pointThree}
-use Rattle.cases.specs.Hex.{hex}
+use Rattle.simulator.specs.{Play.playOf, Judge.readOf, Judge.judgeOf, PointThree.PointThree}
+use Rattle.cases.proofs.Opened.{opened}
+use Rattle.simulator.proofs.{Played.play-plays, PointThree.pointThree}
+use Rattle.carrying.specs.Carrying.{carriedPlan}
+use Rattle.carrying.proofs.{Values.wider-fits, Back.carried-accepted}
+use Rattle.cases.specs.{Hex.hex, Starred.oneWidth, Starred.twoWidth}
 
 -- n = 5, f = 1, δ = 1, Δ = 2, H = 8: value 9 written at 0, 8 at 4, reads at 2 and 5
 unfoldable pub four-periods : List ℕ
@@ -52,15 +49,15 @@ pub record Facts : Type 0 where
 
 unfoldable pub factsOf : List ℕ → Facts
 factsOf s =
-    let P : Plan = planOf 16 s in
+    let P : Plan = planOf oneWidth s in
     record {
-      outcome = checkOf 16 s;
+      outcome = checkOf oneWidth s;
       k = kk P;
-      takeovers = allUpTo (moves (headerOf 16 s)) (λ i. P .placed i i);
+      takeovers = allUpTo (moves (headerOf oneWidth s)) (λ i. P .placed i i);
       votes = length (filter (λ (g : Forgery). ltb (g .to) (P .n)) (P .forged));
       replies = length (filter (λ (g : Forgery). ltb (P .n) (g .to)) (P .forged));
-      forged-count = countOf P (readOf P 0) (stamped 16 666 200);
-      answers = answersOf 16 s;
+      forged-count = countOf P (readOf P 0) (stamped oneWidth 666 200);
+      answers = answersOf oneWidth s;
     }
 
 pub four-facts : factsOf four-periods ≡ record {
@@ -88,22 +85,30 @@ unfolding opened factsOf six-periods
 six-facts = refl
 
 -- The theorem for each, and Judge's yes to what Play writes of it.
-pub four-point : PointThree 16 four-periods
+pub four-point : PointThree oneWidth four-periods
 unfolding factsOf
-four-point = pointThree 16 four-periods 2 (ap (λ (x : Facts). x .outcome) four-facts)
+four-point = pointThree oneWidth four-periods 2 (ap (λ (x : Facts). x .outcome) four-facts)
 
-pub six-point : PointThree 16 six-periods
+pub six-point : PointThree oneWidth six-periods
 unfolding factsOf
-six-point = pointThree 16 six-periods 1 (ap (λ (x : Facts). x .outcome) six-facts)
+six-point = pointThree oneWidth six-periods 1 (ap (λ (x : Facts). x .outcome) six-facts)
+
+-- and for the first in form two, where its pairs have other numbers: what holds of every plan that is carried
+pub four-two : PointThree twoWidth (carriedPlan oneWidth twoWidth four-periods)
+unfolding factsOf
+four-two =
+    let accepted = ap (λ (x : Facts). x .outcome) four-facts in
+    let fit = wider-fits oneWidth twoWidth four-periods (lit≤ tt) in
+    pointThree twoWidth (carriedPlan oneWidth twoWidth four-periods) 2 (carried-accepted oneWidth twoWidth four-periods fit 2 accepted)
 
 pub four-judged : (answers workspace : List ℕ) → 10 ≤ length answers → 60000 ≤ length workspace
-    → judgeOf 16 four-periods (take 10 (playOf 16 four-periods answers workspace .answers)) ≡ result true
+    → judgeOf oneWidth four-periods (take 10 (playOf oneWidth four-periods answers workspace .answers)) ≡ result true
 unfolding factsOf
 four-judged answers workspace a b =
-    four-point .judged answers workspace 2 (play-plays 16 four-periods 2 (ap (λ (x : Facts). x .outcome) four-facts) answers workspace a b)
+    four-point .judged answers workspace 2 (play-plays oneWidth four-periods 2 (ap (λ (x : Facts). x .outcome) four-facts) answers workspace a b)
 
 pub six-judged : (answers workspace : List ℕ) → 5 ≤ length answers → 60000 ≤ length workspace
-    → judgeOf 16 six-periods (take 5 (playOf 16 six-periods answers workspace .answers)) ≡ result true
+    → judgeOf oneWidth six-periods (take 5 (playOf oneWidth six-periods answers workspace .answers)) ≡ result true
 unfolding factsOf
 six-judged answers workspace a b =
-    six-point .judged answers workspace 1 (play-plays 16 six-periods 1 (ap (λ (x : Facts). x .outcome) six-facts) answers workspace a b)
+    six-point .judged answers workspace 1 (play-plays oneWidth six-periods 1 (ap (λ (x : Facts). x .outcome) six-facts) answers workspace a b)

@@ -1,3 +1,4 @@
 pub mod Hex
 pub mod Starred
+pub mod FormTwo
 pub mod Lists

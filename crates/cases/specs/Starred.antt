@@ -1,5 +1,5 @@
--- The starred cases of document 01 ('Rehearsed cases') and a case of document 02, from the bytes: the plans, each as the number that its bytes
--- are, and tables of what holds of them.
+-- The starred cases of document 01 ('Rehearsed cases') and a case of document 02, from the bytes: the plans, all of form one, each as the number
+-- that its bytes are, and tables of what holds of them.
 use mathlib.Core.Path.{_≡_}
 use mathlib.Core.Bool.{Bool, true, false}
 use mathlib.Core.List.{List, [], _∷_, _++_}
@@ -8,14 +8,24 @@ use lib.ListN.{length}
 use Rattle.register.specs.Plan.{Plan, valueOf, numberOf}
 use Rattle.register.specs.Cluster.{cluster, serverOf}
 use Rattle.register.specs.Reading.{Answer, answerOf}
+use Rattle.plan.specs.Form.{widthOf}
 use Rattle.plan.specs.Header.{headerOf, kIn}
 use Rattle.plan.specs.Packed.{planOf}
-use Rattle.plan.specs.Check.{Outcome, refused, result, checkOf}
+use Rattle.plan.specs.Check.{Outcome, refused, result, checkOf, checkIn}
 use Rattle.answers.specs.Answers.{answersOf}
 use Rattle.simulator.specs.Look.{is-cured, is-correct, Shown, shownBy}
 use Rattle.simulator.specs.Judge.{readOf, judgeOf}
 use Rattle.lines.specs.Text.{textOf}
+use Rattle.pack.specs.Pack.{Packed}
+use Rattle.carrying.specs.Carrying.{carryOf}
 use Rattle.cases.specs.Hex.{hex}
+
+-- the bits of a value in form one and in form two
+abbrev pub oneWidth : ℕ
+oneWidth = widthOf 1
+
+abbrev pub twoWidth : ℕ
+twoWidth = widthOf 2
 
 -- n = 1, δ = 2, Δ = 4
 unfoldable pub k-one : List ℕ
@@ -94,21 +104,26 @@ pub data Row : Type 0 where
   answers : List ℕ → ℕ → ℕ → ℕ → Row
   shows : List ℕ → ℕ → ℕ → Shown → Row
   judges : List ℕ → List ℕ → Outcome Bool → Row
+  checks-in : ℕ → List ℕ → Outcome ℕ → Row
+  carries : ℕ → ℕ → List ℕ → List ℕ → Packed → Row
 
--- its bytes; what Check returns; k; the answer bytes; the text that is printed, whole; value, number and count of the first read's answer;
--- server b after tick t; what Judge says of answers
-unfoldable pub Holds : Row → Type 0
-Holds (has-length s n) = length s ≡ n
-Holds (checks s o) = checkOf 16 s ≡ o
-Holds (has-k s k) = kIn (headerOf 16 s) ≡ k
-Holds (writes-bytes s bytes) = answersOf 16 s ≡ bytes
-Holds (prints s text) = textOf 16 s ≡ text
-Holds (answers s value number count) =
-    let P : Plan = planOf 16 s in
+-- Of values of w bits: its bytes; what Check returns; k; the answer bytes; the text that is printed, whole; value, number and count of the first read's answer;
+-- server b after tick t; what Judge says of answers. In forms that are named: what Check returns; what carrying it from one to another returns and leaves
+-- in a lent buffer
+unfoldable pub Holds : ℕ → Row → Type 0
+Holds w (has-length s n) = length s ≡ n
+Holds w (checks s o) = checkOf w s ≡ o
+Holds w (has-k s k) = kIn (headerOf w s) ≡ k
+Holds w (writes-bytes s bytes) = answersOf w s ≡ bytes
+Holds w (prints s text) = textOf w s ≡ text
+Holds w (answers s value number count) =
+    let P : Plan = planOf w s in
     let a : Answer = answerOf P (readOf P 0) in
-    (valueOf 16 (a .pair) ≡ value) × (numberOf 16 (a .pair) ≡ number) × (a .count ≡ count)
-Holds (shows s b t shown) = shownBy 16 (serverOf (cluster (planOf 16 s) (suc t)) b) ≡ shown
-Holds (judges s a o) = judgeOf 16 s a ≡ o
+    (valueOf w (a .pair) ≡ value) × (numberOf w (a .pair) ≡ number) × (a .count ≡ count)
+Holds w (shows s b t shown) = shownBy w (serverOf (cluster (planOf w s) (suc t)) b) ≡ shown
+Holds w (judges s a o) = judgeOf w s a ≡ o
+Holds w (checks-in form s o) = checkIn form s ≡ o
+Holds w (carries from to s out p) = carryOf (widthOf from) (widthOf to) s out ≡ p
 
 unfoldable pub starred : List Row
 starred =

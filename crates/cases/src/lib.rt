@@ -1,1 +1,1 @@
-// The starred cases of document 01, a case of document 02, and plans that show that what is promised is not empty: definitions and proofs, and no code.
+// The starred cases of document 01, cases of document 02, and plans that show that what is promised is not empty: definitions and proofs, and no code.
