@@ -16,7 +16,7 @@ import sys
 
 sys.dont_write_bytecode = True
 
-from oracle import Oracle, read, write
+from oracle import FORM_TWO, Oracle, read, write
 
 HELP = """\
 usage: simulate [PLAN]
@@ -60,16 +60,16 @@ def refused(oracle):
     return {f"refused-{number}.plan": found[number] for number in range(1, 9)}
 
 
-def longest_implied(rehearsal):
+def longest_implied(oracle):
     """A header in range that implies the most bytes, and so many zeros."""
-    header = rehearsal.Header(n=16, f=0, delta=1, Delta=1, s=4, H=128, start=0, operations=255, forgeries=1024)
-    return rehearsal.pack(header, [0] * header.moves, [(0, 0, 0)] * 255, [(0, 0, 0, 0, 0)] * 1024,
-                          [0] * (header.H * header.parties ** 2))
+    return oracle.built(n=16, s=4, H=128, ops=[(0, 0, 0)] * 255, forge=[(0, 0, 0, 0, 0)] * 1024, delay=0)
 
 
 def inputs(oracle, longest):
-    """Files by name: a plan for each refusal, and lengths at the ends."""
-    implied = longest_implied(oracle.rehearsal)
+    """Files by name: a plan for each refusal, and lengths at the ends.  One byte more is read than a header
+    implies in any form."""
+    implied = longest_implied(oracle)
+    all_read = implied.ljust(len(longest_implied(Oracle(oracle.folder, FORM_TWO))) + 1, b"\0")
     return {**refused(oracle),
             "empty.plan": b"",
             "longest.plan": longest,
@@ -77,6 +77,8 @@ def inputs(oracle, longest):
             "longest-and-one.plan": longest + b"\0",
             "implied.plan": implied,
             "implied-and-one.plan": implied + b"\0",
+            "all-read.plan": all_read,
+            "all-read-but-one.plan": all_read + b"\0",
             "implied-and-more.plan": implied + bytes(10_000)}
 
 
@@ -89,7 +91,7 @@ def main(argv):
         sys.stderr.write(__doc__)
         return 2
     oracle, crates = Oracle(argv[0]), argv[1]
-    longest = oracle.builder.pack_plan(oracle.builder.largest())
+    longest = oracle.longest()
     write(longest, crates, "simulate", "stdin")
     write(oracle.text(longest).encode(), crates, "simulate", "stdout")
     runs = os.path.join(crates, "runs")

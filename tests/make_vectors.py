@@ -4,24 +4,32 @@
 Writes the plans and requests of the program `vectors` and what it has to print, as the rehearsal
 program of other authorship in the folder ORACLE says it:
 
-  FOLDER/data/plans  for each plan its length in 4 bytes and the number of its requests in 2, then the
-                     plan and the requests, of 13 bytes each, a letter and its numbers, big-endian:
+  FOLDER/data/plans  for each plan its form in 6 bytes, its length in 4 and the number of its requests
+                     in 2, then the plan and the requests, of 13 bytes each, a letter and its numbers,
+                     big-endian:
                        p  answer bytes lent (4 bytes), workspace bytes lent (4), nothing (4)
                        l  workspace bytes lent (4), server (4), tick (4)
-                       j  length of the answers (4), which of them is replaced (3), its five bytes
+                       j  length of the answers (4), which of them is replaced (2), its bytes (6; in form
+                          one the last is nothing)
+                       c  plan bytes lent (4), nothing (8)
                      Lent bytes hold 165; answers beyond Play's are zeros.
-  FOLDER/stdout      for each plan a line `plan I` (counted from 0); a line `check reads N` or `check
-                     refused N`; the program's text; for an accepted plan the line `answers` with each
-                     answer as a number, and if it has at most 120 servers times ticks a line `look`
-                     for each tick and server: tick, server, condition (0 faulty, 1 cured, 2 correct),
-                     then value and number of each stamped value kept, highest first.  Then a line for
-                     each request:
+  FOLDER/stdout      for each plan a line `plan I in form N` (I counted from 0); a line `check reads N` or
+                     `check refused N`; in form one the program's text; for an accepted plan the line
+                     `answers` with each answer as a number, and if it has at most 120 servers times ticks a
+                     line `look` for each tick and server: tick, server, condition (0 faulty, 1 cured,
+                     2 correct), then value and number of each stamped value kept, highest first.  Then a
+                     line for each request:
                        play   `reads N` or `refused N`; `kept` or `changed` for answers and workspace
                        look   what is seen or `refused N`; `kept` or `changed` for workspace and pairs
                        judge  `yes`, `no` or `refused N`
+                       carry  `bytes N` or `refused N`; `kept` or `changed` for the bytes behind the carried
+                              plan, on a refusal for the whole buffer; the plan's bytes as hexadecimal
+                              digits, of more than 300 a check sum (`shown` in oracle.py)
 
 The same oracle gives the same bytes."""
 
+import collections
+import itertools
 import os
 import random
 import struct
@@ -29,73 +37,139 @@ import sys
 
 sys.dont_write_bytecode = True
 
-from oracle import Oracle, lent, write
+from oracle import FORM_ONE, FORM_TWO, Oracle, kept, lent, write
 
 LOOKED_AT = 120
 SMALL_BYTES = 2_500
-ROOM_FOR_SMALL = 500_000
-BEYOND = 2 ** 24 - 1        # an answer that is not there: nothing is replaced
+CARRIED_BYTES = 9_000       # of the vectors that are also asked in form two
+FEW_BYTES = 300             # of those that are asked in the wrong form
+LONG_BYTES = 100_000
+ROOM = 36_000               # for any carried plan
+BEYOND = 2 ** 16 - 1        # an answer that is not there: nothing is replaced
+REPLACED = 6                # bytes of a request for an answer
+# There are no such forms; the low bits of some name one.
+NO_FORMS = 0, 3, 255, 256, 257, 258, 65_537, 65_538, 2 ** 32 + 1, 2 ** 32 + 2, 2 ** 48 - 1
+# The start value and three that are written; in form two they differ only above the bits of form one.
+VALUES = {FORM_ONE: (7, 9, 8, 6), FORM_TWO: (0x07_0009, 0x09_0009, 0x08_0009, 0x06_0009)}
 
 
-def limits(largest):
-    """Lengths at the ends, beside the largest plan of the vectors."""
+def limits(oracle, longest):
+    """Lengths at the ends, beside the longest plan."""
+    header = oracle.form.header_bytes
     yield b""
-    yield largest[:7]
-    yield largest[:8]
-    yield largest[:-1]
-    yield largest + bytes(100_000 - len(largest))
+    yield longest[:header - 1]
+    yield longest[:header]
+    yield longest[:-1]
+    yield longest + bytes(LONG_BYTES - len(longest))
 
 
-def damaged_at_the_end(largest):
+def damaged_at_the_end(longest):
     """Faults that only reading to the end finds."""
-    for at, bits in ((len(largest) - 1, 0x01), (len(largest) - 1, 0x80), (len(largest) // 2, 0xFF)):
-        plan = bytearray(largest)
+    for at, bits in ((len(longest) - 1, 0x01), (len(longest) - 1, 0x80), (len(longest) // 2, 0xFF)):
+        plan = bytearray(longest)
         plan[at] ^= bits
         yield bytes(plan)
 
 
-def generated(oracle):
-    """Small plans, so many for each refusal, until there is no more room."""
-    seen, total, seed = {}, 0, 0
-    while total < ROOM_FOR_SMALL:
-        for damage in (False, True):
-            plan = oracle.generate.generate(700_000 + seed, damage=damage, small=True)
-            result = oracle.check(plan)
-            number = result.number if oracle.is_refused(result) else 0
-            if len(plan) > SMALL_BYTES or seen.get(number, 0) == (250 if number == 0 else 35):
-                continue
-            seen[number] = seen.get(number, 0) + 1
-            total += len(plan)
+def some_of_each(oracle, plans, accepted, refused):
+    """The small ones of these plans: so many accepted ones, and so many for each refusal."""
+    seen = collections.Counter()
+    for plan in plans:
+        result = oracle.check(plan)
+        number = result.number if oracle.is_refused(result) else 0
+        if len(plan) <= SMALL_BYTES and seen[number] < (refused if number else accepted):
+            seen[number] += 1
             yield plan
-        seed += 1
-        if seed == 900:
-            return
 
 
-def at_the_last_byte(builder):
+def generated_in_form_one(oracle):
+    for seed in range(700_000, 700_900):
+        for damage in (False, True):
+            yield oracle.generate.generate(seed, damage=damage, small=True)
+
+
+def generated_in_form_two(oracle):
+    for index in range(900):
+        for kind in ("two", "damaged"):
+            form, plan = oracle.generate02.generate(700_000, kind, index)
+            if form == oracle.form:
+                yield plan
+
+
+def at_the_last_byte(oracle):
     """Plans with 0, 2, 4 and 6 final bits: whole, with each final bit set, a byte short, a byte long."""
     for ticks, operations in ((4, []), (3, [(0, 1, 0)]), (3, []), (4, [(0, 1, 0)])):
-        plan = builder.build(H=ticks, ops=operations)
-        whole = builder.pack_plan(plan)
+        whole = oracle.built(H=ticks, ops=operations)
         yield whole
-        for bit in range(8 * len(whole) - plan.header.bits):
+        for bit in range(8 * len(whole) - oracle.forms.implied_bits(oracle.form, oracle.header(whole))):
             yield whole[:-1] + bytes([whole[-1] | 1 << bit])
         yield whole[:-1]
         yield whole + bytes(1)
 
 
-def around_a_write_end(builder):
+def around_a_write_end(oracle):
     """Reads that begin a tick before a write ends, in that tick and a tick after it, for both k; all delays
     are the longest, the values differ or are all one, and the faulty server forges an older pair."""
+    start, *different = VALUES[oracle.number]
     for delta, period, n in ((2, 4, 5), (2, 3, 6), (1, 2, 5), (1, 1, 6)):
         writes = [i * (delta + 1) for i in range(3)]
-        for values in ((9, 8, 6), (9, 9, 9)):
+        for values in (different, 3 * different[:1]):
             for begin in range(writes[1] + delta - 1, writes[1] + delta + 2):
-                operations = sorted([*((tick, 0, value) for tick, value in zip(writes, values)), (begin, 1, 0)])
+                operations = [*((tick, 0, value) for tick, value in zip(writes, values)), (begin, 1, 0)]
                 ticks, sender = begin + 2 * delta + 2, begin // period % n
-                yield builder.packed(n=n, f=1, delta=delta, Delta=period, H=ticks, start=7, delay=delta,
-                                     held=[[i % n] for i in range(ticks)], ops=operations,
-                                     forge=[(begin, sender, n + 1, values[0], 1)])
+                yield oracle.built(n=n, f=1, delta=delta, Delta=period, H=ticks, start=start, delay=delta,
+                                   held=[[i % n] for i in range(ticks)], ops=operations,
+                                   forge=[(begin, sender, n + 1, values[0], 1)])
+
+
+def with_one_value(one, two):
+    """The start value, a written and a forged one, each alone at the highest of form one and above it."""
+    plan = two.built(n=5, f=1, delta=1, Delta=2, H=6, start=7, held=[[4], [1], [2]], ops=[(0, 0, 9), (2, 0, 8), (3, 1, 0)],
+                     forge=[(0, 4, 2, 5, 1), (2, 1, 0, 6, 2), (4, 2, 6, 5, 1)])
+    yield plan
+    for value in (one.highest_value, one.highest_value + 1, two.highest_value):
+        yield from two.with_a_value(plan, value, lambda records: records[0])
+        yield from two.with_a_value(plan, value, lambda records: records[-1])
+
+
+def plans_of_form_one(one):
+    longest = one.longest()
+    yield from (plan for _, plan in one.vectors())
+    yield from limits(one, longest)
+    yield from damaged_at_the_end(longest)
+    yield from some_of_each(one, generated_in_form_one(one), accepted=250, refused=35)
+    yield from at_the_last_byte(one)
+
+
+def plans_of_form_two(one, two):
+    longest = two.longest()
+    vectors = (plan for _, plan in one.vectors() if len(plan) <= CARRIED_BYTES)
+    yield from filter(None, map(two.of_form_one, vectors))
+    yield longest
+    yield from limits(two, longest)
+    yield from damaged_at_the_end(longest)
+    yield from some_of_each(two, generated_in_form_two(two), accepted=100, refused=15)
+    yield from at_the_last_byte(two)
+    yield from with_one_value(one, two)
+
+
+def in_the_wrong_form(one, two):
+    """Accepted plans of form one asked in form two, and the other way round, with the oracle to ask; and a plan
+    that is accepted in both."""
+    yield one, one.of_both_forms()
+    yield two, one.of_both_forms()
+    for _, plan in one.vectors():
+        if len(plan) <= FEW_BYTES and not one.is_refused(one.check(plan)):
+            yield two, plan
+            yield one, one.carry(plan)
+
+
+def in_no_form(folder, one):
+    """Accepted plans of both forms, and no bytes, in forms that there are not."""
+    plan = one.built(H=3, start=7, ops=[(0, 1, 0)])
+    for number in NO_FORMS:
+        for given in (plan, one.carry(plan), b""):
+            yield Oracle(folder, number), given
 
 
 class Asked:
@@ -120,20 +194,38 @@ class Asked:
         result = self.oracle.look(self.plan, workspace, server, tick)
         is_shown = not self.oracle.is_refused(result) and result[1]
         self.add(struct.pack(">c3I", b"l", space, server, tick),
-                 f"look {self.oracle.said(result, shown)} {kept(workspace)} {'changed' if is_shown else 'kept'}")
+                 f"look {self.oracle.said(result, seen)} {kept(workspace)} {'changed' if is_shown else 'kept'}")
 
-    def judge(self, length, index=BEYOND, replaced=bytes(5)):
-        given = self.answers + bytes(length)
+    def judge(self, length, index=BEYOND, replaced=b""):
+        given, at = self.answers + bytes(length), len(replaced) * index
         if index != BEYOND:
-            given = given[:5 * index] + replaced + given[5 * index + 5:]
+            given = given[:at] + replaced + given[at + len(replaced):]
         said = self.oracle.said(self.oracle.judge(self.plan, given[:length]), lambda good: "yes" if good else "no")
-        self.add(b"j" + length.to_bytes(4, "big") + index.to_bytes(3, "big") + replaced, f"judge {said}")
+        self.add(struct.pack(f">cIH{REPLACED}s", b"j", length, index, replaced), f"judge {said}")
+
+    def carry(self, room):
+        buffer = lent(room)
+        result = self.oracle.carry(self.plan, buffer)
+        self.add(struct.pack(">c3I", b"c", room, 0, 0), f"carry {self.oracle.written(result, buffer)}")
 
     def refused(self):
         """A refusal of Check comes before every other."""
         self.play(0, 0)
         self.look(0, 99, 99)
         self.judge(3)
+
+    def not_carried(self):
+        """Neither into no bytes nor into many."""
+        self.carry(0)
+        self.carry(ROOM)
+
+    def in_no_form(self):
+        """However much is lent: room for an answer of each form, and as many bytes of answers."""
+        space = self.oracle.workspace_bytes
+        self.look(space, 0, 0)
+        for form in self.oracle.forms.FORMS.values():
+            self.play(form.answer_bytes, space)
+            self.judge(form.answer_bytes)
 
     def short_or_long(self):
         """Lent bytes, servers, ticks and answers at the ends of what is asked for, and behind them."""
@@ -150,15 +242,19 @@ class Asked:
             self.play(size - 1, space - 1)
             self.judge(size - 1)
 
+    def answer(self, index):
+        size = self.oracle.answer_bytes
+        return self.oracle.unpack_answer(self.answers[size * index:size * index + size])
+
     def altered(self, times):
         """One answer replaced: a field of it, or its pair by another of the plan's."""
         size, rng = len(self.answers), self.rng
         if not size:
             return
-        pairs = self.oracle.pairs(self.plan)
+        reads, pairs = size // self.oracle.answer_bytes, self.oracle.pairs(self.plan)
         for what in ("begin", "reader", "zero", "count", "value", "number", "value and zero", *["pair"] * times):
-            index = rng.choice([0, size // 5 - 1, rng.randrange(size // 5)])
-            begin, reader, value, number, count, zero = self.oracle.unpack_answer(self.answers[5 * index:5 * index + 5])
+            index = rng.choice([0, reads - 1, rng.randrange(reads)])
+            begin, reader, value, number, count, zero = self.answer(index)
             if what == "begin":
                 begin ^= 1 << rng.randrange(7)
             elif what == "reader":
@@ -170,15 +266,15 @@ class Asked:
             elif what == "pair":
                 number, value = rng.choice(pairs)
             if what.startswith("value"):
-                value ^= 1 << rng.randrange(16)
+                value ^= 1 << rng.randrange(self.oracle.form.cue)
             if what.endswith("zero"):
                 zero = 1
             self.judge(size, index, self.oracle.pack_answer(begin, reader, value, number, count, zero))
 
     def each_pair(self):
         """Every answer replaced by each pair of the plan."""
-        for index in range(len(self.answers) // 5):
-            answer = self.oracle.unpack_answer(self.answers[5 * index:5 * index + 5])
+        for index in range(len(self.answers) // self.oracle.answer_bytes):
+            answer = self.answer(index)
             for number, value in self.oracle.pairs(self.plan):
                 self.judge(len(self.answers), index, self.oracle.pack_answer(*answer._replace(cue=value, number=number)))
 
@@ -190,14 +286,19 @@ class Asked:
         self.look(space + 9, 2 ** 32 - 1, 0)
         self.look(space, 0, 2 ** 32 - 1)
 
+    def carried(self):
+        """Into as many bytes as the carried plan has, one less, more, and none."""
+        carried = self.oracle.carry(self.plan)
+        if self.oracle.is_refused(carried):
+            self.not_carried()
+            return
+        for room in (len(carried), len(carried) - 1, len(carried) + 9, 0):
+            self.carry(room)
 
-def kept(data):
-    return "kept" if data == lent(len(data)) else "changed"
 
-
-def shown(look):
-    condition, kept = look
-    return " ".join(map(str, [condition, *(x for pair in kept for x in pair)]))
+def seen(look):
+    condition, pairs = look
+    return " ".join(map(str, [condition, *(x for pair in pairs for x in pair)]))
 
 
 def looks(oracle, plan):
@@ -205,18 +306,22 @@ def looks(oracle, plan):
     header = oracle.header(plan)
     if header.n * header.H > LOOKED_AT:
         return []
-    return [f"look {tick} {server} {shown(look)}" for tick, server, *look in oracle.every_look(plan)]
+    return [f"look {tick} {server} {seen(look)}" for tick, server, *look in oracle.every_look(plan)]
 
 
-def about(oracle, index, plan, rng, each_pair):
-    """The requests about a plan, and what the program has to print of it."""
-    first, *reads = oracle.text(plan).splitlines()
-    lines = [f"plan {index}", f"check {first}", first, *reads]
-    if first.startswith("refused"):
-        asked = Asked(oracle, plan, b"", rng)
-        asked.refused()
-        return asked, lines + asked.lines
-    answers = bytearray(5 * len(reads))
+def about_refused(oracle, plan, rng):
+    asked = Asked(oracle, plan, b"", rng)
+    asked.refused()
+    if oracle.form is None:
+        asked.in_no_form()
+    else:
+        asked.not_carried()
+    return asked, []
+
+
+def about_accepted(oracle, plan, rng, each_pair):
+    size = oracle.answer_bytes
+    answers = bytearray(size * oracle.check(plan))
     oracle.play(plan, answers, bytearray(oracle.workspace_bytes))
     asked = Asked(oracle, plan, bytes(answers), rng)
     asked.short_or_long()
@@ -225,37 +330,57 @@ def about(oracle, index, plan, rng, each_pair):
         asked.in_range()
     if each_pair:
         asked.each_pair()
-    numbers = [int.from_bytes(answers[i:i + 5], "big") for i in range(0, len(answers), 5)]
-    return asked, [*lines, " ".join(["answers", *map(str, numbers)]), *looks(oracle, plan), *asked.lines]
+    asked.carried()
+    numbers = [int.from_bytes(answers[i:i + size], "big") for i in range(0, len(answers), size)]
+    return asked, [" ".join(["answers", *map(str, numbers)]), *looks(oracle, plan)]
+
+
+def about(oracle, index, plan, rng, each_pair):
+    """The requests about a plan, and what the program has to print of it."""
+    reads = oracle.check(plan)
+    first = [f"plan {index} in form {oracle.number}", f"check {oracle.said(reads, lambda count: f'reads {count}')}"]
+    if oracle.number == FORM_ONE:
+        first += oracle.text(plan).splitlines()
+    asked, lines = about_refused(oracle, plan, rng) if oracle.is_refused(reads) else about_accepted(oracle, plan, rng, each_pair)
+    return asked, [*first, *lines, *asked.lines]
+
+
+def all_plans(folder):
+    """The oracle to ask, the plan, and whether its answers are judged with each pair."""
+    one, two = Oracle(folder), Oracle(folder, FORM_TWO)
+    yield from ((one, plan, False) for plan in plans_of_form_one(one))
+    yield from ((one, plan, True) for plan in around_a_write_end(one))
+    yield from ((two, plan, False) for plan in plans_of_form_two(one, two))
+    yield from ((two, plan, True) for plan in around_a_write_end(two))
+    for oracle, plan in itertools.chain(in_the_wrong_form(one, two), in_no_form(folder, one)):
+        yield oracle, plan, False
+
+
+def kind(line):
+    """What was asked, and how it was answered, in short."""
+    words = line.split()
+    return " ".join(words[:3] if words[1] == "refused" else words[:1 if words[0] != "judge" else 2])
 
 
 def main(argv):
     if len(argv) != 2:
         sys.stderr.write(__doc__)
         return 2
-    oracle, folder = Oracle(argv[0]), argv[1]
-    builder = oracle.builder
-    largest = builder.pack_plan(builder.largest())
-    plans = [*(plan for _, plan in oracle.vectors()), *limits(largest), *damaged_at_the_end(largest)]
-    plans += generated(oracle)
-    plans += at_the_last_byte(builder)
-    first_at_an_end = len(plans)
-    plans += around_a_write_end(builder)
+    source, folder = argv
     rng = random.Random(1)
-    packed, printed, counts = [], [], {}
-    for index, plan in enumerate(plans):
-        asked, lines = about(oracle, index, plan, rng, each_pair=index >= first_at_an_end)
-        packed += [struct.pack(">IH", len(plan), len(asked.requests)), plan, *asked.requests]
+    packed, printed, counts = [], [], collections.defaultdict(collections.Counter)
+    for index, (oracle, plan, each_pair) in enumerate(all_plans(source)):
+        asked, lines = about(oracle, index, plan, rng, each_pair)
+        packed += [oracle.number.to_bytes(6, "big"), struct.pack(">IH", len(plan), len(asked.requests)), plan, *asked.requests]
         printed += lines
-        for line in [lines[1], *asked.lines]:
-            words = line.split()
-            kind = " ".join(words[:3] if words[1] == "refused" else words[:1 if words[0] != "judge" else 2])
-            counts[kind] = counts.get(kind, 0) + 1
+        form = oracle.form.name if oracle.form else "other"
+        counts[form].update(["plans", *map(kind, [lines[1], *asked.lines])])
     os.makedirs(os.path.join(folder, "data"), exist_ok=True)
     write(b"".join(packed), folder, "data", "plans")
     write(("\n".join(printed) + "\n").encode(), folder, "stdout")
-    print(f"{len(plans)} plans, {sum(map(len, packed))} bytes;",
-          ", ".join(f"{what}: {count}" for what, count in sorted(counts.items())))
+    print(f"{index + 1} plans, {sum(map(len, packed))} bytes")
+    for form, times in counts.items():
+        print(f"form {form}:", ", ".join(f"{what}: {count}" for what, count in sorted(times.items())))
     return 0
 
 

@@ -3,11 +3,15 @@ the requests of document 02 that are met here.  A refusal is an object with a nu
 
 import os
 import sys
+from dataclasses import replace
 
 DEPTH = 3           # pairs in a store
 LOOSE = True        # request Four: a write that ends as a read begins has finished before it
 LARGEST = 2 ** 32 - 1       # number of a list
 FILLER = 165        # byte of a lent buffer
+FORM_ONE, FORM_TWO = 1, 2
+MOST_SHOWN = 300    # bytes of a plan that the gate's programs print byte by byte; of a longer one a check sum
+BASE, PRIME = 257, 2 ** 31 - 1
 
 
 def read(*path):
@@ -25,26 +29,55 @@ def lent(length):
     return bytearray([FILLER]) * length
 
 
+def kept(buffer):
+    """Whether a lent buffer is as it was."""
+    return "kept" if buffer == lent(len(buffer)) else "changed"
+
+
+def shown(plan):
+    """A plan's bytes as the gate's programs print them.  A check sum is the bytes as digits of one number in
+    the base, modulo the prime."""
+    if len(plan) <= MOST_SHOWN:
+        return plan.hex()
+    number = 0
+    for byte in plan:
+        number = (number * BASE + byte) % PRIME
+    return f"sum {number}"
+
+
 class Oracle:
-    def __init__(self, folder):
+    """The operations in the form of a number: 1 or 2, or any other, which is refused."""
+
+    def __init__(self, folder, form=FORM_ONE):
         sys.path.insert(0, folder)
-        import builder
+        import builder02
         import forms
         import generate
         import generate02
         import hall02
         import operations02
         import oracle02
-        import rehearsal
-        self.folder, self.form = folder, forms.FORM_ONE
-        self.builder, self.forms, self.generate, self.generate02 = builder, forms, generate, generate02
-        self.hall02, self.operations, self.oracle02, self.rehearsal = hall02, operations02, oracle02, rehearsal
+        self.folder, self.number, self.form = folder, form, forms.FORMS.get(form)
+        self.builder02, self.forms = builder02, forms
+        self.generate, self.generate02 = generate, generate02
+        self.hall02, self.operations, self.oracle02 = hall02, operations02, oracle02
         self.workspace_bytes = operations02.WORKSPACE_BYTES
         self.conditions = [hall02.HELD, hall02.CURING, hall02.SOUND]
 
+    @property
+    def widths(self):
+        """The bits of each field, list by list."""
         form = self.form
-        self.widths = [[bits for _, bits in fields]
-                       for fields in (form.header, form.placement, form.operation, form.forgery, form.delay)]
+        return [[bits for _, bits in fields]
+                for fields in (form.header, form.placement, form.operation, form.forgery, form.delay)]
+
+    @property
+    def answer_bytes(self):
+        return self.form.answer_bytes
+
+    @property
+    def highest_value(self):
+        return 2 ** self.form.cue - 1
 
     def vectors(self):
         """Its own plans by name: the rehearsed cases, one for every refusal and wrong turn, large ones."""
@@ -53,11 +86,32 @@ class Oracle:
             if name.endswith(".plan"):
                 yield name, read(folder, name)
 
+    def built(self, **given):
+        """A plan of this form from its builder's words, packed."""
+        return self.builder02.packed(self.form, **given)
+
+    def longest(self):
+        """The longest plan of this form that Check accepts."""
+        return self.forms.pack(self.builder02.largest(self.form))
+
+    def of_both_forms(self):
+        """A plan of form one that is accepted in form two as well, where its operations are two forgeries: server
+        5, faulty here, makes their number, server 8 is server 0 there."""
+        return self.builder02.packed(self.forms.FORM_ONE, n=16, f=2, delta=1, Delta=63, s=1, H=12, start=7,
+                                     held=[[5, 8]], ops=[(0, 0, 13), (2, 0, 1), (8, 0, 0x8100), (9, 1, 0)])
+
     def is_refused(self, result):
-        return isinstance(result, (self.forms.Refused, self.rehearsal.Refused))
+        return isinstance(result, self.forms.Refused)
 
     def said(self, result, say):
         return f"refused {result.number}" if self.is_refused(result) else say(result)
+
+    def written(self, result, buffer):
+        """What the gate's programs print of a plan that was to be written into a lent buffer."""
+        if self.is_refused(result):
+            return f"refused {result.number} {kept(buffer)}"
+        length = len(result)
+        return f"bytes {length} {kept(buffer[length:])} {shown(buffer[:length])}"
 
     def unpacked(self, plan):
         return self.forms.unpack(self.form, plan)
@@ -68,6 +122,37 @@ class Oracle:
     def header_numbers(self, plan):
         """All fields of the header but the zero bit, in their order."""
         return self.forms.header_numbers(self.form, self.header(plan))[:-1]
+
+    def of_form_one(self, plan):
+        """A plan of form one with the same fields in this form, refused ones too.  None if it hasn't the
+        length that its header implies."""
+        try:
+            return self.forms.pack(replace(self.forms.unpack(self.forms.FORM_ONE, plan), form=self.form))
+        except (ValueError, ZeroDivisionError):
+            return None
+
+    def fitted(self, plan):
+        """The plan cut, or filled up with zeros, to the length that its header implies.  None if the
+        header itself is refused."""
+        if len(plan) < self.form.header_bytes or not self.forms.header_stands(self.form, self.header(plan)):
+            return None
+        length = self.forms.implied_bytes(self.form, self.header(plan))
+        return plan[:length].ljust(length, b"\0")
+
+    def with_a_value(self, plan, value, choose):
+        """Plans that differ from this one in one value: the initial one, one that is written, a forged one.
+        `choose` takes one of a list."""
+        plan = self.unpacked(plan)
+        yield self.forms.pack(replace(plan, header=replace(plan.header, start=value)))
+        writes = [operation for operation in plan.operations if operation.party == 0]
+        if writes:
+            one = choose(writes)
+            operations = [each._replace(cue=value) if each is one else each for each in plan.operations]
+            yield self.forms.pack(replace(plan, operations=operations))
+        if plan.forgeries:
+            one = choose(plan.forgeries)
+            forgeries = sorted(each._replace(cue=value) if each is one else each for each in plan.forgeries)
+            yield self.forms.pack(replace(plan, forgeries=forgeries))
 
     def pairs(self, plan):
         """The start pair and those of the writes, each (number, value); a pair stands at its number."""
@@ -96,9 +181,17 @@ class Oracle:
         return self.conditions.index(condition), [pair[:2] for pair in pairs]
 
     def look(self, plan, workspace, server, tick):
-        """Asked of the older part of the program: the newer one has no Look with a lent workspace."""
-        result = self.rehearsal.look(plan, workspace, server, tick, capacity=DEPTH)
-        return result if self.is_refused(result) else self.seen(result)
+        """The other program has no Look with a lent workspace: 10 stands between Check's refusals and its 11."""
+        checked = self.check(plan)
+        if self.is_refused(checked):
+            return checked
+        if len(workspace) < self.workspace_bytes:
+            return self.forms.Refused(10)
+        result = self.operations.look(self.form, plan, server, tick, depth=DEPTH)
+        if self.is_refused(result):
+            return result
+        self.operations.clean(workspace)
+        return self.seen(result)
 
     def every_look(self, plan):
         """Tick, server and what is seen, for every tick and server of an accepted plan."""
@@ -128,6 +221,11 @@ class Oracle:
     def pack(self, lists, buffer):
         """The plan's bytes, which then also stand in the buffer."""
         return self.forms.write_plan(self.form, lists, buffer)
+
+    def carry(self, plan, buffer=None):
+        """The plan of this form in the other one; its bytes then also stand in the buffer, if there is one."""
+        way = self.forms.carry if self.form == self.forms.FORM_ONE else self.forms.carry_back
+        return way(plan, buffer)
 
     def bent_lists(self, rng, plan):
         """The plan's lists as its own generator bends them, right ones among them."""

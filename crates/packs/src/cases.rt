@@ -4,13 +4,17 @@ ghost use lib.ListN.{length};
 ghost use Rattle.io.specs.Counts.{Counts};
 
 // The most bytes of a file.
-pub const MOST_BYTES: usize = 500000;
+pub const MOST_BYTES: usize = 650000;
 
 // A case has so many lists.
 pub const LISTS: usize = 5;
 
-// It begins with how many numbers each list has, and the length of the buffer.
-pub const HEAD: usize = LISTS + 1;
+// It begins with how many numbers each list has, the length of the buffer, and the form.
+pub const ROOM: usize = LISTS;
+
+pub const FORM: usize = LISTS + 1;
+
+pub const HEAD: usize = LISTS + 2;
 
 // A number below this is one byte. Any other is four, behind a byte of this.
 const WIDE: u8 = 255;
@@ -63,7 +67,7 @@ fn wide(n: u32) -> usize
 
 // Number i of a case's head.
 pub fn head(case: &[u32], i: usize) -> usize
-    requires { ⌜ (i < 6) × (6 ≤ length (now case)) ⌝ }
+    requires { ⌜ (i < 7) × (7 ≤ length (now case)) ⌝ }
     ensures { λ r. ⌜ r < 2 ^ 32 ⌝ }
 {
     wide(case[i])
@@ -71,8 +75,8 @@ pub fn head(case: &[u32], i: usize) -> usize
 
 // Where list k of a case begins; behind the last one begins the next case.
 pub fn begin(case: &[u32], k: usize) -> usize
-    requires { ⌜ (k ≤ 5) × (6 ≤ length (now case)) ⌝ }
-    ensures { λ r. ⌜ (6 ≤ r) × (r ≤ 6 + 5 * 2 ^ 32) ⌝ }
+    requires { ⌜ (k ≤ 5) × (7 ≤ length (now case)) ⌝ }
+    ensures { λ r. ⌜ (7 ≤ r) × (r ≤ 7 + 5 * 2 ^ 32) ⌝ }
 {
     let mut at = HEAD;
     let mut i: usize = 0;
@@ -85,7 +89,7 @@ pub fn begin(case: &[u32], k: usize) -> usize
 
 // List k of a case; an empty one where the file ends too early.
 pub fn list(case: &[u32], k: usize) -> &[u32]
-    requires { ⌜ (k < 5) × (6 ≤ length (now case)) ⌝ }
+    requires { ⌜ (k < 5) × (7 ≤ length (now case)) ⌝ }
 {
     let from = begin(case, k);
     let end = from + head(case, k);

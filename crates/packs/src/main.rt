@@ -4,31 +4,26 @@ ghost use Prim.Native.Nat.{_≤_};
 ghost use lib.ListN.{length};
 
 mod cases;
-mod shown;
 
-// The first bytes of the lent ones, as many as asked or all of them.
-fn first(bytes: &mut [u8], count: usize) -> &mut [u8] {
-    if bytes.len() < count {
-        return bytes;
-    }
-    &mut bytes[..count]
-}
+use report::lent;
 
-// Packs the lists of a case.
+// Packs the lists of a case, in its form.
 fn run(case: &[u32])
-    requires { ⌜ 6 ≤ length (now case) ⌝ }
+    requires { ⌜ 7 ≤ length (now case) ⌝ }
 {
-    let room = cases::head(case, cases::LISTS);
-    let mut out = [shown::FILLER; shown::ROOM];
+    let room = cases::head(case, cases::ROOM);
+    let mut out = [lent::FILLER; lent::PLAN];
     let packed = pack::pack(
+        cases::head(case, cases::FORM),
         cases::list(case, 0),
         cases::list(case, 1),
         cases::list(case, 2),
         cases::list(case, 3),
         cases::list(case, 4),
-        first(&mut out, room),
+        lent::first_mut(&mut out, room),
     );
-    shown::outcome(codes::of_pack(packed), &out);
+    report::written(codes::of_pack(packed), &out);
+    report::word(b"\n");
 }
 
 fn every(numbers: &[u32]) {

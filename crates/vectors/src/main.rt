@@ -1,11 +1,15 @@
 // Runs the operations over the plans of the file that the first argument names, and prints what they return; tests/make_vectors.py says
 // what the file holds and what is printed.
-mod lent;
 mod requests;
 mod shown;
+mod sizes;
 
 use libc::STDOUT_FILENO;
+use plan::form;
 use plan::header::Shape;
+use report::lent;
+use report::number;
+use report::word;
 
 // The most bytes of an input in the file.
 const MOST_BYTES: usize = 100000;
@@ -16,15 +20,22 @@ const MOST_INPUTS: u64 = 10000;
 // A plan with more servers times ticks is not looked at everywhere.
 const MOST_LOOKS: usize = 120;
 
-// A plan's length, and how many requests follow it.
-const HEAD_BYTES: usize = 6;
+// A plan's form, its length, and how many requests follow it.
+const FORM_BITS: usize = 48;
+
+const LENGTH_BITS: usize = 32;
+
+const COUNT_BITS: usize = 16;
+
+const HEAD_BYTES: usize = 12;
 
 // Every server after every tick, if they are not too many.
-fn looks(plan: &[u8]) {
-    if plan.len() < Shape::HEADER_BYTES {
+fn looks(form: usize, plan: &[u8]) {
+    let width = form::width(form);
+    if plan.len() < Shape::header_bytes(width) {
         return;
     }
-    let shape = Shape::read(plan);
+    let shape = Shape::read(plan, width);
     let n = shape.n as usize;
     let ticks = shape.ticks as usize;
     if n == 0 {
@@ -36,56 +47,65 @@ fn looks(plan: &[u8]) {
     }
     let mut i: usize = 0;
     while i < all {
-        look(plan, i / n, i % n);
+        look(form, plan, i / n, i % n);
         i += 1;
     }
 }
 
-fn look(plan: &[u8], tick: usize, server: usize) {
-    let mut pairs = [0u8; lent::PAIRS];
-    let mut work = [0u8; lent::WORKSPACE];
-    let code = pairs::look(plan, &mut work, server, tick, &mut pairs);
-    shown::word(b"look ");
-    shown::number(tick as u64, b" ");
-    shown::number(server as u64, b" ");
+fn look(form: usize, plan: &[u8], tick: usize, server: usize) {
+    let mut pairs = [0u8; sizes::PAIRS];
+    let mut work = [0u8; sizes::WORKSPACE];
+    let code = pairs::look(form, plan, &mut work, server, tick, &mut pairs);
+    word(b"look ");
+    number(tick as u64, b" ");
+    number(server as u64, b" ");
     shown::seen(code, &pairs);
-    shown::word(b"\n");
+    word(b"\n");
 }
 
-// Check, the program's text, Play's answers, Judge and Look of a plan; what Play answered.
-fn run(plan: &[u8], index: u64) -> [u8; lent::ANSWERS] {
-    shown::word(b"plan ");
-    shown::number(index, b"\ncheck ");
-    shown::outcome(codes::of_check(checks::check(plan)));
-    shown::word(b"\n");
-    console::print_text(STDOUT_FILENO, plan);
-    let mut answers = [0u8; lent::ANSWERS];
-    let mut work = [0u8; lent::WORKSPACE];
-    let code = codes::of_play(play::play(plan, &mut answers, &mut work));
+// What Check says of a plan; in form one also the program's text.
+fn check(form: usize, plan: &[u8]) {
+    word(b"check ");
+    shown::outcome(codes::of_check(checks::check(form, plan)));
+    word(b"\n");
+    if form == form::ONE {
+        console::print_text(STDOUT_FILENO, plan);
+    }
+}
+
+// Check, Play's answers and Look of a plan; what Play answered.
+fn run(form: usize, plan: &[u8], index: u64) -> [u8; sizes::ANSWERS] {
+    word(b"plan ");
+    number(index, b" in form ");
+    number(form as u64, b"\n");
+    check(form, plan);
+    let mut answers = [0u8; sizes::ANSWERS];
+    let mut work = [0u8; sizes::WORKSPACE];
+    let code = codes::of_play(play::play(form, plan, &mut answers, &mut work));
     if codes::REFUSED <= code {
         return answers;
     }
-    shown::word(b"answers");
-    shown::answers(&answers, code);
-    shown::word(b"\n");
-    looks(plan);
+    word(b"answers");
+    shown::answers(form, &answers, code);
+    word(b"\n");
+    looks(form, plan);
     answers
 }
 
 // The next request. False: it is not there.
-fn ask(fd: i32, plan: &[u8], answers: [u8; lent::ANSWERS]) -> bool {
+fn ask(fd: i32, form: usize, plan: &[u8], answers: [u8; sizes::ANSWERS]) -> bool {
     let mut request = [0u8; requests::BYTES];
     if io::read_full(fd, &mut request) < requests::BYTES {
         return false;
     }
-    requests::run(plan, answers, request);
+    requests::run(form, plan, answers, request);
     true
 }
 
-fn ask_all(fd: i32, plan: &[u8], answers: [u8; lent::ANSWERS], count: usize) {
+fn ask_all(fd: i32, form: usize, plan: &[u8], answers: [u8; sizes::ANSWERS], count: usize) {
     let mut i: usize = 0;
     while i < count {
-        if !ask(fd, plan, answers) {
+        if !ask(fd, form, plan, answers) {
             return;
         }
         i += 1;
@@ -98,15 +118,16 @@ fn next(fd: i32, index: u64) -> bool {
     if io::read_full(fd, &mut head) < HEAD_BYTES {
         return false;
     }
-    let length = bits::field(&head, 0, 32) as usize;
-    let count = bits::field(&head, 32, 16) as usize;
+    let form = bits::field(&head, 0, FORM_BITS) as usize;
+    let length = bits::field(&head, FORM_BITS, LENGTH_BITS) as usize;
+    let count = bits::field(&head, FORM_BITS + LENGTH_BITS, COUNT_BITS) as usize;
     let mut bytes = [0u8; MOST_BYTES];
     if io::read_full(fd, lent::first_mut(&mut bytes, length)) < length {
         return false;
     }
     let plan = lent::first(&bytes, length);
-    let answers = run(plan, index);
-    ask_all(fd, plan, answers, count);
+    let answers = run(form, plan, index);
+    ask_all(fd, form, plan, answers, count);
     true
 }
 

@@ -1,71 +1,103 @@
 // The requests that follow a plan: an operation with lent bytes of some length, a server and a tick, or altered answers.
-use super::lent;
 use super::shown;
-use plan::header::Shape;
+use super::sizes;
+use plan::form;
+use report::kept;
+use report::lent;
+use report::word;
 
 // A letter and twelve bytes of numbers.
 pub const BYTES: usize = 13;
 
-// Where the five bytes of a replaced answer stand in a request.
-const REPLACED_AT: usize = 8;
+const LETTER_BITS: usize = 8;
+
+// Of a length, a server or a tick.
+const NUMBER_BITS: usize = 32;
+
+// Of the index of a replaced answer; its bytes stand behind that.
+const INDEX_BITS: usize = 16;
+
+const REPLACED_AT: usize = 7;
 
 // Play: the lengths of the answer buffer and of the workspace.
-fn play(plan: &[u8], room: usize, space: usize) {
-    let mut answers = [lent::FILLER; lent::ANSWERS];
-    let mut work = [lent::FILLER; lent::WORKSPACE];
+fn play(form: usize, plan: &[u8], room: usize, space: usize) {
+    let mut answers = [lent::FILLER; sizes::ANSWERS];
+    let mut work = [lent::FILLER; sizes::WORKSPACE];
     let played = play::play(
+        form,
         plan,
         lent::first_mut(&mut answers, room),
         lent::first_mut(&mut work, space),
     );
-    shown::word(b"play ");
+    word(b"play ");
     shown::outcome(codes::of_play(played));
-    shown::kept(lent::is_kept(&answers));
-    shown::kept(lent::is_kept(&work));
+    kept(&answers);
+    kept(&work);
 }
 
 // Look: the length of the workspace, the server and the tick.
-fn look(plan: &[u8], space: usize, server: usize, tick: usize) {
-    let mut pairs = [lent::FILLER; lent::PAIRS];
-    let mut work = [lent::FILLER; lent::WORKSPACE];
+fn look(form: usize, plan: &[u8], space: usize, server: usize, tick: usize) {
+    let mut pairs = [lent::FILLER; sizes::PAIRS];
+    let mut work = [lent::FILLER; sizes::WORKSPACE];
     let code = pairs::look(
+        form,
         plan,
         lent::first_mut(&mut work, space),
         server,
         tick,
         &mut pairs,
     );
-    shown::word(b"look ");
+    word(b"look ");
     shown::seen(code, &pairs);
-    shown::kept(lent::is_kept(&work));
-    shown::kept(lent::is_kept(&pairs));
+    kept(&work);
+    kept(&pairs);
 }
 
-// Judge: how many bytes of the answers, which of them is replaced, and its five bytes.
-fn judge(plan: &[u8], answers: [u8; lent::ANSWERS], request: [u8; BYTES]) {
-    let length = bits::field(&request, 8, 32) as usize;
-    let i = bits::field(&request, 40, 24) as usize;
+// Judge: how many bytes of the answers, which of them is replaced, and its bytes.
+fn judge(form: usize, plan: &[u8], answers: [u8; sizes::ANSWERS], request: [u8; BYTES]) {
+    let length = bits::field(&request, LETTER_BITS, NUMBER_BITS) as usize;
+    let i = bits::field(&request, LETTER_BITS + NUMBER_BITS, INDEX_BITS) as usize;
+    let replaced = lent::first(&request[REPLACED_AT..], sizes::answer_bytes(form));
     let mut given = answers;
-    decimal::put_all(&mut given, Shape::ANSWER_BYTES * i, &request[REPLACED_AT..]);
-    let judged = judge::judge(plan, lent::first(&given, length));
-    shown::word(b"judge ");
+    decimal::put_all(&mut given, sizes::answer_at(form, i), replaced);
+    let judged = judge::judge(form, plan, lent::first(&given, length));
+    word(b"judge ");
     shown::verdict(codes::of_judge(judged));
 }
 
+// From the plan's form to the other one.
+fn carried(form: usize, plan: &[u8], out: &mut [u8]) -> usize {
+    if form == form::TWO {
+        return codes::of_carry(carry::carry_back(plan, out));
+    }
+    codes::of_carry(carry::carry(plan, out))
+}
+
+// Carry: the length of the buffer.
+fn carry(form: usize, plan: &[u8], room: usize) {
+    let mut out = [lent::FILLER; lent::PLAN];
+    let code = carried(form, plan, lent::first_mut(&mut out, room));
+    word(b"carry ");
+    report::written(code, &out);
+}
+
 // One request about a plan and Play's answers to it.
-pub fn run(plan: &[u8], answers: [u8; lent::ANSWERS], request: [u8; BYTES]) {
+pub fn run(form: usize, plan: &[u8], answers: [u8; sizes::ANSWERS], request: [u8; BYTES]) {
     let letter = request[0];
-    let a = bits::field(&request, 8, 32) as usize;
-    let b = bits::field(&request, 40, 32) as usize;
-    let c = bits::field(&request, 72, 32) as usize;
+    let a = bits::field(&request, LETTER_BITS, NUMBER_BITS) as usize;
+    let b = bits::field(&request, LETTER_BITS + NUMBER_BITS, NUMBER_BITS) as usize;
+    let c = bits::field(&request, LETTER_BITS + 2 * NUMBER_BITS, NUMBER_BITS) as usize;
     if letter == b'p' {
-        play(plan, a, b);
+        play(form, plan, a, b);
     }
     if letter == b'l' {
-        look(plan, a, b, c);
+        look(form, plan, a, b, c);
     }
     if letter == b'j' {
-        judge(plan, answers, request);
+        judge(form, plan, answers, request);
     }
-    shown::word(b"\n");
+    if letter == b'c' {
+        carry(form, plan, a);
+    }
+    word(b"\n");
 }

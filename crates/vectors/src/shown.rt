@@ -1,25 +1,17 @@
-// What is printed: words, numbers, results as `codes` has them.
-use super::lent;
+// What is printed of results, as `codes` has them.
+use super::sizes;
 use calendar::DEPTH;
-use libc::STDOUT_FILENO;
-use plan::header::Shape;
+use report::number;
+use report::refusal;
+use report::word;
 
-pub fn word(text: &[u8]) {
-    io::write_all(STDOUT_FILENO, text);
-}
+// The bits of a value and of a number in a pair that Look shows.
+const VALUE_BITS: usize = 24;
 
-// A number, then the text after it.
-pub fn number(n: u64, after: &[u8]) {
-    io::print_decimal(STDOUT_FILENO, n);
-    word(after);
-}
+const NUMBER_BITS: usize = 8;
 
-pub fn refusal(code: usize) {
-    word(b"refused ");
-    if codes::REFUSED <= code {
-        number((code - codes::REFUSED) as u64, b"");
-    }
-}
+// No plan has so many reads.
+const READS: usize = 256;
 
 // The number of reads, or the refusal.
 pub fn outcome(code: usize) {
@@ -44,27 +36,18 @@ pub fn verdict(code: usize) {
     word(b"yes");
 }
 
-// Whether lent bytes are as they were.
-pub fn kept(is_kept: bool) {
-    if is_kept {
-        word(b" kept");
-        return;
-    }
-    word(b" changed");
-}
-
 // Pair i of those that Look shows: value, number.
-fn pair(pairs: &[u8; lent::PAIRS], i: usize) {
+fn pair(pairs: &[u8; sizes::PAIRS], i: usize) {
     if DEPTH <= i {
         return;
     }
     let at = 8 * pairs::PAIR_BYTES * i;
     word(b" ");
-    number(bits::field(pairs, at, 16), b" ");
-    number(bits::field(pairs, at + 16, 8), b"");
+    number(bits::field(pairs, at, VALUE_BITS), b" ");
+    number(bits::field(pairs, at + VALUE_BITS, NUMBER_BITS), b"");
 }
 
-fn pairs_shown(pairs: &[u8; lent::PAIRS], count: usize) {
+fn pairs_shown(pairs: &[u8; sizes::PAIRS], count: usize) {
     let mut i: usize = 0;
     while i < count {
         pair(pairs, i);
@@ -73,7 +56,7 @@ fn pairs_shown(pairs: &[u8; lent::PAIRS], count: usize) {
 }
 
 // A server's condition and its pairs, or the refusal.
-pub fn seen(code: usize, pairs: &[u8; lent::PAIRS]) {
+pub fn seen(code: usize, pairs: &[u8; sizes::PAIRS]) {
     if codes::REFUSED <= code {
         refusal(code);
         return;
@@ -83,24 +66,23 @@ pub fn seen(code: usize, pairs: &[u8; lent::PAIRS]) {
 }
 
 // The answers as they stand in the buffer, each as one number.
-pub fn answers(bytes: &[u8], count: usize) {
+pub fn answers(form: usize, bytes: &[u8], count: usize) {
     let mut i: usize = 0;
     while i < count {
-        answer(bytes, i);
+        answer(form, bytes, i);
         i += 1;
     }
 }
 
-fn answer(bytes: &[u8], i: usize) {
-    if 256 <= i {
+fn answer(form: usize, bytes: &[u8], i: usize) {
+    if READS <= i {
         return;
     }
-    if bytes.len() < Shape::ANSWER_BYTES * (i + 1) {
+    let at = sizes::answer_at(form, i);
+    let size = sizes::answer_bytes(form);
+    if bytes.len() < at + size {
         return;
     }
     word(b" ");
-    number(
-        bits::field(bytes, Shape::ANSWER_BITS * i, Shape::ANSWER_BITS),
-        b"",
-    );
+    number(bits::field(bytes, 8 * at, 8 * size), b"");
 }

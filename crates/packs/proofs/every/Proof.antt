@@ -1,4 +1,4 @@
--- `every` is safe and ends: each case takes at least six numbers.
+-- `every` is safe and ends: each case takes at least seven numbers.
 use Prim.Native.Nat.{_+_, _*_, _-_, _^_, _≤_}
 use lib.ListN.{length}
 use borrow.Author.Needs.{needs}

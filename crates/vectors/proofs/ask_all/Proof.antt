@@ -5,10 +5,10 @@ use Rattle.vectors.proofs.ask_all.Statement.{statement}
 use Rattle.vectors.proofs.ask_all.Tie as tie
 
 abbrev Inv-loop : tie.InvT-loop
-Inv-loop fd plan answers count i₀ i = i ≤ count
+Inv-loop fd form plan answers count i₀ i = i ≤ count
 
 abbrev μ-loop : tie.MeasureT-loop
-μ-loop fd plan answers count i₀ i = count - i
+μ-loop fd form plan answers count i₀ i = count - i
 
 loop-holds : tie.Need-loop-holds Inv-loop μ-loop
 loop-holds c = search needs

@@ -6,10 +6,16 @@ use Rattle.vectors.proofs.looks.Statement.{statement}
 use Rattle.vectors.proofs.looks.Tie as tie
 
 abbrev Inv-loop : tie.InvT-loop
-Inv-loop plan n ticks all i₀ i = (i ≤ all) × (all ≤ 120) × (0 < n)
+Inv-loop form plan width n ticks all i₀ i = (i ≤ all) × (all ≤ 120) × (0 < n)
 
 abbrev μ-loop : tie.MeasureT-loop
-μ-loop plan n ticks all i₀ i = all - i
+μ-loop form plan width n ticks all i₀ i = all - i
+
+width-requires : tie.Need-width-requires Inv-loop μ-loop
+width-requires c κs = search needs
+
+header-bytes-requires : tie.Need-header-bytes-requires Inv-loop μ-loop
+header-bytes-requires c κs = search needs
 
 returns : tie.Need-returns Inv-loop μ-loop
 returns c = search needs
@@ -62,6 +68,8 @@ looks-spec =
     (tie.spec
     Inv-loop
     μ-loop
+    width-requires
+    header-bytes-requires
     returns
     read-requires
     cast-n

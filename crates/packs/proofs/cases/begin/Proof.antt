@@ -6,7 +6,7 @@ use Rattle.packs.proofs.cases.begin.Statement.{statement}
 use Rattle.packs.proofs.cases.begin.Tie as tie
 
 abbrev Inv-loop : tie.InvT-loop
-Inv-loop case k at₀ i₀ at i = (i ≤ k) × (k ≤ 5) × (6 ≤ length case) × (6 ≤ at) × (at ≤ 6 + 2 ^ 32 * i)
+Inv-loop case k at₀ i₀ at i = (i ≤ k) × (k ≤ 5) × (7 ≤ length case) × (7 ≤ at) × (at ≤ 7 + 2 ^ 32 * i)
 
 abbrev μ-loop : tie.MeasureT-loop
 μ-loop case k at₀ i₀ at i = k - i

@@ -5,10 +5,10 @@ use Rattle.vectors.proofs.shown.answers.Statement.{statement}
 use Rattle.vectors.proofs.shown.answers.Tie as tie
 
 abbrev Inv-loop : tie.InvT-loop
-Inv-loop bytes count i₀ i = i ≤ count
+Inv-loop form bytes count i₀ i = i ≤ count
 
 abbrev μ-loop : tie.MeasureT-loop
-μ-loop bytes count i₀ i = count - i
+μ-loop form bytes count i₀ i = count - i
 
 loop-holds : tie.Need-loop-holds Inv-loop μ-loop
 loop-holds c = search needs

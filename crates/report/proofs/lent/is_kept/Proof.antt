@@ -2,8 +2,8 @@
 use Prim.Native.Nat.{_-_, _≤_}
 use lib.ListN.{length}
 use borrow.Author.Needs.{needs}
-use Rattle.packs.proofs.shown.is_kept.Statement.{statement}
-use Rattle.packs.proofs.shown.is_kept.Tie as tie
+use Rattle.report.proofs.lent.is_kept.Statement.{statement}
+use Rattle.report.proofs.lent.is_kept.Tie as tie
 
 abbrev Inv-loop : tie.InvT-loop
 Inv-loop bytes i₀ i = i ≤ length bytes

@@ -1,17 +1,10 @@
 // Bytes lent to an operation, and whether it left them as they were.
-use calendar::DEPTH;
-
-// Room for more answers than a plan has reads.
-pub const ANSWERS: usize = 1300;
-
-// Room for more than the workspace.
-pub const WORKSPACE: usize = 60010;
-
-// Room for all pairs of a server.
-pub const PAIRS: usize = pairs::PAIR_BYTES * DEPTH;
 
 // What each lent byte holds before the call.
 pub const FILLER: u8 = 165;
+
+// Room for more bytes than a plan has.
+pub const PLAN: usize = 40000;
 
 // The first so many bytes, or all of them.
 pub fn first(bytes: &[u8], length: usize) -> &[u8] {

@@ -1,9 +1,9 @@
--- `is_kept` is safe and ends: i runs up to the length.
+-- `hexadecimal` is safe and ends: i runs up to the length.
 use Prim.Native.Nat.{_-_, _≤_}
 use lib.ListN.{length}
 use borrow.Author.Needs.{needs}
-use Rattle.vectors.proofs.lent.is_kept.Statement.{statement}
-use Rattle.vectors.proofs.lent.is_kept.Tie as tie
+use Rattle.report.proofs.hexadecimal.Statement.{statement}
+use Rattle.report.proofs.hexadecimal.Tie as tie
 
 abbrev Inv-loop : tie.InvT-loop
 Inv-loop bytes i₀ i = i ≤ length bytes
@@ -14,11 +14,11 @@ abbrev μ-loop : tie.MeasureT-loop
 loop-holds : tie.Need-loop-holds Inv-loop μ-loop
 loop-holds c = search needs
 
-shared-slice-read-if1 : tie.Need-shared-slice-read-if1 Inv-loop μ-loop
-shared-slice-read-if1 c = search needs
+shared-slice-read-digits : tie.Need-shared-slice-read-digits Inv-loop μ-loop
+shared-slice-read-digits c = search needs
 
-returns : tie.Need-returns Inv-loop μ-loop
-returns c = search needs
+digits-requires : tie.Need-digits-requires Inv-loop μ-loop
+digits-requires c κs = search needs
 
 add-i : tie.Need-add-i Inv-loop μ-loop
 add-i c = search needs
@@ -29,19 +29,19 @@ loop-less c = search needs
 loop-again : tie.Need-loop-again Inv-loop μ-loop
 loop-again c = search needs
 
-returns-2 : tie.Need-returns-2 Inv-loop μ-loop
-returns-2 c = search needs
+returns : tie.Need-returns Inv-loop μ-loop
+returns c = search needs
 
-pub is-kept-spec : {M : Type 1} → statement M
-is-kept-spec =
+pub hexadecimal-spec : {M : Type 1} → statement M
+hexadecimal-spec =
     tie.close
     (tie.spec
     Inv-loop
     μ-loop
     loop-holds
-    shared-slice-read-if1
-    returns
+    shared-slice-read-digits
+    digits-requires
     add-i
     loop-less
     loop-again
-    returns-2)
+    returns)

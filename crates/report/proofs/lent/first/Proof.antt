@@ -2,8 +2,8 @@
 use mathlib.Core.Path.{sym}
 use lib.Seq.{length-take-le}
 use borrow.Author.Needs.{needs}
-use Rattle.packs.proofs.first.Statement.{statement}
-use Rattle.packs.proofs.first.Tie as tie
+use Rattle.report.proofs.lent.first.Statement.{statement}
+use Rattle.report.proofs.lent.first.Tie as tie
 
 returns : tie.Need-returns
 returns c = search needs

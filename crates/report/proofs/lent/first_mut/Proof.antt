@@ -1,9 +1,9 @@
--- `first` is safe: the part is as long as asked.
+-- `first_mut` is safe: the part is as long as asked.
 use mathlib.Core.Path.{sym}
 use lib.Seq.{length-take-le}
 use borrow.Author.Needs.{needs}
-use Rattle.vectors.proofs.lent.first.Statement.{statement}
-use Rattle.vectors.proofs.lent.first.Tie as tie
+use Rattle.report.proofs.lent.first_mut.Statement.{statement}
+use Rattle.report.proofs.lent.first_mut.Tie as tie
 
 returns : tie.Need-returns
 returns c = search needs
@@ -14,5 +14,5 @@ slice-aggregate-result c = sym (length-take-le _ _ (c .before .if1 .left))
 returns-2 : tie.Need-returns-2
 returns-2 c = search needs
 
-pub first-spec : {M : Type 1} → statement M
-first-spec = tie.close (tie.spec returns slice-aggregate-result returns-2)
+pub first-mut-spec : {M : Type 1} → statement M
+first-mut-spec = tie.close (tie.spec returns slice-aggregate-result returns-2)

@@ -1,0 +1,28 @@
+// The sizes of what an operation is lent, and where answers stand in it.
+ghost use Prim.Native.Nat.{_*_, _^_, _≤_, _<_};
+use calendar::DEPTH;
+use plan::form;
+
+// Room for more answers than a plan has reads.
+pub const ANSWERS: usize = 1300;
+
+// Room for more than the workspace.
+pub const WORKSPACE: usize = 60010;
+
+// Room for all pairs of a server.
+pub const PAIRS: usize = pairs::PAIR_BYTES * DEPTH;
+
+// The bytes of an answer in a form.
+pub fn answer_bytes(form: usize) -> usize
+    ensures { λ r. ⌜ r ≤ 6 ⌝ }
+{
+    answers::size(form::width(form))
+}
+
+// The first byte of answer i.
+pub fn answer_at(form: usize, i: usize) -> usize
+    requires { ⌜ i < 2 ^ 16 ⌝ }
+    ensures { λ r. ⌜ r ≤ 6 * 2 ^ 16 ⌝ }
+{
+    answer_bytes(form) * i
+}
