@@ -1,6 +1,6 @@
-/* Packs a plan from lists of numbers, as they come from a table or another program, and rehearses it:
- * prints the length of the plan, each read's answer, and whether the answers are those of a regular
- * register.  The plan is examples/takeover.plan.
+/* Packs a plan of form one from lists of numbers, as they come from a table or another program, and
+ * rehearses it: prints the length of the plan, each read's answer, and whether the answers are those of
+ * a regular register.  The plan is examples/takeover.plan.
  *
  *   rt staticlib capi
  *   cc -std=c99 -o pack bindings/c/pack.c target/staticlib/libcapi.a
@@ -14,6 +14,8 @@
 #include "register.h"
 
 #define COUNT(list) (sizeof(list) / sizeof(list)[0])
+
+enum { FORM = REGISTER_FORM_ONE, ANSWER = REGISTER_ANSWER_ONE };
 
 /* Five servers, of which one is faulty at a time, from server 0 on in turn; one reader. */
 enum {
@@ -47,8 +49,8 @@ static size_t forged;
 
 static uint32_t delays[TICKS * PARTIES * PARTIES];
 
-static uint8_t plan[REGISTER_LONGEST_PLAN];
-static uint8_t answers[REGISTER_ANSWER * REGISTER_MOST_READS];
+static uint8_t plan[REGISTER_LONGEST_PLAN_ONE];
+static uint8_t answers[ANSWER * REGISTER_MOST_READS];
 static uint8_t workspace[REGISTER_WORKSPACE];
 
 static void forge(uint32_t tick, uint32_t sender, uint32_t receiver)
@@ -97,28 +99,28 @@ static size_t pack_plan(void)
         SERVERS, FAULTS, DELTA, PERIOD, READERS, TICKS, INITIAL,
         (uint32_t)(COUNT(operations) / OPERATION), (uint32_t)forged, 0,
     };
-    return register_pack(header, COUNT(header), placements, COUNT(placements),
+    return register_pack(FORM, header, COUNT(header), placements, COUNT(placements),
                          operations, COUNT(operations), forgeries, FORGERY * forged,
                          delays, COUNT(delays), plan, sizeof plan);
 }
 
 static int answer(size_t read, enum register_answer_field field)
 {
-    return (int)register_answer(answers, sizeof answers, read, field);
+    return (int)register_answer(FORM, answers, sizeof answers, read, field);
 }
 
 /* Plays the packed plan, which check accepts, and has the answers judged. */
 static void rehearse(size_t length)
 {
-    size_t reads = register_check(plan, length);
+    size_t reads = register_check(FORM, plan, length);
     printf("reads %d\n", (int)reads);
-    register_play(plan, length, answers, sizeof answers, workspace, sizeof workspace);
+    register_play(FORM, plan, length, answers, sizeof answers, workspace, sizeof workspace);
     for (size_t read = 0; read < reads; read++)
         printf("begin %d reader %d value %d number %d count %d\n",
                answer(read, REGISTER_BEGIN), answer(read, REGISTER_READER),
                answer(read, REGISTER_VALUE), answer(read, REGISTER_NUMBER),
                answer(read, REGISTER_COUNT));
-    size_t regular = register_judge(plan, length, answers, REGISTER_ANSWER * reads);
+    size_t regular = register_judge(FORM, plan, length, answers, ANSWER * reads);
     printf("regular: %s\n", regular == 1 ? "yes" : "no");
 }
 

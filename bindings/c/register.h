@@ -1,17 +1,22 @@
-/* A replicated register under mobile Byzantine faults, rehearsed from a packed plan; and the packing.
+/* A replicated register under mobile Byzantine faults, rehearsed from a packed plan; the packing, and
+ * the carrying of a plan from one form to the other.
  *
  * Link with target/staticlib/libcapi.a, which `rt staticlib capi` writes.  docs/FORMATS.md has the
  * bytes of plans and answers, the lists that a plan is packed from and the numbers of the refusals.
+ *
+ * A plan and its answers are in one of two forms: a value has 16 bits in form one and 24 in form two.
+ * Their bytes do not say which; the caller names the form by its number, REGISTER_FORM_ONE or
+ * REGISTER_FORM_TWO.
  *
  * All functions take any bytes, any numbers and any lengths.  A pointer must be valid for its length
  * and not null, also where the length is 0; lent bytes that are written must overlap nothing else in
  * the same call.
  *
- * Of check, play, look, judge and pack a result of REGISTER_REFUSED or more is a refusal:
- * REGISTER_REFUSED plus its number.  A refusal leaves all lent bytes as they were.
+ * Of check, play, look, judge, pack, carry and carry_back a result of REGISTER_REFUSED or more is a
+ * refusal: REGISTER_REFUSED plus its number.  A refusal leaves all lent bytes as they were.
  *
- * Stack: play takes under 32 KB, look and pack under 38 KB, the other functions under 3 KB (measured
- * with the longest plan, on x86-64).  Nothing is allocated.
+ * Stack: play takes under 32 KB, look and pack under 38 KB, the other functions under 4 KB (measured
+ * with the longest plan of each form, on x86-64).  Nothing is allocated.
  * Threads: there is no global state and nothing is kept between calls.  Calls may run at once if
  * none writes to bytes that another one uses.
  */
@@ -25,35 +30,43 @@
 extern "C" {
 #endif
 
-/* Bytes of the longest plan that check accepts. */
-#define REGISTER_LONGEST_PLAN 34362
+/* The forms: values of 16 bits and of 24 bits. */
+#define REGISTER_FORM_ONE 1
+#define REGISTER_FORM_TWO 2
 
-/* Bytes of a plan worth reading: one more than any header implies.  What follows them changes
- * nothing, as the plan is refused for its header or its length by then. */
-#define REGISTER_LONGEST_INPUT 34438
+/* Bytes of the longest plan that check accepts in each form. */
+#define REGISTER_LONGEST_PLAN_ONE 34362
+#define REGISTER_LONGEST_PLAN_TWO 35619
 
-/* The most reads of a plan that check accepts: REGISTER_ANSWER * REGISTER_MOST_READS bytes hold the
- * answers of any plan. */
+/* Bytes of a plan worth reading: one more than any header implies in either form.  What follows them
+ * changes nothing, as the plan is refused for its header or its length by then. */
+#define REGISTER_LONGEST_INPUT 35718
+
+/* Bytes of one answer in each form. */
+#define REGISTER_ANSWER_ONE 5
+#define REGISTER_ANSWER_TWO 6
+
+/* The most reads of a plan that check accepts, in either form: that many times the bytes of one answer
+ * hold the answers of any plan. */
 #define REGISTER_MOST_READS 168
-
-/* Bytes of one answer. */
-#define REGISTER_ANSWER 5
 
 /* Bytes of workspace that play and look ask for.  They are zero after a call that was not refused,
  * and later ones unchanged. */
 #define REGISTER_WORKSPACE 60000
 
-/* Bytes of one stamped value that look writes, and of the three that a server keeps at most. */
-#define REGISTER_PAIR 3
-#define REGISTER_PAIRS 9
+/* Bytes of one stamped value that look writes, in either form, and of the three that a server keeps at
+ * most. */
+#define REGISTER_PAIR 4
+#define REGISTER_PAIRS 12
 
-/* What a refusal's number is added to: no other result of these five functions is as large. */
+/* What a refusal's number is added to: no other result of the functions that refuse is as large. */
 #define REGISTER_REFUSED 16777216
 
 /* Where several apply it is the lowest.  Of a list, a number too wide for its field is the refusal of
  * its part: 2 and 5 to 8. */
 enum register_refusal {
-    REGISTER_PLAN_SHORT = 1,        /* plan under 8 bytes; never from pack */
+    REGISTER_PLAN_SHORT = 1,        /* no such form, or a plan shorter than its form's header: under
+                                     * 8 bytes in form one, under 9 in form two */
     REGISTER_HEADER = 2,            /* a header field outside its range; pack: or not ten of them */
     REGISTER_TOO_FEW_SERVERS = 3,   /* fewer than the faults ask for */
     REGISTER_PLAN_LENGTH = 4,       /* length of the plan, or of a list, other than the header implies */
@@ -61,20 +74,22 @@ enum register_refusal {
     REGISTER_OPERATION = 6,         /* order, party, value, overlap or end */
     REGISTER_FORGERY = 7,           /* order, tick, sender or receiver */
     REGISTER_DELAY = 8,             /* a delay or a final bit */
-    REGISTER_ANSWERS_SHORT = 9,     /* play: under 5 bytes for each read */
+    REGISTER_ANSWERS_SHORT = 9,     /* play: under 5 bytes for each read, in form two under 6 */
     REGISTER_WORKSPACE_SHORT = 10,  /* play, look: under 60,000 bytes */
     REGISTER_OUT_OF_RANGE = 11,     /* look: no such server or tick */
-    REGISTER_ANSWERS_LENGTH = 12,   /* judge: length other than 5 times the reads */
+    REGISTER_ANSWERS_LENGTH = 12,   /* judge: length other than 5 times the reads, in form two 6 times */
     REGISTER_OTHER_READ = 13,       /* judge: begin, reader or zero bit isn't that of the read */
-    REGISTER_BUFFER_SHORT = 14      /* pack: the buffer is shorter than the plan */
+    REGISTER_BUFFER_SHORT = 14,     /* pack: the buffer is shorter than the plan */
+    REGISTER_VALUE_TOO_WIDE = 19,   /* carry_back: a value above 65,535, initial, written or forged */
+    REGISTER_CARRIED_SHORT = 20     /* carry, carry_back: the buffer is shorter than the carried plan */
 };
 
 /* Checks a plan.  Returns its number of reads. */
-size_t register_check(const uint8_t *plan, size_t plan_length);
+size_t register_check(size_t form, const uint8_t *plan, size_t plan_length);
 
-/* Plays a plan and writes the answer to read i into the five bytes from 5 * i on; later bytes of
- * the buffer stay.  Returns the number of reads. */
-size_t register_play(const uint8_t *plan, size_t plan_length,
+/* Plays a plan and writes the answer to read i into the five bytes from 5 * i on, in form two into the
+ * six bytes from 6 * i on; later bytes of the buffer stay.  Returns the number of reads. */
+size_t register_play(size_t form, const uint8_t *plan, size_t plan_length,
                      uint8_t *answers, size_t answers_length,
                      uint8_t *workspace, size_t workspace_length);
 
@@ -87,9 +102,10 @@ enum register_condition {
 
 /* Looks at a server after a tick.  Returns its condition plus 4 times the number of stamped values
  * that it keeps, 0 to 3.  As many of them as fit whole stand at the start of pairs, highest first,
- * in three bytes each: the value's high byte, its low byte, its number; later bytes of pairs stay.
- * pairs_length may be anything; REGISTER_PAIRS has room for all. */
-size_t register_look(const uint8_t *plan, size_t plan_length,
+ * in four bytes each: three of the value, the highest first, then its number; later bytes of pairs
+ * stay.  In form one the first of the four is 0.  pairs_length may be anything; REGISTER_PAIRS has room
+ * for all. */
+size_t register_look(size_t form, const uint8_t *plan, size_t plan_length,
                      uint8_t *workspace, size_t workspace_length,
                      size_t server, size_t tick,
                      uint8_t *pairs, size_t pairs_length);
@@ -97,7 +113,7 @@ size_t register_look(const uint8_t *plan, size_t plan_length,
 /* Judges answers.  Returns 1 if each is one that a regular register may give, else 0.  It may give
  * the value of the last write that ended at or below the read's begin (the initial value if none
  * did), and that of a write that ended after it and began by the read's end. */
-size_t register_judge(const uint8_t *plan, size_t plan_length,
+size_t register_judge(size_t form, const uint8_t *plan, size_t plan_length,
                       const uint8_t *answers, size_t answers_length);
 
 /* The fields of an answer. */
@@ -110,8 +126,9 @@ enum register_answer_field {
 };
 
 /* Reads a field of answer i, counted from 0.  Returns 0 where the bytes end before answer i does,
- * and for any other field.  Nothing is checked. */
-size_t register_answer(const uint8_t *answers, size_t answers_length, size_t i, size_t field);
+ * and for any other form or field.  Nothing is checked. */
+size_t register_answer(size_t form, const uint8_t *answers, size_t answers_length,
+                       size_t i, size_t field);
 
 /* The numbers in a plan's header. */
 enum register_header_field {
@@ -126,11 +143,12 @@ enum register_header_field {
     REGISTER_FORGERIES = 8      /* how many forged messages it has */
 };
 
-/* Reads a number of a plan's header.  Returns 0 for a plan under 8 bytes, and for any other field.
- * Nothing is checked: the numbers of an accepted plan are in their ranges. */
-size_t register_header(const uint8_t *plan, size_t plan_length, size_t field);
+/* Reads a number of a plan's header.  Returns 0 for a plan shorter than its form's header, and for any
+ * other form or field.  Nothing is checked: the numbers of an accepted plan are in their ranges. */
+size_t register_header(size_t form, const uint8_t *plan, size_t plan_length, size_t field);
 
-/* Packs a plan from five lists of numbers, one number for each field in packed order:
+/* Packs a plan from five lists of numbers, which are the same in either form, one number for each field
+ * in packed order:
  *
  *   header      ten: the fields of enum register_header_field in their order, then 0
  *   placements  one for each movement below H: the faulty servers as a number of 16 bits, in which
@@ -143,21 +161,34 @@ size_t register_header(const uint8_t *plan, size_t plan_length, size_t field);
  *
  * The lengths count numbers, not bytes.  A list of no numbers may have any pointer that is not null.
  *
- * The plan stands at the start of out, and later bytes of out stay; REGISTER_LONGEST_PLAN has room for
- * any.  Returns the number of its bytes.  Check accepts what pack writes, and pack refuses what check
- * would, by the same numbers, and last of all a buffer that is too short (14). */
-size_t register_pack(const uint32_t *header, size_t header_length,
+ * The plan stands at the start of out, and later bytes of out stay; REGISTER_LONGEST_PLAN_ONE has room
+ * for any of form one, REGISTER_LONGEST_PLAN_TWO for any.  Returns the number of its bytes.  Check
+ * accepts what pack writes, and pack refuses what check would, by the same numbers, and last of all a
+ * buffer that is too short (14). */
+size_t register_pack(size_t form, const uint32_t *header, size_t header_length,
                      const uint32_t *placements, size_t placements_length,
                      const uint32_t *operations, size_t operations_length,
                      const uint32_t *forgeries, size_t forgeries_length,
                      const uint32_t *delays, size_t delays_length,
                      uint8_t *out, size_t out_length);
 
-/* The limits above as the library has them. */
-size_t register_most_bytes(void);       /* REGISTER_LONGEST_PLAN */
-size_t register_most_reads(void);       /* REGISTER_MOST_READS */
-size_t register_answer_bytes(void);     /* REGISTER_ANSWER */
-size_t register_workspace_bytes(void);  /* REGISTER_WORKSPACE */
+/* Carries a plan from form one to form two, and from form two back to form one.  Every field has the
+ * number that it had.  The carried plan stands at the start of out, and later bytes of out stay;
+ * REGISTER_LONGEST_PLAN_TWO and REGISTER_LONGEST_PLAN_ONE have room for any.  Returns the number of its
+ * bytes: that of the plan and one more, and one for each operation and forged message; on the way back
+ * as many less.
+ *
+ * Check accepts what is carried, and played it gets the same answers.  A plan that is carried to form
+ * two and back is the same bytes.  What check refuses is refused by the same number; then, on the way
+ * back alone, a value that form one has no room for (19); then a buffer that is too short (20). */
+size_t register_carry(const uint8_t *plan, size_t plan_length, uint8_t *out, size_t out_length);
+size_t register_carry_back(const uint8_t *plan, size_t plan_length, uint8_t *out, size_t out_length);
+
+/* The limits above as the library has them; 0 where there is no such form. */
+size_t register_most_bytes(size_t form);    /* REGISTER_LONGEST_PLAN_ONE, REGISTER_LONGEST_PLAN_TWO */
+size_t register_most_reads(void);           /* REGISTER_MOST_READS */
+size_t register_answer_bytes(size_t form);  /* REGISTER_ANSWER_ONE, REGISTER_ANSWER_TWO */
+size_t register_workspace_bytes(void);      /* REGISTER_WORKSPACE */
 
 #ifdef __cplusplus
 }

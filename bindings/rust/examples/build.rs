@@ -1,5 +1,6 @@
-//! Builds a plan from typed parts and rehearses it: prints the length of the plan, each read's answer,
-//! and whether the answers are those of a regular register. The plan is examples/takeover.plan.
+//! Builds a plan of form one from typed parts and rehearses it: prints the length of the plan, each
+//! read's answer, and whether the answers are those of a regular register. The plan is
+//! examples/takeover.plan.
 //!
 //! The exit status is 0 for an accepted plan, 1 for a refused one, 2 if writing failed.
 
@@ -7,9 +8,10 @@ use std::io::{self, Write};
 use std::process::ExitCode;
 
 use register::{
-    answers, check, judge, play, Draft, Forgery, Operation, Party, Refusal, ANSWER_BYTES,
-    WORKSPACE_BYTES,
+    answers, check, judge, play, Draft, Forgery, Form, Operation, Party, Refusal, WORKSPACE_BYTES,
 };
+
+const FORM: Form = Form::One;
 
 /// The read's begin and end.
 const READ: (usize, usize) = (3, 5);
@@ -52,18 +54,18 @@ fn forgeries(draft: &Draft) -> Vec<Forgery> {
 
 /// What there is to say of the plan.
 fn rehearse(draft: &Draft) -> Result<String, Refusal> {
-    let plan = draft.build()?;
-    let reads = check(&plan)?;
-    let mut lent = vec![0; ANSWER_BYTES * reads];
-    play(&plan, &mut lent, &mut vec![0; WORKSPACE_BYTES])?;
+    let plan = draft.build(FORM)?;
+    let reads = check(FORM, &plan)?;
+    let mut lent = vec![0; FORM.answer_bytes() * reads];
+    play(FORM, &plan, &mut lent, &mut vec![0; WORKSPACE_BYTES])?;
     let mut text = format!("bytes {}\nreads {reads}\n", plan.len());
-    for answer in answers(&lent) {
+    for answer in answers(FORM, &lent) {
         text += &format!(
             "begin {} reader {} value {} number {} count {}\n",
             answer.begin, answer.reader, answer.value, answer.number, answer.count
         );
     }
-    let regular = if judge(&plan, &lent)? { "yes" } else { "no" };
+    let regular = if judge(FORM, &plan, &lent)? { "yes" } else { "no" };
     Ok(text + "regular: " + regular + "\n")
 }
 

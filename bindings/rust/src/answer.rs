@@ -1,7 +1,7 @@
 //! Answers, read from their bytes by the library.
 
-use crate::limits::ANSWER_BYTES;
 use crate::raw::{self, AnswerField};
+use crate::Form;
 
 /// The answer to one read.
 #[derive(Clone, Copy, Debug, PartialEq, Eq, Hash)]
@@ -11,7 +11,7 @@ pub struct Answer {
     /// The reader, counted from 1.
     pub reader: usize,
     /// The value read.
-    pub value: u16,
+    pub value: u32,
     /// The value's number: 0 for the initial value, 1 for the first one written.
     pub number: u8,
     /// How many servers named this value with this number to the reader.
@@ -19,20 +19,20 @@ pub struct Answer {
 }
 
 impl Answer {
-    fn at(answers: &[u8], index: usize) -> Self {
-        let field = |field| raw::answer(answers, index, field);
+    fn at(form: Form, answers: &[u8], index: usize) -> Self {
+        let field = |field| raw::answer(form.number(), answers, index, field);
         Answer {
             begin: field(AnswerField::Begin),
             reader: field(AnswerField::Reader),
-            value: field(AnswerField::Value) as u16,
+            value: field(AnswerField::Value) as u32,
             number: field(AnswerField::Number) as u8,
             count: field(AnswerField::Count),
         }
     }
 }
 
-/// The answers that stand in bytes, one after another; a part of an answer at the end is left out.
-/// Nothing is checked: the fields are what the bytes say.
-pub fn answers(bytes: &[u8]) -> impl ExactSizeIterator<Item = Answer> + '_ {
-    (0..bytes.len() / ANSWER_BYTES).map(|index| Answer::at(bytes, index))
+/// The answers in a form that stand in bytes, one after another; a part of an answer at the end is
+/// left out. Nothing is checked: the fields are what the bytes say.
+pub fn answers(form: Form, bytes: &[u8]) -> impl ExactSizeIterator<Item = Answer> + '_ {
+    (0..bytes.len() / form.answer_bytes()).map(move |index| Answer::at(form, bytes, index))
 }

@@ -2,8 +2,8 @@
 
 use std::collections::BTreeMap;
 
-use crate::limits::{LONGEST_PLAN, MOST_READERS, MOST_SERVERS, MOST_TICKS};
-use crate::{pack, Lists, Refusal};
+use crate::limits::{MOST_READERS, MOST_SERVERS, MOST_TICKS};
+use crate::{pack, Form, Lists, Refusal};
 
 /// Too wide for every field. It stands for what has no number in the plan, so that this is refused
 /// and not taken for something else.
@@ -28,7 +28,7 @@ pub enum Operation {
         /// The tick in which it begins; it ends δ ticks later.
         tick: usize,
         /// The value.
-        value: u16,
+        value: u32,
     },
     /// A reader begins to read.
     Read {
@@ -49,16 +49,16 @@ pub struct Forgery {
     /// Another server, or a reader with an open read.
     pub receiver: Party,
     /// The value that it names.
-    pub value: u16,
+    pub value: u32,
     /// The number that it gives the value.
     pub number: u8,
 }
 
-/// A plan in typed parts. The counts and the order of operations and forged messages come by
-/// themselves; nothing is checked before [`build`](Draft::build) does.
+/// A plan in typed parts, which are the same in either form. The counts and the order of operations and
+/// forged messages come by themselves; nothing is checked before [`build`](Draft::build) does.
 ///
 /// ```
-/// use register::{check, Draft, Operation, Party};
+/// use register::{check, Draft, Form, Operation, Party};
 ///
 /// let mut draft = Draft {
 ///     servers: 5,
@@ -78,8 +78,8 @@ pub struct Forgery {
 /// };
 /// // What server 2 sends to the reader in tick 4 takes as long as it may.
 /// draft.delays.insert((4, Party::Server(2), Party::Reader(1)), 2);
-/// let plan = draft.build()?;
-/// assert_eq!(check(&plan), Ok(1));
+/// let plan = draft.build(Form::One)?;
+/// assert_eq!(check(Form::One, &plan), Ok(1));
 /// # Ok::<(), register::Refusal>(())
 /// ```
 #[derive(Clone, Debug, Default, PartialEq, Eq, Hash)]
@@ -97,7 +97,7 @@ pub struct Draft {
     /// H, the number of ticks, 1 to 128.
     pub ticks: usize,
     /// The initial value, which has number 0.
-    pub initial: u16,
+    pub initial: u32,
     /// The faulty servers from each movement on, in ticks 0, Δ, 2Δ .. below H; also where there are
     /// none.
     pub placements: Vec<Vec<usize>>,
@@ -113,10 +113,10 @@ pub struct Draft {
 }
 
 impl Draft {
-    /// The packed plan.
-    pub fn build(&self) -> Result<Vec<u8>, Refusal> {
-        let mut plan = vec![0; LONGEST_PLAN];
-        let length = pack(&self.lists(), &mut plan)?;
+    /// The plan packed in a form. A value that is too wide for it is refused.
+    pub fn build(&self, form: Form) -> Result<Vec<u8>, Refusal> {
+        let mut plan = vec![0; form.longest_plan()];
+        let length = pack(form, &self.lists(), &mut plan)?;
         plan.truncate(length);
         Ok(plan)
     }
@@ -151,7 +151,7 @@ impl Draft {
             self.period,
             self.readers,
             self.ticks,
-            usize::from(self.initial),
+            self.initial as usize,
             self.operations.len(),
             self.forgeries.len(),
             0,
@@ -169,7 +169,7 @@ impl Draft {
             _ => NO_NUMBER,
         };
         let (tick, sender) = (number(forgery.tick), number(forgery.sender));
-        [tick, sender, receiver, forgery.value.into(), forgery.number.into()]
+        [tick, sender, receiver, forgery.value, forgery.number.into()]
     }
 
     /// A number for each place in the plan; behind them what is set and has none.
@@ -227,7 +227,7 @@ fn set(servers: &[usize]) -> u32 {
 
 fn numbers_of_operation(operation: &Operation) -> [u32; 3] {
     match *operation {
-        Operation::Write { tick, value } => [number(tick), 0, value.into()],
+        Operation::Write { tick, value } => [number(tick), 0, value],
         Operation::Read { tick, reader: 0 } => [number(tick), NO_NUMBER, 0],
         Operation::Read { tick, reader } => [number(tick), number(reader), 0],
     }

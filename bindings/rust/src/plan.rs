@@ -1,19 +1,25 @@
 //! An accepted plan, and the numbers in its header.
 
 use crate::raw::{self, HeaderField};
-use crate::{check, Refusal};
+use crate::{check, Form, Refusal};
 
 /// A view of an accepted plan's bytes: the numbers of its header, read by the library.
 #[derive(Clone, Copy, Debug, PartialEq, Eq, Hash)]
 pub struct Plan<'a> {
+    form: Form,
     bytes: &'a [u8],
     reads: usize,
 }
 
 impl<'a> Plan<'a> {
-    /// The plan that these bytes are, if [`check`] accepts them.
-    pub fn of(bytes: &'a [u8]) -> Result<Self, Refusal> {
-        Ok(Plan { bytes, reads: check(bytes)? })
+    /// The plan that these bytes are in a form, if [`check`] accepts them.
+    pub fn of(form: Form, bytes: &'a [u8]) -> Result<Self, Refusal> {
+        Ok(Plan { form, bytes, reads: check(form, bytes)? })
+    }
+
+    /// The plan's form.
+    pub fn form(&self) -> Form {
+        self.form
     }
 
     /// The plan's bytes.
@@ -57,8 +63,8 @@ impl<'a> Plan<'a> {
     }
 
     /// The initial value, which has number 0.
-    pub fn initial(&self) -> u16 {
-        self.field(HeaderField::Initial) as u16
+    pub fn initial(&self) -> u32 {
+        self.field(HeaderField::Initial) as u32
     }
 
     /// The number of operations, writes and reads together.
@@ -72,6 +78,6 @@ impl<'a> Plan<'a> {
     }
 
     fn field(&self, field: HeaderField) -> usize {
-        raw::header(self.bytes, field)
+        raw::header(self.form.number(), self.bytes, field)
     }
 }

@@ -8,7 +8,8 @@ use std::fmt;
 /// part.
 #[derive(Clone, Copy, Debug, PartialEq, Eq, Hash)]
 pub enum Refusal {
-    /// The plan has under 8 bytes.
+    /// The plan is shorter than its form's header: under 8 bytes in form one, under 9 in form two. (The
+    /// library says so of a form that isn't there too; a [`Form`](crate::Form) always is.)
     PlanShort = 1,
     /// A header field is outside its range, or a list of them hasn't ten.
     Header = 2,
@@ -25,23 +26,27 @@ pub enum Refusal {
     Forgery = 7,
     /// A delay is out of range, or a final bit is set.
     Delay = 8,
-    /// The buffer for answers has under 5 bytes for each read.
+    /// The buffer for answers has under 5 bytes for each read, in form two under 6.
     AnswersShort = 9,
     /// The workspace has under 60,000 bytes.
     WorkspaceShort = 10,
     /// The plan has no such server or tick.
     OutOfRange = 11,
-    /// The answers' length is other than 5 bytes for each read.
+    /// The answers' length is other than 5 bytes for each read, in form two other than 6.
     AnswersLength = 12,
     /// An answer's begin, reader or zero bit isn't that of its read.
     OtherRead = 13,
-    /// The buffer is shorter than the plan.
+    /// The buffer is shorter than the packed plan.
     BufferShort = 14,
+    /// A value is above 65,535: the initial one, one that is written, or a forged one.
+    ValueTooWide = 19,
+    /// The buffer is shorter than the carried plan.
+    CarriedShort = 20,
 }
 
 impl Refusal {
-    /// Every refusal, by number: the first is number 1.
-    pub const ALL: [Refusal; 14] = [
+    /// Every refusal, in the order of their numbers.
+    pub const ALL: [Refusal; 16] = [
         Refusal::PlanShort,
         Refusal::Header,
         Refusal::TooFewServers,
@@ -56,9 +61,11 @@ impl Refusal {
         Refusal::AnswersLength,
         Refusal::OtherRead,
         Refusal::BufferShort,
+        Refusal::ValueTooWide,
+        Refusal::CarriedShort,
     ];
 
-    /// The published number, 1 to 14.
+    /// The published number: 1 to 14, 19 or 20.
     pub fn number(self) -> usize {
         self as usize
     }
@@ -66,7 +73,7 @@ impl Refusal {
     /// What was wrong, in words.
     pub fn meaning(self) -> &'static str {
         match self {
-            Refusal::PlanShort => "the plan has under 8 bytes",
+            Refusal::PlanShort => "the plan is shorter than its form's header",
             Refusal::Header => "a header field is outside its range, or a list of them hasn't ten",
             Refusal::TooFewServers => "there are fewer servers than the faults ask for",
             Refusal::PlanLength => {
@@ -80,12 +87,18 @@ impl Refusal {
                 "a forged message is out of order or has a wrong tick, sender, receiver, value or number"
             }
             Refusal::Delay => "a delay is out of range, or a final bit is set",
-            Refusal::AnswersShort => "the buffer for answers has under 5 bytes for each read",
+            Refusal::AnswersShort => {
+                "the buffer for answers has under 5 bytes for each read, in form two under 6"
+            }
             Refusal::WorkspaceShort => "the workspace has under 60,000 bytes",
             Refusal::OutOfRange => "the plan has no such server or tick",
-            Refusal::AnswersLength => "the answers' length is other than 5 bytes for each read",
+            Refusal::AnswersLength => {
+                "the answers' length is other than 5 bytes for each read, in form two other than 6"
+            }
             Refusal::OtherRead => "an answer's begin, reader or zero bit isn't that of its read",
-            Refusal::BufferShort => "the buffer is shorter than the plan",
+            Refusal::BufferShort => "the buffer is shorter than the packed plan",
+            Refusal::ValueTooWide => "a value is above 65,535, the highest of form one",
+            Refusal::CarriedShort => "the buffer is shorter than the carried plan",
         }
     }
 
@@ -104,7 +117,7 @@ impl fmt::Display for Refusal {
 impl Error for Refusal {}
 
 /// What a refusal's number is added to: no other result is as large.
-const REFUSED: usize = 16_777_216;
+pub(crate) const REFUSED: usize = 16_777_216;
 
 pub(crate) fn number_or_refusal(result: usize) -> Result<usize, Refusal> {
     if result < REFUSED {

@@ -29,7 +29,7 @@ impl fmt::Display for Condition {
 #[derive(Clone, Copy, Debug, Default, PartialEq, Eq, Hash)]
 pub struct Stamped {
     /// The value.
-    pub value: u16,
+    pub value: u32,
     /// Its number.
     pub number: u8,
 }
@@ -47,7 +47,8 @@ impl Seen {
     pub(crate) fn of(condition: Condition, count: usize, pairs: [u8; PAIRS_BYTES]) -> Self {
         let mut kept = [Stamped::default(); PAIRS_BYTES / PAIR_BYTES];
         for (kept, pair) in kept.iter_mut().zip(pairs.chunks_exact(PAIR_BYTES)) {
-            *kept = Stamped { value: u16::from_be_bytes([pair[0], pair[1]]), number: pair[2] };
+            let value = u32::from_be_bytes([0, pair[0], pair[1], pair[2]]);
+            *kept = Stamped { value, number: pair[3] };
         }
         Seen { condition, count, kept }
     }

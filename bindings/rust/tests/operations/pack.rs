@@ -1,67 +1,11 @@
-//! Packing the plans of examples/ from their lists and from typed parts: the bytes, each refusal, and
-//! every lent byte.
+//! Packing the plans of examples/ from their lists and from typed parts.
 
-use register::{
-    check, pack, Draft, Forgery, Lists, Operation, Party, Refusal, LONGEST_PLAN, MOST_READS,
+use register::{check, pack, Draft, Forgery, Form, Lists, Operation, Party, Refusal, MOST_READS};
+
+use crate::plans::{
+    changed_lists, in_form, lists_of, widths, ACCEPTED, BEFORE, CONCURRENT, FESTIVAL, JUST_SET,
+    TAKEOVER, TOO_FEW,
 };
-
-const FIRST: &[u8] = include_bytes!("../../../examples/first.plan");
-const FESTIVAL: &[u8] = include_bytes!("../../../examples/festival.plan");
-const TAKEOVER: &[u8] = include_bytes!("../../../examples/takeover.plan");
-const CONCURRENT: &[u8] = include_bytes!("../../../examples/concurrent.plan");
-const JUST_SET: &[u8] = include_bytes!("../../../examples/just-set.plan");
-const TOO_FEW: &[u8] = include_bytes!("../../../examples/too-few.plan");
-const ACCEPTED: [&[u8]; 7] = [
-    include_bytes!("../../../examples/smallest.plan"),
-    FIRST,
-    FESTIVAL,
-    TAKEOVER,
-    include_bytes!("../../../examples/recovery.plan"),
-    CONCURRENT,
-    JUST_SET,
-];
-
-/// What lent bytes hold before a call.
-const BEFORE: u8 = 0xa5;
-
-/// Reads fields bit by bit.
-struct Reader<'a> {
-    plan: &'a [u8],
-    at: usize,
-}
-
-impl Reader<'_> {
-    fn field(&mut self, width: usize) -> u32 {
-        let bits = self.at..self.at + width;
-        self.at += width;
-        bits.fold(0, |field, i| 2 * field + u32::from(self.plan[i / 8] >> (7 - i % 8) & 1))
-    }
-
-    fn records(&mut self, count: u32, widths: &[usize]) -> Vec<u32> {
-        (0..count).flat_map(|_| widths).map(|&width| self.field(width)).collect()
-    }
-}
-
-/// A plan read field by field.
-fn lists_of(plan: &[u8]) -> Lists {
-    let mut fields = Reader { plan, at: 0 };
-    let header = fields.records(1, &[5, 2, 4, 6, 3, 8, 16, 8, 11, 1]);
-    let (parties, ticks) = (header[0] + 1 + header[4], header[5]);
-    Lists {
-        placements: fields.records(ticks.div_ceil(header[3]), &[16]),
-        operations: fields.records(header[7], &[7, 3, 16]),
-        forgeries: fields.records(header[8], &[7, 4, 5, 16, 8]),
-        delays: fields.records(ticks * parties * parties, &[4]),
-        header,
-    }
-}
-
-/// The lists of an example with a change.
-fn changed(plan: &[u8], change: impl Fn(&mut Lists)) -> Lists {
-    let mut lists = lists_of(plan);
-    change(&mut lists);
-    lists
-}
 
 /// examples/takeover.plan without its forged messages.
 fn takeover() -> Draft {
@@ -84,6 +28,9 @@ fn takeover() -> Draft {
     }
 }
 
+/// Bytes that have room for takeover.plan in either form.
+const ROOM: usize = 600;
+
 /// A message that server 1 may send in tick 3, where it is faulty.
 fn forged(receiver: Party) -> Forgery {
     Forgery { tick: 3, sender: 1, receiver, value: 666, number: 9 }
@@ -91,27 +38,35 @@ fn forged(receiver: Party) -> Forgery {
 
 #[test]
 fn lists_of_the_examples() {
-    for plan in ACCEPTED {
-        let mut out = [BEFORE; LONGEST_PLAN];
-        assert_eq!(pack(&lists_of(plan), &mut out), Ok(plan.len()));
-        assert_eq!(out[..plan.len()], *plan);
-        assert!(out[plan.len()..].iter().all(|&byte| byte == BEFORE));
+    for form in Form::ALL {
+        for example in ACCEPTED {
+            let (lists, plan) = (lists_of(Form::One, example), in_form(form, example));
+            let mut out = vec![BEFORE; form.longest_plan()];
+            assert_eq!(pack(form, &lists, &mut out), Ok(plan.len()));
+            assert_eq!(out[..plan.len()], plan);
+            assert!(out[plan.len()..].iter().all(|&byte| byte == BEFORE));
+            assert_eq!(lists_of(form, &plan), lists);
+        }
+        let too_few = lists_of(Form::One, TOO_FEW);
+        assert_eq!(pack(form, &too_few, &mut []), Err(Refusal::TooFewServers));
     }
-    assert_eq!(pack(&lists_of(TOO_FEW), &mut []), Err(Refusal::TooFewServers));
 }
 
 #[test]
 fn buffers_of_several_lengths() {
-    let lists = lists_of(TAKEOVER);
-    for more in [0, 1, 40] {
-        let mut out = vec![BEFORE; TAKEOVER.len() + more];
-        assert_eq!(pack(&lists, &mut out), Ok(TAKEOVER.len()));
-        assert_eq!(out, [TAKEOVER, &vec![BEFORE; more]].concat());
-    }
-    for length in [0, 1, 8, TAKEOVER.len() - 1] {
-        let mut out = vec![BEFORE; length];
-        assert_eq!(pack(&lists, &mut out), Err(Refusal::BufferShort));
-        assert!(out.iter().all(|&byte| byte == BEFORE));
+    let lists = lists_of(Form::One, TAKEOVER);
+    for form in Form::ALL {
+        let plan = in_form(form, TAKEOVER);
+        for more in [0, 1, 40] {
+            let mut out = vec![BEFORE; plan.len() + more];
+            assert_eq!(pack(form, &lists, &mut out), Ok(plan.len()));
+            assert_eq!(out, [&plan[..], &vec![BEFORE; more]].concat());
+        }
+        for length in [0, 1, 8, plan.len() - 1] {
+            let mut out = vec![BEFORE; length];
+            assert_eq!(pack(form, &lists, &mut out), Err(Refusal::BufferShort));
+            assert!(out.iter().all(|&byte| byte == BEFORE));
+        }
     }
 }
 
@@ -129,7 +84,7 @@ fn refused_lists() -> Vec<(Refusal, Lists)> {
         (Refusal::TooFewServers, |lists| lists.header[1] = 2),
         (Refusal::Header, |lists| lists.header[0] = 0),
     ];
-    let mut lists = lists_of(TAKEOVER);
+    let mut lists = lists_of(Form::One, TAKEOVER);
     let mut refused = vec![(Refusal::BufferShort, lists.clone())];
     for (refusal, put_in) in faults {
         put_in(&mut lists);
@@ -140,57 +95,62 @@ fn refused_lists() -> Vec<(Refusal, Lists)> {
 
 #[test]
 fn each_refusal() {
-    for (refusal, lists) in refused_lists() {
-        let mut out = [BEFORE; TAKEOVER.len() - 1];
-        assert_eq!(pack(&lists, &mut out), Err(refusal));
-        assert!(out.iter().all(|&byte| byte == BEFORE));
+    for form in Form::ALL {
+        for (refusal, lists) in refused_lists() {
+            let mut out = [BEFORE; TAKEOVER.len() - 1];
+            assert_eq!(pack(form, &lists, &mut out), Err(refusal));
+            assert!(out.iter().all(|&byte| byte == BEFORE));
+        }
     }
 }
 
 #[test]
 fn headers_of_other_than_ten() {
-    for length in [0, 1, 9, 11, 20] {
-        let lists = changed(TAKEOVER, |lists| lists.header.resize(length, 0));
-        assert_eq!(pack(&lists, &mut [0; 500]), Err(Refusal::Header));
+    for form in Form::ALL {
+        for length in [0, 1, 9, 11, 20] {
+            let lists = changed_lists(TAKEOVER, |lists| lists.header.resize(length, 0));
+            assert_eq!(pack(form, &lists, &mut [0; ROOM]), Err(Refusal::Header));
+        }
+        assert_eq!(pack(form, &Lists::default(), &mut []), Err(Refusal::Header));
     }
-    assert_eq!(pack(&Lists::default(), &mut []), Err(Refusal::Header));
 }
 
 /// One number more or less in each list but the header.
 #[test]
 fn lists_of_other_lengths() {
     for list in 1..5 {
-        let longer = changed(TAKEOVER, |lists| numbers(lists, list).push(0));
-        let shorter = changed(TAKEOVER, |lists| {
+        let longer = changed_lists(TAKEOVER, |lists| numbers(lists, list).push(0));
+        let shorter = changed_lists(TAKEOVER, |lists| {
             numbers(lists, list).pop();
         });
         for lists in [longer, shorter] {
-            assert_eq!(pack(&lists, &mut [0; 500]), Err(Refusal::PlanLength));
+            for form in Form::ALL {
+                assert_eq!(pack(form, &lists, &mut [0; ROOM]), Err(Refusal::PlanLength));
+            }
         }
     }
 }
 
 /// Each field in turn gets a number whose low bits are right, but that is too wide.
-#[test]
-fn numbers_too_wide() {
-    let mut lists = lists_of(TAKEOVER);
-    let widths: [(Refusal, &[u32]); 5] = [
-        (Refusal::Header, &[5, 2, 4, 6, 3, 8, 16, 8, 11, 1]),
-        (Refusal::Placement, &[16]),
-        (Refusal::Operation, &[7, 3, 16]),
-        (Refusal::Forgery, &[7, 4, 5, 16, 8]),
-        (Refusal::Delay, &[4]),
-    ];
-    for (list, (refusal, widths)) in widths.into_iter().enumerate() {
+fn refuses_wide_numbers(form: Form) {
+    let parts =
+        [Refusal::Header, Refusal::Placement, Refusal::Operation, Refusal::Forgery, Refusal::Delay];
+    let mut lists = lists_of(Form::One, TAKEOVER);
+    for (list, (refusal, widths)) in parts.into_iter().zip(widths(form)).enumerate() {
         for (field, &width) in widths.iter().enumerate() {
             for bit in [width, 31] {
                 numbers(&mut lists, list)[field] ^= 1 << bit;
-                assert_eq!(pack(&lists, &mut [0; 500]), Err(refusal));
+                assert_eq!(pack(form, &lists, &mut [0; ROOM]), Err(refusal));
                 numbers(&mut lists, list)[field] ^= 1 << bit;
             }
         }
     }
-    assert_eq!(pack(&lists, &mut [0; 500]), Ok(TAKEOVER.len()));
+    assert!(pack(form, &lists, &mut [0; ROOM]).is_ok());
+}
+
+#[test]
+fn numbers_too_wide() {
+    Form::ALL.into_iter().for_each(refuses_wide_numbers);
 }
 
 /// A list by its place.
@@ -205,7 +165,9 @@ fn drafts_refused() {
     let refused = |change: fn(&mut Draft)| {
         let mut draft = takeover();
         change(&mut draft);
-        draft.build().unwrap_err()
+        let [one, two] = Form::ALL.map(|form| draft.build(form).unwrap_err());
+        assert_eq!(one, two);
+        one
     };
     assert_eq!(refused(|draft| draft.servers = usize::MAX), Refusal::Header);
     assert_eq!(refused(many_servers_and_a_forgery), Refusal::Header);
@@ -229,7 +191,9 @@ fn receivers_refused() {
     let readers = [0, 2, usize::MAX].map(Party::Reader);
     for receiver in servers.into_iter().chain([Party::Writer]).chain(readers) {
         let draft = Draft { forgeries: vec![forged(receiver)], ..takeover() };
-        assert_eq!(draft.build(), Err(Refusal::Forgery));
+        for form in Form::ALL {
+            assert_eq!(draft.build(form), Err(Refusal::Forgery));
+        }
     }
 }
 
@@ -247,7 +211,7 @@ fn delays_refused() {
     let built = |tick, sender, receiver, delay| {
         let mut draft = takeover();
         draft.delays.insert((tick, sender, receiver), delay);
-        draft.build().map(|plan| plan.len())
+        draft.build(Form::One).map(|plan| plan.len())
     };
     let (server, reader) = (Party::Server(0), Party::Reader(1));
     assert!(built(9, server, reader, 1).is_ok());
@@ -258,7 +222,7 @@ fn delays_refused() {
     assert_eq!(built(10, server, reader, 1), Err(Refusal::PlanLength));
     assert_eq!(built(0, server, Party::Server(5), 1), Err(Refusal::PlanLength));
     assert_eq!(built(0, Party::Reader(0), server, 1), Err(Refusal::PlanLength));
-    assert_eq!(Draft { delay: 0, ..takeover() }.build(), Err(Refusal::Delay));
+    assert_eq!(Draft { delay: 0, ..takeover() }.build(Form::One), Err(Refusal::Delay));
 }
 
 #[test]
@@ -266,13 +230,39 @@ fn a_draft_in_any_order() {
     let forgeries = [Party::Reader(1), Party::Server(0), Party::Server(4)].map(forged);
     let mut draft = Draft { forgeries: forgeries.to_vec(), ..takeover() };
     draft.operations.reverse();
-    let plan = draft.build().unwrap();
-    let lists = lists_of(&plan);
-    assert_eq!(lists, draft.lists());
+    let lists = draft.lists();
     assert_eq!(lists.operations, [0, 0, 100, 3, 1, 0, 6, 0, 101]);
     let receivers: Vec<u32> = lists.forgeries.chunks(5).map(|forgery| forgery[2]).collect();
     assert_eq!(receivers, [0, 4, 6]);
-    assert_eq!(check(&plan), Ok(1));
+    for form in Form::ALL {
+        let plan = draft.build(form).unwrap();
+        assert_eq!(lists_of(form, &plan), lists);
+        assert_eq!(check(form, &plan), Ok(1));
+    }
+}
+
+/// takeover.plan with one forged message and these values in it.
+fn with_values(initial: u32, written: u32, forged_value: u32) -> Draft {
+    let mut draft = Draft { initial, ..takeover() };
+    draft.operations[0] = Operation::Write { tick: 0, value: written };
+    draft.forgeries = vec![Forgery { value: forged_value, ..forged(Party::Reader(1)) }];
+    draft
+}
+
+#[test]
+fn values_up_to_the_highest_of_the_form() {
+    for form in Form::ALL {
+        let (highest, wide) = (form.highest_value(), form.highest_value() + 1);
+        let plan = with_values(highest, highest, highest).build(form).unwrap();
+        let lists = lists_of(form, &plan);
+        let values = [lists.header[6], lists.operations[2], lists.forgeries[3]];
+        assert_eq!(values, [highest; 3]);
+        for wide in [wide, u32::MAX] {
+            assert_eq!(with_values(wide, 0, 0).build(form), Err(Refusal::Header));
+            assert_eq!(with_values(0, wide, 0).build(form), Err(Refusal::Operation));
+            assert_eq!(with_values(0, 0, wide).build(form), Err(Refusal::Forgery));
+        }
+    }
 }
 
 #[test]
@@ -287,7 +277,7 @@ fn drafts_of_examples() {
         forgeries: vec![Forgery { tick: 2, ..forged(Party::Reader(1)) }],
         ..takeover()
     };
-    assert_eq!(festival.build().unwrap(), FESTIVAL);
+    assert_eq!(festival.build(Form::One).unwrap(), FESTIVAL);
     let concurrent = Draft {
         delta: 2,
         period: 4,
@@ -302,7 +292,7 @@ fn drafts_of_examples() {
         ],
         ..takeover()
     };
-    assert_eq!(concurrent.build().unwrap(), CONCURRENT);
+    assert_eq!(concurrent.build(Form::One).unwrap(), CONCURRENT);
 }
 
 #[test]
@@ -326,9 +316,10 @@ fn delays_by_a_function() {
     });
     // In each tick from a server to the other five and the reader, from writer and reader to six.
     assert_eq!(asked, 7 * (6 * 6 + 6 + 6));
-    assert_eq!(draft.build().unwrap(), JUST_SET);
+    assert_eq!(draft.build(Form::One).unwrap(), JUST_SET);
+    assert_eq!(draft.build(Form::Two).unwrap(), in_form(Form::Two, JUST_SET));
     draft.set_delays(|tick, sender, _| if sender == Party::Writer { 1 } else { 1 + tick % 2 });
-    let lists = lists_of(&draft.build().unwrap());
+    let lists = lists_of(Form::One, &draft.build(Form::One).unwrap());
     assert_eq!((lists.delays[1], lists.delays[64 + 1]), (1, 2));
     assert_eq!(lists.delays[64 + 6 * 8], 1);
 }
@@ -349,5 +340,7 @@ fn a_draft_with_the_most_reads() {
         delay: 1,
         ..Draft::default()
     };
-    assert_eq!(check(&draft.build().unwrap()), Ok(MOST_READS));
+    for form in Form::ALL {
+        assert_eq!(check(form, &draft.build(form).unwrap()), Ok(MOST_READS));
+    }
 }
