@@ -34,6 +34,32 @@ impl<'a> Fields<'a> {
         self.at += width;
         value
     }
+
+    /// The fields of one record.
+    pub fn take_record<const N: usize>(&mut self, widths: &[usize; N]) -> [u64; N] {
+        widths.map(|width| self.take(width))
+    }
+
+    /// The fields of so many records, one after the other.
+    pub fn take_records(&mut self, records: usize, widths: &[usize]) -> Vec<u32> {
+        (0..records).flat_map(|_| widths).map(|&width| self.take(width) as u32).collect()
+    }
+}
+
+/// The fields of a record that is one number, its lowest bits the last of them.
+pub fn split<const N: usize>(record: u64, widths: &[usize; N]) -> [u64; N] {
+    let mut rest = record;
+    let mut fields = [0; N];
+    for (field, width) in fields.iter_mut().zip(widths).rev() {
+        *field = rest & ((1 << width) - 1);
+        rest >>= width;
+    }
+    fields
+}
+
+/// The record of these fields as one number.
+pub fn join<const N: usize>(fields: [u64; N], widths: &[usize; N]) -> u64 {
+    fields.iter().zip(widths).fold(0, |record, (field, width)| record << width | field)
 }
 
 /// Puts one field after the other.
@@ -88,10 +114,21 @@ mod tests {
     fn a_field_is_its_bits() {
         let bytes: Vec<u8> = (0..23u32).map(|i| (i * 89 + 41) as u8).collect();
         for at in 0..8 * bytes.len() {
-            for width in 1..=40 {
+            for width in 1..=48 {
                 assert_eq!(field(&bytes, at, width), one_by_one(&bytes, at, width));
             }
         }
+    }
+
+    #[test]
+    fn a_record_is_its_fields() {
+        let widths = [7, 3, 24, 8, 5, 1];
+        let fields = [100, 5, 0x80_0001, 255, 0, 1];
+        let record = join(fields, &widths);
+        assert_eq!(record, 100 << 41 | 5 << 38 | 0x80_0001 << 14 | 255 << 6 | 1);
+        assert_eq!(split(record, &widths), fields);
+        let bytes = (record << 16).to_be_bytes();
+        assert_eq!(Fields::new(&bytes, 0).take_record(&widths), fields);
     }
 
     #[test]

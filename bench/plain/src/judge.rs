@@ -1,29 +1,37 @@
 //! Answers: packed, and judged against the regular register.
 
-use crate::bits::field;
+use crate::bits::{field, join, split};
+use crate::form::Form;
 use crate::plan::{Plan, Read, Stamped};
 
-pub const ANSWER_BYTES: usize = 5;
+/// The fields of an answer: begin, reader, value, number, count, zero.
+pub type Answer = [u64; 6];
 
-pub fn pack(read: &Read, stamped: Stamped, count: u32) -> [u8; ANSWER_BYTES] {
-    let packed = (read.begin as u64) << 33
-        | (read.reader as u64) << 30
-        | u64::from(stamped.value()) << 14
-        | u64::from(stamped.number()) << 6
-        | u64::from(count) << 1;
-    let [_, _, _, answer @ ..] = packed.to_be_bytes();
-    answer
+pub fn answer(read: &Read, stamped: Stamped, count: u32) -> Answer {
+    let (begin, reader) = (read.begin as u64, read.reader as u64);
+    [begin, reader, stamped.value().into(), stamped.number().into(), count.into(), 0]
+}
+
+/// Puts an answer in its place, which has just its bytes.
+pub fn put(form: &Form, answer: Answer, place: &mut [u8]) {
+    let packed = join(answer, &form.answer).to_be_bytes();
+    place.copy_from_slice(&packed[packed.len() - place.len()..]);
+}
+
+/// The answer in these bytes.
+pub fn get(form: &Form, bytes: &[u8]) -> Answer {
+    split(field(bytes, 0, form.answer_bits()), &form.answer)
 }
 
 /// Whether begin, reader and zero bit are those of the read.
-pub fn belongs(read: &Read, answer: &[u8]) -> bool {
-    let begin = field(answer, 0, 7) as usize;
-    let reader = field(answer, 7, 3) as usize;
-    begin == read.begin && reader == read.reader && field(answer, 39, 1) == 0
+pub fn belongs(read: &Read, answer: Answer) -> bool {
+    let [begin, reader, .., zero] = answer;
+    begin as usize == read.begin && reader as usize == read.reader && zero == 0
 }
 
-pub fn is_regular(plan: &Plan, read: &Read, answer: &[u8]) -> bool {
-    let given = Stamped::new(field(answer, 10, 16) as u16, field(answer, 26, 8) as u8);
+pub fn is_regular(plan: &Plan, read: &Read, answer: Answer) -> bool {
+    let [_, _, value, number, ..] = answer;
+    let given = Stamped::new(value as u32, number as u8);
     let initial = Stamped::new(plan.header.initial, 0);
     let finished = plan.writes.iter().rev().find(|write| write.end <= read.begin);
     let last_finished = finished.map_or(initial, |write| write.stamped);

@@ -1,21 +1,25 @@
-//! Check, Play, Look and Judge of docs/RULES.md, and Pack of docs/FORMATS.md, as an ordinary
-//! program: the yardstick for the proved library's speed, and the other side of its differential
-//! tests. It shares no code with the library and makes no use of facts proved there.
+//! Check, Play, Look and Judge of docs/RULES.md, and Pack and carrying of docs/FORMATS.md, as an
+//! ordinary program: the yardstick for the proved library's speed, and the other side of its
+//! differential tests. It shares no code with the library and makes no use of facts proved there.
+//!
+//! A form is named by its number, 1 or 2; another one is refused.
 
 #![forbid(unsafe_code)]
 
 pub mod bits;
+mod carry;
 mod cluster;
+pub mod form;
 pub mod judge;
 mod pack;
 pub mod plan;
 mod server;
 
+pub use form::Form;
 pub use pack::Lists;
 pub use plan::Stamped;
 
 use cluster::Cluster;
-use judge::ANSWER_BYTES;
 use plan::Plan;
 
 pub const WORKSPACE_BYTES: usize = 60_000;
@@ -42,14 +46,15 @@ pub struct Seen {
 }
 
 /// The number of reads.
-pub fn check(plan: &[u8]) -> Outcome<usize> {
-    Ok(Plan::unpack(plan)?.reads.len())
+pub fn check(form: usize, plan: &[u8]) -> Outcome<usize> {
+    Ok(Plan::unpack(Form::of(form)?, plan)?.reads.len())
 }
 
 /// The number of reads; the answers stand at the start of the buffer.
-pub fn play(plan: &[u8], answers: &mut [u8], workspace: &mut [u8]) -> Outcome<usize> {
-    let plan = Plan::unpack(plan)?;
-    if answers.len() < ANSWER_BYTES * plan.reads.len() {
+pub fn play(form: usize, plan: &[u8], answers: &mut [u8], workspace: &mut [u8]) -> Outcome<usize> {
+    let form = Form::of(form)?;
+    let plan = Plan::unpack(form, plan)?;
+    if answers.len() < form.answer_bytes() * plan.reads.len() {
         return Err(Refused(9));
     }
     let workspace = workspace.get_mut(..WORKSPACE_BYTES).ok_or(Refused(10))?;
@@ -57,17 +62,23 @@ pub fn play(plan: &[u8], answers: &mut [u8], workspace: &mut [u8]) -> Outcome<us
     for tick in 0..plan.header.ticks {
         cluster.tick(tick);
     }
-    let places = answers.chunks_exact_mut(ANSWER_BYTES);
+    let places = answers.chunks_exact_mut(form.answer_bytes());
     for ((read, place), &(stamped, count)) in plan.reads.iter().zip(places).zip(&cluster.answers) {
-        place.copy_from_slice(&judge::pack(read, stamped, count));
+        judge::put(form, judge::answer(read, stamped, count), place);
     }
     workspace.fill(0);
     Ok(plan.reads.len())
 }
 
 /// A server after a tick.
-pub fn look(plan: &[u8], workspace: &mut [u8], server: usize, tick: usize) -> Outcome<Seen> {
-    let plan = Plan::unpack(plan)?;
+pub fn look(
+    form: usize,
+    plan: &[u8],
+    workspace: &mut [u8],
+    server: usize,
+    tick: usize,
+) -> Outcome<Seen> {
+    let plan = Plan::unpack(Form::of(form)?, plan)?;
     let workspace = workspace.get_mut(..WORKSPACE_BYTES).ok_or(Refused(10))?;
     if server >= plan.header.servers || tick >= plan.header.ticks {
         return Err(Refused(11));
@@ -84,12 +95,13 @@ pub fn look(plan: &[u8], workspace: &mut [u8], server: usize, tick: usize) -> Ou
 }
 
 /// Whether every answer is one that a regular register may give.
-pub fn judge(plan: &[u8], answers: &[u8]) -> Outcome<bool> {
-    let plan = Plan::unpack(plan)?;
-    if answers.len() != ANSWER_BYTES * plan.reads.len() {
+pub fn judge(form: usize, plan: &[u8], answers: &[u8]) -> Outcome<bool> {
+    let form = Form::of(form)?;
+    let plan = Plan::unpack(form, plan)?;
+    if answers.len() != form.answer_bytes() * plan.reads.len() {
         return Err(Refused(12));
     }
-    let answers = answers.chunks_exact(ANSWER_BYTES);
+    let answers = answers.chunks_exact(form.answer_bytes()).map(|bytes| judge::get(form, bytes));
     let mut answered = plan.reads.iter().zip(answers);
     if !answered.clone().all(|(read, answer)| judge::belongs(read, answer)) {
         return Err(Refused(13));
@@ -98,9 +110,23 @@ pub fn judge(plan: &[u8], answers: &[u8]) -> Outcome<bool> {
 }
 
 /// The number of bytes of the packed plan, which stands at the start of the buffer.
-pub fn pack(lists: &Lists, out: &mut [u8]) -> Outcome<usize> {
-    let plan = pack::packed(lists)?;
-    let place = out.get_mut(..plan.len()).ok_or(Refused(14))?;
-    place.copy_from_slice(&plan);
+pub fn pack(form: usize, lists: &Lists, out: &mut [u8]) -> Outcome<usize> {
+    put(&pack::packed(Form::of(form)?, lists)?, out, Refused(14))
+}
+
+/// A plan of form one in form two: the number of its bytes, which stand at the start of the buffer.
+pub fn carry(plan: &[u8], out: &mut [u8]) -> Outcome<usize> {
+    put(&carry::carried(plan, Form::ONE, Form::TWO)?, out, Refused(20))
+}
+
+/// A plan of form two in form one, likewise.
+pub fn carry_back(plan: &[u8], out: &mut [u8]) -> Outcome<usize> {
+    put(&carry::carried(plan, Form::TWO, Form::ONE)?, out, Refused(20))
+}
+
+/// Puts a plan at the start of a buffer, which is refused if it is too short.
+fn put(plan: &[u8], out: &mut [u8], too_short: Refused) -> Outcome<usize> {
+    let place = out.get_mut(..plan.len()).ok_or(too_short)?;
+    place.copy_from_slice(plan);
     Ok(plan.len())
 }

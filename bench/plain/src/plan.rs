@@ -1,6 +1,7 @@
 //! The packed plan: taken apart and checked.
 
-use crate::bits::{field, Fields};
+use crate::bits::{field, split, Fields};
+use crate::form::{Form, DELAY_BITS, PLACEMENT_BITS};
 use crate::Refused;
 
 pub const MOST_SERVERS: usize = 16;
@@ -9,51 +10,49 @@ pub const MOST_TICKS: usize = 128;
 pub const MOST_OPERATIONS: usize = 255;
 const MOST_FORGERIES: usize = 1024;
 
-pub const HEADER_WIDTHS: [usize; 10] = [5, 2, 4, 6, 3, 8, 16, 8, 11, 1];
-pub const HEADER_BYTES: usize = 8;
-pub const PLACEMENT_BITS: usize = 16;
-pub const OPERATION_BITS: usize = 26;
-pub const FORGERY_BITS: usize = 40;
-pub const DELAY_BITS: usize = 4;
+/// Where the sequence number stands in a stamped value: above values of any form.
+const NUMBER_AT: usize = 24;
 
 /// A value and its sequence number, as one number: in the order of the numbers, then the values.
 #[derive(Clone, Copy, Debug, Default, PartialEq, Eq, PartialOrd, Ord)]
 pub struct Stamped(u32);
 
 impl Stamped {
-    pub fn new(value: u16, number: u8) -> Self {
-        Stamped(u32::from(number) << 16 | u32::from(value))
+    pub fn new(value: u32, number: u8) -> Self {
+        Stamped(u32::from(number) << NUMBER_AT | value)
     }
 
-    pub fn value(self) -> u16 {
-        self.0 as u16
+    pub fn value(self) -> u32 {
+        self.0 & ((1 << NUMBER_AT) - 1)
     }
 
     pub fn number(self) -> u8 {
-        (self.0 >> 16) as u8
+        (self.0 >> NUMBER_AT) as u8
     }
 }
 
 #[derive(Clone, Copy)]
 pub struct Header {
+    pub form: &'static Form,
     pub servers: usize,
     pub faulty: usize,
     pub delta: usize,
     pub period: usize,
     pub readers: usize,
     pub ticks: usize,
-    pub initial: u16,
+    pub initial: u32,
     pub operations: usize,
     pub forgeries: usize,
 }
 
 impl Header {
     /// The header, or the first of the refusals that it and the plan's length can give.
-    pub fn of(bytes: &[u8]) -> Result<Self, Refused> {
-        if bytes.len() < HEADER_BYTES {
+    pub fn of(form: &'static Form, bytes: &[u8]) -> Result<Self, Refused> {
+        if 8 * bytes.len() < form.header_bits() {
             return Err(Refused(1));
         }
-        let header = Header::unpack(bytes)?.with_enough_servers()?;
+        let fields = Fields::new(bytes, 0).take_record(&form.header);
+        let header = Header::from_fields(form, fields)?.with_enough_servers()?;
         if bytes.len() != header.final_bits_at().div_ceil(8) {
             return Err(Refused(4));
         }
@@ -68,23 +67,19 @@ impl Header {
         }
     }
 
-    fn unpack(bytes: &[u8]) -> Result<Self, Refused> {
-        let mut fields = Fields::new(bytes, 0);
-        Header::from_fields(HEADER_WIDTHS.map(|width| fields.take(width) as usize))
-    }
-
     /// The header that the fields say, the zero bit last, if all are in their ranges.
-    pub fn from_fields(fields: [usize; 10]) -> Result<Self, Refused> {
+    pub fn from_fields(form: &'static Form, fields: [u64; 10]) -> Result<Self, Refused> {
         let [servers, faulty, delta, period, readers, ticks, initial, operations, forgeries, zero] =
-            fields;
+            fields.map(|field| field as usize);
         let header = Header {
+            form,
             servers,
             faulty,
             delta,
             period,
             readers,
             ticks,
-            initial: initial as u16,
+            initial: initial as u32,
             operations,
             forgeries,
         };
@@ -142,16 +137,22 @@ impl Header {
         }
     }
 
+    /// How many records each part of the plan has, the header among them.
+    pub fn records(&self) -> [usize; 5] {
+        let delays = self.ticks * self.parties() * self.parties();
+        [1, self.movements(), self.operations, self.forgeries, delays]
+    }
+
     pub fn operations_at(&self) -> usize {
-        8 * HEADER_BYTES + PLACEMENT_BITS * self.movements()
+        self.form.header_bits() + PLACEMENT_BITS * self.movements()
     }
 
     pub fn forgeries_at(&self) -> usize {
-        self.operations_at() + OPERATION_BITS * self.operations
+        self.operations_at() + self.form.operation_bits() * self.operations
     }
 
     pub fn delays_at(&self) -> usize {
-        self.forgeries_at() + FORGERY_BITS * self.forgeries
+        self.forgeries_at() + self.form.forgery_bits() * self.forgeries
     }
 
     fn final_bits_at(&self) -> usize {
@@ -196,8 +197,8 @@ pub struct Plan<'a> {
 
 impl<'a> Plan<'a> {
     /// Takes the plan apart, or gives the first refusal that applies.
-    pub fn unpack(bytes: &'a [u8]) -> Result<Self, Refused> {
-        let header = Header::of(bytes)?;
+    pub fn unpack(form: &'static Form, bytes: &'a [u8]) -> Result<Self, Refused> {
+        let header = Header::of(form, bytes)?;
         let placements = unpack_placements(bytes, &header).ok_or(Refused(5))?;
         let (writes, reads) = unpack_operations(bytes, &header).ok_or(Refused(6))?;
         let forgeries = unpack_forgeries(bytes, &header, &placements, &reads).ok_or(Refused(7))?;
@@ -216,7 +217,7 @@ impl<'a> Plan<'a> {
 }
 
 fn unpack_placements(bytes: &[u8], header: &Header) -> Option<Vec<u16>> {
-    let mut fields = Fields::new(bytes, 8 * HEADER_BYTES);
+    let mut fields = Fields::new(bytes, header.form.header_bits());
     let existing = ((1u32 << header.servers) - 1) as u16;
     (0..header.movements())
         .map(|_| {
@@ -233,9 +234,8 @@ fn unpack_operations(bytes: &[u8], header: &Header) -> Option<(Vec<Write>, Vec<R
     let mut last = None;
     let mut ends = [None; MOST_READERS + 1];
     for _ in 0..header.operations {
-        let begin = fields.take(7) as usize;
-        let party = fields.take(3) as usize;
-        let value = fields.take(16) as u16;
+        let [begin, party, value] =
+            fields.take_record(&header.form.operation).map(|field| field as usize);
         let rises = last < Some((begin, party));
         last = Some((begin, party));
         if !rises || party > header.readers || ends[party] >= Some(begin) {
@@ -248,7 +248,7 @@ fn unpack_operations(bytes: &[u8], header: &Header) -> Option<(Vec<Write>, Vec<R
         }
         if party == 0 {
             let number = writes.len() as u8 + 1;
-            writes.push(Write { begin, end, stamped: Stamped::new(value, number) });
+            writes.push(Write { begin, end, stamped: Stamped::new(value as u32, number) });
         } else {
             reads.push(Read { begin, end, reader: party });
         }
@@ -263,20 +263,19 @@ fn unpack_forgeries(
     reads: &[Read],
 ) -> Option<Vec<Forgery>> {
     let mut forgeries = Vec::with_capacity(header.forgeries);
+    let mut fields = Fields::new(bytes, header.forgeries_at());
     let mut last = None;
     // The end of the last read of each reader that has begun by the forgery's tick.
     let mut ends = [0; MOST_READERS + 1];
     let mut begun = reads.iter().peekable();
-    for i in 0..header.forgeries {
-        let packed = field(bytes, header.forgeries_at() + FORGERY_BITS * i, FORGERY_BITS);
+    for _ in 0..header.forgeries {
+        let packed = fields.take(header.form.forgery_bits());
         let rises = last < Some(packed);
         last = Some(packed);
-        let forgery = Forgery {
-            tick: (packed >> 33) as usize,
-            sender: (packed >> 29 & 15) as usize,
-            receiver: (packed >> 24 & 31) as usize,
-            stamped: Stamped::new((packed >> 8) as u16, packed as u8),
-        };
+        let [tick, sender, receiver, value, number] =
+            split(packed, &header.form.forgery).map(|field| field as usize);
+        let stamped = Stamped::new(value as u32, number as u8);
+        let forgery = Forgery { tick, sender, receiver, stamped };
         if !rises || forgery.tick >= header.ticks {
             return None;
         }

@@ -1,20 +1,23 @@
 //! Check: every part is gone over once, without taking the plan apart.
 
 use plain::bits::field;
-use plain::plan::{
-    Header, FORGERY_BITS, HEADER_BYTES, MOST_READERS, OPERATION_BITS, PLACEMENT_BITS,
-};
+use plain::form::PLACEMENT_BITS;
+use plain::plan::{Header, MOST_READERS};
 use plain::{Outcome, Refused};
 
-use crate::delays;
 use crate::sets::{first, one, Servers};
+use crate::{delays, FORM};
+
+const HEADER_BITS: usize = FORM.header_bits();
+const OPERATION_BITS: usize = FORM.operation_bits();
+const FORGERY_BITS: usize = FORM.forgery_bits();
 
 /// What a receiver's field can say.
 const RECEIVERS: usize = 32;
 
 /// The header and the number of reads, or the first refusal that applies.
 pub fn accepted(plan: &[u8]) -> Outcome<(Header, usize)> {
-    let header = Header::of(plan)?;
+    let header = Header::of(FORM, plan)?;
     if !placements_stand(plan, &header) {
         return Err(Refused(5));
     }
@@ -31,7 +34,7 @@ pub fn accepted(plan: &[u8]) -> Outcome<(Header, usize)> {
 /// The faulty servers from a movement on.
 #[inline]
 pub fn placement(plan: &[u8], movement: usize) -> Servers {
-    field(plan, 8 * HEADER_BYTES + PLACEMENT_BITS * movement, PLACEMENT_BITS) as Servers
+    field(plan, HEADER_BITS + PLACEMENT_BITS * movement, PLACEMENT_BITS) as Servers
 }
 
 fn placements_stand(plan: &[u8], header: &Header) -> bool {

@@ -1,6 +1,6 @@
 //! The cluster carried through its ticks.
 
-use plain::judge::{pack, ANSWER_BYTES};
+use plain::judge::{answer, put};
 use plain::plan::{Header, Read, MOST_READERS, MOST_SERVERS};
 use plain::{Condition, Seen, Stamped};
 
@@ -10,6 +10,7 @@ use crate::network::Network;
 use crate::sets::{each, each_number, first, one, Servers, NUMBERS};
 use crate::stores::Stores;
 use crate::votes::Votes;
+use crate::{ANSWER_BYTES, FORM};
 
 /// A read that has begun and not ended.
 struct OpenRead {
@@ -95,7 +96,7 @@ impl<'a> Cluster<'a> {
             next_read: 0,
             next_forgery: 0,
         };
-        cluster.values[0] = header.initial;
+        cluster.values[0] = header.initial as u16;
         for place in 0..header.operations {
             let operation = operation(plan, cluster.operations_at, place);
             if operation.party == 0 {
@@ -148,7 +149,7 @@ impl<'a> Cluster<'a> {
     }
 
     fn stamped(&self, number: usize) -> Stamped {
-        Stamped::new(self.values[number], number as u8)
+        Stamped::new(self.values[number].into(), number as u8)
     }
 
     /// The servers that hear of the last write.
@@ -248,8 +249,8 @@ impl<'a> Cluster<'a> {
                 Some((number, count)) => (self.stamped(number), count),
                 None => Default::default(),
             };
-            let answer = pack(&ended.read, stamped, count);
-            answers[ANSWER_BYTES * ended.index..][..ANSWER_BYTES].copy_from_slice(&answer);
+            let place = &mut answers[ANSWER_BYTES * ended.index..][..ANSWER_BYTES];
+            put(FORM, answer(&ended.read, stamped, count), place);
         }
     }
 

@@ -1,7 +1,8 @@
 //! The delays of a plan, by bytes and words: whether they stand, and whom they reach when.
 
 use plain::bits::field;
-use plain::plan::{Header, DELAY_BITS, MOST_READERS, MOST_SERVERS};
+use plain::form::DELAY_BITS;
+use plain::plan::{Header, MOST_READERS, MOST_SERVERS};
 
 use crate::sets::{each, first, one, Servers};
 

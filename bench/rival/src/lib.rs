@@ -1,5 +1,6 @@
-//! Check, Play and Look of docs/RULES.md, as fast as safe Rust makes them: how near the proved
-//! library comes to that. Header, bit fields and the form of results are those of `plain`.
+//! Check, Play and Look of docs/RULES.md for plans of form one, as fast as safe Rust makes them: how
+//! near the proved library comes to that. Header, bit fields and the shape of results are those of
+//! `plain`.
 //!
 //! Sets of servers are words of 16 bits, and what a party sends to all goes through in one step.
 //! A forged stamped value that no operation writes never gets a quorum, so it is passed over.
@@ -14,11 +15,13 @@ mod sets;
 mod stores;
 mod votes;
 
-use plain::judge::ANSWER_BYTES;
 use plain::plan::MOST_OPERATIONS;
-use plain::{Outcome, Refused, Seen, WORKSPACE_BYTES};
+use plain::{Form, Outcome, Refused, Seen, WORKSPACE_BYTES};
 
 use cluster::Cluster;
+
+const FORM: &Form = Form::ONE;
+const ANSWER_BYTES: usize = FORM.answer_bytes();
 
 /// The number of reads.
 pub fn check(plan: &[u8]) -> Outcome<usize> {

@@ -1,5 +1,6 @@
 //! Random plans that Check accepts, with faults and delays that try hard to do harm.
 
+use crate::form::Form;
 use crate::parts::{Forgery, Operation, Parts};
 use crate::random::Random;
 
@@ -9,24 +10,48 @@ pub enum Size {
     Any,
 }
 
-pub fn accepted(random: &mut Random, size: Size) -> Parts {
-    let mut parts = header(random, size);
+/// The values that border on something in one of the forms.
+const BORDERS: [u32; 12] =
+    [0, 1, 7, 0xff, 0x100, 0x8000, 0xfffe, 0xffff, 0x1_0000, 0x80_0000, 0xff_fffe, 0xff_ffff];
+
+/// A plan of a form. Half of those of form two have only values that form one has room for, or at times
+/// one single value that it has no room for.
+pub fn accepted(random: &mut Random, form: Form, size: Size) -> Parts {
+    let values = if random.once_in(2) { Form::One } else { form };
+    let mut parts = header(random, form, values, size);
     parts.placements = placements(random, &parts);
-    parts.operations = operations(random, &parts);
-    parts.forgeries = forgeries(random, &parts, size);
+    parts.operations = operations(random, &parts, values);
+    parts.forgeries = forgeries(random, &parts, values, size);
     parts.delays = delays(random, &parts);
+    if values != form && random.once_in(4) {
+        widen_one(random, &mut parts);
+    }
     parts
 }
 
-fn value(random: &mut Random) -> u16 {
-    match random.below(4) {
-        0 => random.pick(&[0, 1, 7, 255, 256, 0x8000, 0xfffe, 0xffff]),
-        1 => random.below(8) as u16,
-        _ => random.number() as u16,
+/// A value of a form; some are alike but for their highest bits, some but for their lowest.
+fn value(random: &mut Random, form: Form) -> u32 {
+    match random.below(8) {
+        0 | 1 => random.pick(&BORDERS) & form.highest_value(),
+        2 => random.below(8) as u32,
+        3 => (random.below(8) as u32) << (form.value_bits() - 3),
+        _ => random.number() as u32 & form.highest_value(),
     }
 }
 
-fn header(random: &mut Random, size: Size) -> Parts {
+/// Makes one of the values too wide for form one: the initial one, one that is written or a forged one.
+fn widen_one(random: &mut Random, parts: &mut Parts) {
+    let writes = parts.operations.iter_mut().filter(|operation| operation.party == 0);
+    let written = writes.map(|write| &mut write.value);
+    let forged = parts.forgeries.iter_mut().map(|forgery| &mut forgery.value);
+    let mut values: Vec<&mut u32> =
+        [&mut parts.initial].into_iter().chain(written).chain(forged).collect();
+    let at = random.edgy(0, values.len() - 1);
+    *values[at] |= 1 << random.between(Form::One.value_bits(), parts.form.value_bits() - 1);
+    parts.forgeries.sort();
+}
+
+fn header(random: &mut Random, form: Form, values: Form, size: Size) -> Parts {
     let small = size == Size::Small;
     let delta = if small { random.between(1, 4) } else { random.edgy(1, 15) };
     let k = random.between(1, 2);
@@ -48,13 +73,14 @@ fn header(random: &mut Random, size: Size) -> Parts {
     };
     let readers = if small { random.pick(&[1, 1, 2, 3, 4]) } else { random.between(1, 4) };
     Parts {
+        form,
         servers,
         faulty,
         delta,
         period,
         readers,
         ticks,
-        initial: value(random),
+        initial: value(random, values),
         zero: 0,
         placements: Vec::new(),
         operations: Vec::new(),
@@ -95,7 +121,7 @@ fn placements(random: &mut Random, parts: &Parts) -> Vec<u16> {
     (0..parts.movements()).map(one).collect()
 }
 
-fn operations(random: &mut Random, parts: &Parts) -> Vec<Operation> {
+fn operations(random: &mut Random, parts: &Parts, values: Form) -> Vec<Operation> {
     let mut operations = Vec::new();
     for party in 0..=parts.readers {
         let duration = parts.duration(party);
@@ -106,7 +132,7 @@ fn operations(random: &mut Random, parts: &Parts) -> Vec<Operation> {
             tick = parts.ticks - 1 - duration;
         }
         while style != 1 && tick + duration < parts.ticks {
-            let value = if party == 0 { value(random) } else { 0 };
+            let value = if party == 0 { value(random, values) } else { 0 };
             operations.push(Operation { tick, party, value });
             tick += duration + 1;
             if style >= 4 {
@@ -124,7 +150,7 @@ fn has_open_read(parts: &Parts, reader: usize, tick: usize) -> bool {
     reads.any(|read| read.tick <= tick && tick < read.tick + 2 * parts.delta)
 }
 
-fn forgeries(random: &mut Random, parts: &Parts, size: Size) -> Vec<Forgery> {
+fn forgeries(random: &mut Random, parts: &Parts, values: Form, size: Size) -> Vec<Forgery> {
     let lots = if size == Size::Small { 120 } else { 1024 };
     let wanted = match random.below(5) {
         0 => 0,
@@ -133,7 +159,7 @@ fn forgeries(random: &mut Random, parts: &Parts, size: Size) -> Vec<Forgery> {
         3 if random.once_in(4) => 1024,
         _ => random.between(1, lots),
     };
-    let worth = worth_forging(random, parts);
+    let worth = worth_forging(random, parts, values);
     let mut forgeries = Vec::with_capacity(wanted);
     let (mut low, mut span) = (0, parts.ticks);
     if random.once_in(3) {
@@ -165,20 +191,23 @@ fn forgeries(random: &mut Random, parts: &Parts, size: Size) -> Vec<Forgery> {
 }
 
 /// Stamped values near the true ones, and far above them.
-fn worth_forging(random: &mut Random, parts: &Parts) -> Vec<(u16, u8)> {
-    let mut worth = vec![(0xffff, 255), (parts.initial, 0), (0xffff, 0)];
-    worth.push((value(random), random.number() as u8));
+fn worth_forging(random: &mut Random, parts: &Parts, values: Form) -> Vec<(u32, u8)> {
+    let highest = values.highest_value();
+    let mut worth = vec![(highest, 255), (parts.initial, 0), (highest, 0)];
+    worth.push((value(random, values), random.number() as u8));
     let writes = parts.operations.iter().filter(|operation| operation.party == 0);
     for (i, write) in writes.enumerate() {
         let number = i as u8 + 1;
-        worth.extend([(write.value, number), (0xffff, number), (write.value, number + 1)]);
+        let near = write.value ^ 1 << random.below(values.value_bits());
+        worth.extend([(write.value, number), (highest, number), (near, number)]);
+        worth.push((write.value, number + 1));
     }
     if random.once_in(2) {
         let count = random.between(1, 3);
         worth = (0..count).map(|_| random.pick(&worth)).collect();
     }
     if random.once_in(6) {
-        worth = (0..1000).map(|_| (value(random), random.number() as u8)).collect();
+        worth = (0..1000).map(|_| (value(random, values), random.number() as u8)).collect();
     }
     worth
 }

@@ -2,24 +2,26 @@
 
 use crate::accepted::{accepted, Size};
 use crate::damaged::spoilt;
-use crate::lists::{Lists, WIDTHS};
+use crate::form::Form;
+use crate::lists::Lists;
 use crate::random::Random;
 
 /// Lists for a packer: those of an accepted plan, of one with a fault, or bent.
-pub fn some_lists(random: &mut Random, size: Size) -> Lists {
+pub fn some_lists(random: &mut Random, form: Form, size: Size) -> Lists {
     if random.once_in(4) {
-        return spoilt(random, size).lists();
+        return spoilt(random, form, size).lists();
     }
-    let mut lists = accepted(random, size).lists();
+    let mut lists = accepted(random, form, size).lists();
     for _ in 0..random.pick(&[0, 1, 1, 1, 1, 2]) {
-        bend(random, &mut lists);
+        bend(random, form, &mut lists);
     }
     lists
 }
 
-fn bend(random: &mut Random, lists: &mut Lists) {
-    let list = random.below(WIDTHS.len());
-    let widths = WIDTHS[list];
+fn bend(random: &mut Random, form: Form, lists: &mut Lists) {
+    let all_widths = form.widths();
+    let list = random.below(all_widths.len());
+    let widths = &all_widths[list];
     let numbers = &mut *lists.all_mut()[list];
     match random.below(8) {
         0..=2 => widen(random, numbers, widths),

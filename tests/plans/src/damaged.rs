@@ -1,14 +1,15 @@
 //! Plans with a fault somewhere: of each part, each field and each bit.
 
 use crate::accepted::{accepted, Size};
+use crate::form::Form;
 use crate::parts::Parts;
 use crate::random::Random;
 
 /// The bytes of a plan that has most likely a fault.
-pub fn damaged(random: &mut Random, size: Size) -> Vec<u8> {
-    let mut parts = accepted(random, size);
+pub fn damaged(random: &mut Random, form: Form, size: Size) -> Vec<u8> {
+    let mut parts = accepted(random, form, size);
     match random.below(12) {
-        0 => return cut_or_lengthened(random, parts.pack()),
+        0 => return cut_or_lengthened(random, form, parts.pack()),
         10 => return flipped(random, parts.pack()),
         11 => return noise(random),
         kind => change(random, &mut parts, kind),
@@ -17,8 +18,8 @@ pub fn damaged(random: &mut Random, size: Size) -> Vec<u8> {
 }
 
 /// The parts of a plan that has most likely a fault.
-pub fn spoilt(random: &mut Random, size: Size) -> Parts {
-    let mut parts = accepted(random, size);
+pub fn spoilt(random: &mut Random, form: Form, size: Size) -> Parts {
+    let mut parts = accepted(random, form, size);
     let kind = random.between(1, 9);
     change(random, &mut parts, kind);
     parts
@@ -36,14 +37,15 @@ fn change(random: &mut Random, parts: &mut Parts, kind: usize) {
     }
 }
 
-fn cut_or_lengthened(random: &mut Random, mut bytes: Vec<u8>) -> Vec<u8> {
+fn cut_or_lengthened(random: &mut Random, form: Form, mut bytes: Vec<u8>) -> Vec<u8> {
+    let (header, longest) = (form.header_bytes(), form.longest_plan());
     match random.below(6) {
-        0 => bytes.truncate(random.below(9)),
+        0 => bytes.truncate(random.pick(&[0, header / 2, header - 2, header - 1, header])),
         1 => bytes.truncate(bytes.len() - 1),
         2 => bytes.truncate(random.below(bytes.len())),
         3 => bytes.push(0),
         4 => bytes.resize(bytes.len() + random.between(1, 99), 0),
-        _ => bytes.resize(random.pick(&[34_362, 34_363, 60_000, 100_000]), 0),
+        _ => bytes.resize(random.pick(&[longest, longest + 1, 60_000, 100_000]), 0),
     }
     bytes
 }
@@ -93,13 +95,14 @@ fn change_operation(random: &mut Random, parts: &mut Parts) {
     let at = random.below(parts.operations.len());
     let before = parts.operations[at.saturating_sub(1)].clone();
     let (ticks, readers, delta) = (parts.ticks, parts.readers, parts.delta);
+    let value_bits = parts.form.value_bits();
     let operation = &mut parts.operations[at];
     match random.below(8) {
         0 => operation.tick += 1,
         1 => operation.tick = operation.tick.saturating_sub(1),
         2 => operation.party = random.pick(&[readers + 1, 7, 5]),
         3 => operation.party = random.below(readers + 1),
-        4 => operation.value ^= 1 << random.below(16),
+        4 => operation.value ^= 1 << random.below(value_bits),
         5 => operation.tick = ticks.saturating_sub(random.pick(&[delta, 2 * delta])),
         6 => operation.tick = 127,
         _ => *operation = before,
@@ -116,6 +119,7 @@ fn change_forgery(random: &mut Random, parts: &mut Parts) {
     let at = random.below(parts.forgeries.len());
     let before = parts.forgeries[at.saturating_sub(1)].clone();
     let (ticks, servers, parties) = (parts.ticks, parts.servers, parts.parties());
+    let highest_value = parts.form.highest_value();
     let forgery = &mut parts.forgeries[at];
     match random.below(9) {
         0 => forgery.tick = random.pick(&[ticks, 127, forgery.tick + 1]),
@@ -125,7 +129,7 @@ fn change_forgery(random: &mut Random, parts: &mut Parts) {
         4 => forgery.receiver = servers,
         5 => forgery.receiver = random.pick(&[parties, 31]),
         6 => forgery.receiver = random.between(servers, parties - 1),
-        7 => forgery.value = forgery.value.wrapping_sub(1),
+        7 => forgery.value = forgery.value.wrapping_sub(1) & highest_value,
         _ => *forgery = before,
     }
 }

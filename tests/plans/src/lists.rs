@@ -1,15 +1,7 @@
 //! A plan as five lists of numbers, one number for each field in packed order. Nothing is checked.
 
+use crate::form::Form;
 use crate::parts::Parts;
-
-const HEADER: [usize; 10] = [5, 2, 4, 6, 3, 8, 16, 8, 11, 1];
-const PLACEMENT: [usize; 1] = [16];
-const OPERATION: [usize; 3] = [7, 3, 16];
-const FORGERY: [usize; 5] = [7, 4, 5, 16, 8];
-const DELAY: [usize; 1] = [4];
-
-/// The widths of a record's fields, by list.
-pub const WIDTHS: [&[usize]; 5] = [&HEADER, &PLACEMENT, &OPERATION, &FORGERY, &DELAY];
 
 #[derive(Clone, Debug, PartialEq, Eq)]
 pub struct Lists {
@@ -35,10 +27,10 @@ impl Lists {
         ]
     }
 
-    /// The packed plan; of a number that is too wide the low bits.
-    pub fn pack(&self) -> Vec<u8> {
+    /// The packed plan in a form; of a number that is too wide the low bits.
+    pub fn pack(&self, form: Form) -> Vec<u8> {
         let mut bits = Packer::default();
-        for (list, widths) in self.all().into_iter().zip(WIDTHS) {
+        for (list, widths) in self.all().into_iter().zip(form.widths()) {
             for (&number, &width) in list.iter().zip(widths.iter().cycle()) {
                 bits.put(number, width);
             }
@@ -51,14 +43,15 @@ impl Parts {
     pub fn lists(&self) -> Lists {
         let header = [self.servers, self.faulty, self.delta, self.period, self.readers, self.ticks];
         let counts = [self.operations.len(), self.forgeries.len(), self.zero];
-        let initial = [usize::from(self.initial)];
-        let operations = self.operations.iter().flat_map(|operation| {
-            [operation.tick as u32, operation.party as u32, u32::from(operation.value)]
-        });
+        let initial = [self.initial as usize];
+        let operations = self
+            .operations
+            .iter()
+            .flat_map(|operation| [operation.tick as u32, operation.party as u32, operation.value]);
         let forgeries = self.forgeries.iter().flat_map(|forgery| {
             let [tick, sender, receiver] =
                 [forgery.tick, forgery.sender, forgery.receiver].map(|number| number as u32);
-            [tick, sender, receiver, u32::from(forgery.value), u32::from(forgery.number)]
+            [tick, sender, receiver, forgery.value, u32::from(forgery.number)]
         });
         Lists {
             header: [&header[..], &initial, &counts].concat().iter().map(|&n| n as u32).collect(),
@@ -70,7 +63,7 @@ impl Parts {
     }
 
     pub fn pack(&self) -> Vec<u8> {
-        self.lists().pack()
+        self.lists().pack(self.form)
     }
 }
 

@@ -1,11 +1,13 @@
 //! A plan's parts. Nothing is checked, so that refused plans can be made too.
 
+use crate::form::Form;
+
 #[derive(Clone, Debug)]
 pub struct Operation {
     pub tick: usize,
     /// 0 the writer, else a reader.
     pub party: usize,
-    pub value: u16,
+    pub value: u32,
 }
 
 #[derive(Clone, Debug, PartialEq, Eq, PartialOrd, Ord)]
@@ -13,19 +15,20 @@ pub struct Forgery {
     pub tick: usize,
     pub sender: usize,
     pub receiver: usize,
-    pub value: u16,
+    pub value: u32,
     pub number: u8,
 }
 
 #[derive(Clone, Debug)]
 pub struct Parts {
+    pub form: Form,
     pub servers: usize,
     pub faulty: usize,
     pub delta: usize,
     pub period: usize,
     pub readers: usize,
     pub ticks: usize,
-    pub initial: u16,
+    pub initial: u32,
     pub zero: usize,
     /// For each movement the set of faulty servers; server i is bit i.
     pub placements: Vec<u16>,
