@@ -1,72 +1,77 @@
 //! Answers to judge: true ones with something changed.
 
+use plain::judge::{get, put};
+use plain::plan::Plan;
+use plain::Stamped;
 use plans::Random;
 
+use crate::asked::{for_plain, Asked};
+
 /// Answers with something changed: a whole field of one of them, a bit, or the length.
-pub fn changed(random: &mut Random, plan: &[u8], answers: &[u8]) -> Vec<u8> {
-    let mut changed = answers.to_vec();
+pub fn changed(random: &mut Random, asked: Asked, answers: &[u8]) -> Vec<u8> {
+    let size = asked.form.answer_bytes();
     if answers.is_empty() || random.once_in(12) {
-        match random.below(4) {
-            0 => changed.truncate(answers.len().saturating_sub(1)),
-            1 => changed.push(0),
-            2 => changed.truncate(random.below(answers.len() + 1)),
-            _ => changed.resize(answers.len() + 5, 0),
-        }
-        return changed;
+        return of_another_length(random, size, answers);
     }
+    let mut changed = answers.to_vec();
     for _ in 0..random.pick(&[1, 1, 2]) {
-        let at = 5 * random.below(answers.len() / 5);
-        let answer = &mut changed[at..at + 5];
-        match random.below(8) {
-            // One bit: begin, reader and zero bit among them.
-            0 => {
-                let bit = random.below(40);
-                answer[bit / 8] ^= 0x80 >> (bit % 8);
-            }
-            // The count, which is not looked at.
-            1 => answer[4] ^= 2 << random.below(5),
-            // The stamped value of another answer.
-            2 | 3 => {
-                let other = 5 * random.below(answers.len() / 5);
-                put_stamped(answer, stamped(&answers[other..other + 5]));
-            }
-            // One that was written, early or late.
-            4..=6 => {
-                let written = written(plan);
-                put_stamped(answer, random.pick(&written));
-            }
-            _ => put_stamped(answer, random.number() & 0xff_ffff),
-        }
+        let place = random.below(answers.len() / size);
+        let other = random.below(answers.len() / size);
+        let other = &answers[size * other..][..size];
+        change(random, asked, &mut changed[size * place..][..size], other);
     }
     changed
 }
 
-fn stamped(answer: &[u8]) -> u64 {
-    answer.iter().fold(0, |bits, &byte| bits << 8 | u64::from(byte)) >> 6 & 0xff_ffff
-}
-
-fn put_stamped(answer: &mut [u8], stamped: u64) {
-    let bits = answer.iter().fold(0, |bits, &byte| bits << 8 | u64::from(byte));
-    let bits = bits & !(0xff_ffff << 6) | stamped << 6;
-    answer.copy_from_slice(&bits.to_be_bytes()[3..]);
-}
-
-/// The initial value and what the plan's operations write, as value then number.
-fn written(plan: &[u8]) -> Vec<u64> {
-    let bits = |at: usize, width: usize| {
-        (at..at + width).fold(0, |sum, i| {
-            let byte = plan.get(i / 8).copied().unwrap_or(0);
-            sum << 1 | u64::from(byte >> (7 - i % 8) & 1)
-        })
+fn of_another_length(random: &mut Random, size: usize, answers: &[u8]) -> Vec<u8> {
+    let length = match random.below(4) {
+        0 => answers.len().saturating_sub(1),
+        1 => answers.len() + 1,
+        2 => random.below(answers.len() + 1),
+        _ => answers.len() + size,
     };
-    let mut written = vec![bits(28, 16) << 8];
-    let period = bits(11, 6).max(1);
-    let first = 64 + 16 * bits(20, 8).div_ceil(period) as usize;
-    for i in 0..bits(44, 8) as usize {
-        if bits(first + 26 * i + 7, 3) == 0 {
-            let number = written.len() as u64;
-            written.push(bits(first + 26 * i + 10, 16) << 8 | number & 255);
+    let mut changed = answers.to_vec();
+    changed.resize(length, 0);
+    changed
+}
+
+/// Changes something in one answer, perhaps to what another one says.
+fn change(random: &mut Random, asked: Asked, answer: &mut [u8], other: &[u8]) {
+    let form = for_plain(asked.form);
+    let last = answer.len() - 1;
+    match random.below(8) {
+        // One bit: begin, reader and zero bit among them.
+        0 => {
+            let bit = random.below(8 * answer.len());
+            answer[bit / 8] ^= 0x80 >> (bit % 8);
+        }
+        // The count, which is not looked at.
+        1 => answer[last] ^= 2 << random.below(5),
+        2 | 3 => {
+            let [_, _, value, number, ..] = get(form, other);
+            put_stamped(form, answer, Stamped::new(value as u32, number as u8));
+        }
+        // One that was written, early or late.
+        4..=6 => put_stamped(form, answer, random.pick(&written(asked))),
+        _ => {
+            let value = random.number() as u32 & asked.form.highest_value();
+            put_stamped(form, answer, Stamped::new(value, random.number() as u8));
         }
     }
-    written
+}
+
+fn put_stamped(form: &plain::Form, answer: &mut [u8], stamped: Stamped) {
+    let [begin, reader, _, _, count, zero] = get(form, answer);
+    let (value, number) = (stamped.value().into(), stamped.number().into());
+    put(form, [begin, reader, value, number, count, zero], answer);
+}
+
+/// The initial value and what the plan's operations write; of a refused plan something.
+fn written(asked: Asked) -> Vec<Stamped> {
+    let Ok(plan) = Plan::unpack(for_plain(asked.form), asked.plan) else {
+        return vec![Stamped::default()];
+    };
+    let initial = Stamped::new(plan.header.initial, 0);
+    let writes = plan.writes.iter().map(|write| write.stamped);
+    std::iter::once(initial).chain(writes).collect()
 }

@@ -2,6 +2,22 @@
 
 use plans::Random;
 
+/// By less than this a buffer is longer than what is asked for.
+pub const MORE: usize = 100;
+/// How far behind lent bytes a slip is looked for.
+const SLIP: usize = 64;
+
+/// The length of a buffer: most often exactly what is asked for.
+pub fn length(random: &mut Random, exact: usize) -> usize {
+    match random.below(8) {
+        0 => exact.saturating_sub(1),
+        1 => random.below(exact + 1),
+        2 => 0,
+        3 | 4 => exact + random.below(MORE),
+        _ => exact,
+    }
+}
+
 /// Bytes to lend, long enough for every call, and a copy of what they hold at first.
 pub struct Lent {
     before: Vec<u8>,
@@ -9,8 +25,10 @@ pub struct Lent {
 }
 
 impl Lent {
+    /// For lengths of at most so many and some more; behind them is room to see a slip.
     pub fn new(random: &mut Random, longest: usize) -> Self {
-        let before: Vec<u8> = (0..longest).map(|_| random.number() as u8 | 1).collect();
+        let all = longest + MORE + SLIP;
+        let before: Vec<u8> = (0..all).map(|_| random.number() as u8 | 1).collect();
         Lent { bytes: before.clone(), before }
     }
 
@@ -42,6 +60,6 @@ impl Lent {
 
     /// Bytes far past the lent ones aren't reached by a slip; the next ones are.
     fn near(&self, length: usize) -> usize {
-        self.before.len().min(length + 64)
+        self.before.len().min(length + SLIP)
     }
 }

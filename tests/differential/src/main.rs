@@ -1,11 +1,15 @@
 //! differential [PLANS [SEED]]: the library, through its wrapper, against the plain one.
 //!
-//! Results and every lent byte are compared on random plans, accepted and damaged, with lent bytes
-//! too short and too long, looks in and out of range, and answers true, changed and malformed; and
-//! on as many random lists of numbers to pack, right and bent.
+//! Results and every lent byte are compared on random plans of both forms, accepted and damaged, with
+//! lent bytes too short and too long, looks in and out of range, answers true, changed and malformed,
+//! and now and then under the other form's name; and on as many random lists of numbers to pack, right
+//! and bent. Plans are also carried to the other form. There the library must give the same answers,
+//! and back from there the same bytes.
 //! What shows a difference is kept under target/differ/ of this package.
 
 mod answers;
+mod asked;
+mod carrying;
 mod lent;
 mod packing;
 mod results;
@@ -15,27 +19,32 @@ mod trial;
 use std::process::ExitCode;
 use std::time::Instant;
 
-use plans::{accepted, damaged, some_lists, Lists, Random, Size};
+use plans::{accepted, damaged, some_lists, Form, Lists, Random, Size};
 
+use asked::Asked;
+use carrying::Carrying;
 use packing::Packing;
 use tally::Tally;
 use trial::Bench;
 
 const MOST_SHOWN: usize = 10;
 
-/// A plan, and whether it was made to be accepted.
-fn plan(random: &mut Random) -> (Vec<u8>, bool) {
+/// How often a plan or lists of one form are said to be of the other: once in so many.
+const MISTAKEN: usize = 8;
+
+/// A plan of a form, and whether it was made to be accepted.
+fn plan(random: &mut Random, form: Form) -> (Vec<u8>, bool) {
     match random.below(40) {
-        0 | 1 => (accepted(random, Size::Any).pack(), true),
-        2 => (damaged(random, Size::Any), false),
-        3..=15 => (damaged(random, Size::Small), false),
-        _ => (accepted(random, Size::Small).pack(), true),
+        0 | 1 => (accepted(random, form, Size::Any).pack(), true),
+        2 => (damaged(random, form, Size::Any), false),
+        3..=15 => (damaged(random, form, Size::Small), false),
+        _ => (accepted(random, form, Size::Small).pack(), true),
     }
 }
 
-fn lists(random: &mut Random) -> Lists {
+fn lists(random: &mut Random, form: Form) -> Lists {
     let size = if random.once_in(30) { Size::Any } else { Size::Small };
-    some_lists(random, size)
+    some_lists(random, form, size)
 }
 
 /// The name of the file in which the contents are kept.
@@ -49,6 +58,7 @@ fn keep(name: &str, contents: &[u8]) -> String {
 /// What is compared, and what came of it.
 struct Comparison {
     bench: Bench,
+    carrying: Carrying,
     packing: Packing,
     tally: Tally,
     bytes: usize,
@@ -60,6 +70,7 @@ impl Comparison {
         let mut random = Random::new(1);
         Comparison {
             bench: Bench::new(&mut random),
+            carrying: Carrying::new(&mut random),
             packing: Packing::new(&mut random),
             tally: Tally::default(),
             bytes: 0,
@@ -68,19 +79,34 @@ impl Comparison {
     }
 
     fn plan(&mut self, seed: u64) {
-        let mut random = Random::new(seed);
-        let (plan, made_well) = plan(&mut random);
+        let random = &mut Random::new(seed);
+        let form = random.pick(&Form::ALL);
+        let (plan, made_well) = plan(random, form);
         self.bytes += plan.len();
-        assert!(!made_well || plain::check(&plan).is_ok(), "seed {seed}: a plan was made wrongly");
-        if let Err(difference) = self.bench.compare(&mut random, &plan, &mut self.tally) {
-            self.differs(seed, &difference, &format!("{seed}.plan"), &plan);
+        let accepted = plain::check(form.number(), &plan).is_ok();
+        assert!(!made_well || accepted, "seed {seed}: a plan was made wrongly");
+        self.asked(random, seed, Asked { form, plan: &plan });
+        if random.once_in(MISTAKEN) {
+            self.asked(random, seed, Asked { form: form.other(), plan: &plan });
+        }
+    }
+
+    fn asked(&mut self, random: &mut Random, seed: u64, asked: Asked) {
+        let compared = self.bench.compare(random, asked, &mut self.tally);
+        let compared =
+            compared.and_then(|()| self.carrying.compare(random, asked, &mut self.tally));
+        if let Err(difference) = compared {
+            let difference = format!("{}, {difference}", asked.form);
+            self.differs(seed, &difference, &format!("{seed}.plan"), asked.plan);
         }
     }
 
     fn lists(&mut self, seed: u64) {
-        let mut random = Random::new(!seed);
-        let lists = lists(&mut random);
-        if let Err(difference) = self.packing.compare(&mut random, &lists, &mut self.tally) {
+        let random = &mut Random::new(!seed);
+        let form = random.pick(&Form::ALL);
+        let lists = lists(random, form);
+        let said = if random.once_in(MISTAKEN) { form.other() } else { form };
+        if let Err(difference) = self.packing.compare(random, said, &lists, &mut self.tally) {
             let text = packing::text(&lists);
             self.differs(seed, &difference, &format!("{seed}.lists"), text.as_bytes());
         }

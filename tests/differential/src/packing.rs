@@ -1,14 +1,12 @@
 //! Lists of numbers: Pack of both libraries, with buffers of all sorts.
 
-use plans::{Lists, Random};
+use plans::{Form, Lists, Random};
 
-use crate::lent::Lent;
+use crate::asked;
+use crate::lent::{self, Lent};
 use crate::results::written;
 use crate::tally::Tally;
 use crate::trial::{holds, same};
-
-/// The longest plan, and what a buffer may have more.
-const LONGEST_BUFFER: usize = register::LONGEST_PLAN + 100;
 
 /// A buffer that is lent again and again.
 pub struct Packing {
@@ -17,46 +15,38 @@ pub struct Packing {
 
 impl Packing {
     pub fn new(random: &mut Random) -> Self {
-        Packing { out: Lent::new(random, LONGEST_BUFFER + 100) }
+        Packing { out: Lent::new(random, Form::Two.longest_plan()) }
     }
 
     /// What differs, if anything does.
     pub fn compare(
         &mut self,
         random: &mut Random,
+        form: Form,
         lists: &Lists,
         tally: &mut Tally,
     ) -> Result<(), String> {
-        let length = buffer_length(random, lists);
+        // What the lists take, by their own lengths.
+        let exact = lists.pack(form).len().min(form.longest_plan());
+        let length = lent::length(random, exact);
         let mut plain_out = self.out.before(length).to_vec();
-        let wanted = plain::pack(&for_plain(lists), &mut plain_out);
-        let got = register::pack(&for_library(lists), self.out.lend(length));
-        tally.count("pack", &written(wanted));
-        let about = format!("pack into {length} bytes");
+        let wanted = plain::pack(form.number(), &for_plain(lists), &mut plain_out);
+        let library_form = asked::for_library(form);
+        let got = register::pack(library_form, &for_library(lists), self.out.lend(length));
+        tally.count("pack", form, &written(wanted));
+        let about = format!("pack in {form} into {length} bytes");
         same(&about, written(got), written(wanted))?;
         holds(self.out.now_begins(&plain_out), &format!("{about}: lent bytes differ"))?;
         match wanted {
-            Ok(bytes) => accepted(&plain_out[..bytes], &about),
+            Ok(bytes) => {
+                let accepted = register::check(library_form, &plain_out[..bytes]).is_ok();
+                holds(accepted, &format!("{about}: Check refuses the plan"))
+            }
             Err(_) => holds(
                 self.out.is_unchanged(length),
                 &format!("{about}: a refusal changed lent bytes"),
             ),
         }
-    }
-}
-
-fn accepted(plan: &[u8], about: &str) -> Result<(), String> {
-    holds(register::check(plan).is_ok(), &format!("{about}: Check refuses the plan"))
-}
-
-/// Most often exactly what the lists take, by their own lengths.
-fn buffer_length(random: &mut Random, lists: &Lists) -> usize {
-    let exact = lists.pack().len().min(register::LONGEST_PLAN);
-    match random.below(8) {
-        0 => exact.saturating_sub(1),
-        1 => random.below(exact + 1),
-        2 | 3 => exact + random.below(100),
-        _ => exact,
     }
 }
 

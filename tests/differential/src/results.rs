@@ -66,8 +66,8 @@ pub fn shown<C: Debug, R: Numbered>(result: Result<(C, usize), R>) -> String {
 pub fn packed(seen: Seen) -> Vec<u8> {
     let kept = seen.kept[..seen.count].iter();
     let bytes = kept.flat_map(|kept| {
-        let [high, low] = kept.value().to_be_bytes();
-        [high, low, kept.number()]
+        let [_, value @ ..] = kept.value().to_be_bytes();
+        [value[0], value[1], value[2], kept.number()]
     });
     bytes.collect()
 }

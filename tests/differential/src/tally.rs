@@ -2,15 +2,29 @@
 
 use std::collections::BTreeMap;
 
+use plans::Form;
+
+/// By operation and form, how often each kind of result came up.
 #[derive(Default)]
-pub struct Tally(BTreeMap<&'static str, BTreeMap<String, u64>>);
+pub struct Tally(BTreeMap<(&'static str, Form), BTreeMap<String, u64>>);
+
+/// The refusals that must come up.
+const IN_BOTH_FORMS: [(&str, &[u32]); 5] = [
+    ("check", &[1, 2, 3, 4, 5, 6, 7, 8]),
+    ("play", &[1, 2, 3, 4, 5, 6, 7, 8, 9, 10]),
+    ("look", &[1, 2, 3, 4, 5, 6, 7, 8, 10, 11]),
+    ("judge", &[1, 2, 3, 4, 5, 6, 7, 8, 12, 13]),
+    ("pack", &[2, 3, 4, 5, 6, 7, 8, 14]),
+];
+const IN_FORM_ONE: (&str, &[u32]) = ("carry", &[1, 2, 3, 4, 5, 6, 7, 8, 20]);
+const IN_FORM_TWO: (&str, &[u32]) = ("carry back", &[1, 2, 3, 4, 5, 6, 7, 8, 19, 20]);
 
 impl Tally {
     /// Counts a result; all numbers of reads are one kind, and all numbers of bytes.
-    pub fn count(&mut self, operation: &'static str, result: &str) {
+    pub fn count(&mut self, operation: &'static str, form: Form, result: &str) {
         let counted = ["reads", "bytes"].into_iter().find(|kind| result.starts_with(kind));
         let kind = counted.unwrap_or(result);
-        let kinds = self.0.entry(operation).or_default();
+        let kinds = self.0.entry((operation, form)).or_default();
         match kinds.get_mut(kind) {
             Some(count) => *count += 1,
             None => drop(kinds.insert(kind.to_string(), 1)),
@@ -18,32 +32,27 @@ impl Tally {
     }
 
     pub fn print(&self) {
-        for (operation, kinds) in &self.0 {
+        for ((operation, form), kinds) in &self.0 {
             let mut kinds: Vec<_> = kinds.iter().collect();
             kinds.sort_by_key(|(kind, _)| (kind.len(), kind.as_str()));
             let said: Vec<_> =
                 kinds.iter().map(|(kind, count)| format!("{kind}: {count}")).collect();
-            println!("  {operation:5} {}", said.join(", "));
+            println!("  {operation}, {form}: {}", said.join(", "));
         }
     }
 
     /// Refusals that never came up.
     pub fn missing(&self) -> Vec<String> {
-        let wanted: [(&str, &[u32]); 5] = [
-            ("check", &[1, 2, 3, 4, 5, 6, 7, 8]),
-            ("play", &[1, 2, 3, 4, 5, 6, 7, 8, 9, 10]),
-            ("look", &[1, 2, 3, 4, 5, 6, 7, 8, 10, 11]),
-            ("judge", &[1, 2, 3, 4, 5, 6, 7, 8, 12, 13]),
-            ("pack", &[2, 3, 4, 5, 6, 7, 8, 14]),
-        ];
-        let came_up = |operation, number: u32| {
-            let kinds = self.0.get(operation);
-            kinds.is_some_and(|kinds| kinds.contains_key(&format!("refused {number}")))
-        };
-        let all = wanted
-            .iter()
-            .flat_map(|&(operation, numbers)| numbers.iter().map(move |&n| (operation, n)));
-        let missing = all.filter(|&(operation, number)| !came_up(operation, number));
-        missing.map(|(operation, number)| format!("{operation} {number}")).collect()
+        let in_both = Form::ALL.map(|form| IN_BOTH_FORMS.map(|wanted| (form, wanted)));
+        let in_one = [(Form::One, IN_FORM_ONE), (Form::Two, IN_FORM_TWO)];
+        let wanted = in_both.into_iter().flatten().chain(in_one);
+        let each = wanted.flat_map(|(form, (operation, numbers))| {
+            numbers.iter().map(move |number| (operation, form, number))
+        });
+        let missing = each.filter(|&(operation, form, number)| {
+            let kinds = self.0.get(&(operation, form));
+            !kinds.is_some_and(|kinds| kinds.contains_key(&format!("refused {number}")))
+        });
+        missing.map(|(operation, form, number)| format!("{operation} {number} in {form}")).collect()
     }
 }

@@ -1,15 +1,15 @@
 //! One plan: every operation of both libraries, with lent bytes and arguments of all sorts.
 
-use plans::Random;
-use register::{PAIRS_BYTES, PAIR_BYTES};
+use plans::{Form, Random};
+use register::{MOST_READS, PAIRS_BYTES, PAIR_BYTES};
 
 use crate::answers::changed;
-use crate::lent::Lent;
+use crate::asked::{for_library, Asked};
+use crate::lent::{self, Lent, MORE};
 use crate::results::{judged, packed, plain_words, said, shown, words};
 use crate::tally::Tally;
 
 const WORKSPACE: usize = plain::WORKSPACE_BYTES;
-const LONGEST_ANSWERS: usize = 5 * 300;
 
 /// Bytes that are lent again and again.
 pub struct Bench {
@@ -22,12 +22,13 @@ pub struct Bench {
 
 impl Bench {
     pub fn new(random: &mut Random) -> Self {
+        let longest_answers = Form::Two.answer_bytes() * MOST_READS;
         Bench {
-            answers: Lent::new(random, LONGEST_ANSWERS + 100),
-            workspace: Lent::new(random, WORKSPACE + 200),
-            pairs: Lent::new(random, 100),
-            plain_answers: vec![0; LONGEST_ANSWERS],
-            plain_workspace: vec![0; WORKSPACE + 100],
+            answers: Lent::new(random, longest_answers),
+            workspace: Lent::new(random, WORKSPACE),
+            pairs: Lent::new(random, PAIRS_BYTES),
+            plain_answers: vec![0; longest_answers + MORE],
+            plain_workspace: vec![0; WORKSPACE + MORE],
         }
     }
 
@@ -35,21 +36,21 @@ impl Bench {
     pub fn compare(
         &mut self,
         random: &mut Random,
-        plan: &[u8],
+        asked: Asked,
         tally: &mut Tally,
     ) -> Result<(), String> {
-        let reads = self.check(plan, tally)?;
+        let reads = self.check(asked, tally)?;
         for _ in 0..2 {
-            self.play(random, plan, reads, tally)?;
+            self.play(random, asked, reads, tally)?;
         }
-        self.looks(random, plan, tally)?;
-        self.judge_many(random, plan, reads, tally)
+        self.looks(random, asked, tally)?;
+        self.judge_many(random, asked, reads, tally)
     }
 
-    fn check(&mut self, plan: &[u8], tally: &mut Tally) -> Result<usize, String> {
-        let wanted = plain::check(plan);
-        let got = register::check(plan);
-        tally.count("check", &said(wanted));
+    fn check(&mut self, Asked { form, plan }: Asked, tally: &mut Tally) -> Result<usize, String> {
+        let wanted = plain::check(form.number(), plan);
+        let got = register::check(for_library(form), plan);
+        tally.count("check", form, &said(wanted));
         same("check", said(got), said(wanted))?;
         Ok(wanted.unwrap_or(0))
     }
@@ -57,30 +58,24 @@ impl Bench {
     fn play(
         &mut self,
         random: &mut Random,
-        plan: &[u8],
+        Asked { form, plan }: Asked,
         reads: usize,
         tally: &mut Tally,
     ) -> Result<(), String> {
-        let exact = 5 * reads;
-        let answers_length = match random.below(8) {
-            0 => exact.saturating_sub(1),
-            1 => random.below(exact + 1),
-            2 => 0,
-            3 | 4 => exact + random.below(100),
-            _ => exact,
-        };
+        let exact = form.answer_bytes() * reads;
+        let answers_length = lent::length(random, exact);
         let workspace_length = workspace_length(random);
         let plain_answers = &mut self.plain_answers[..answers_length];
         plain_answers.copy_from_slice(self.answers.before(answers_length));
         let plain_workspace = &mut self.plain_workspace[..workspace_length];
         plain_workspace.copy_from_slice(self.workspace.before(workspace_length));
-        let wanted = plain::play(plan, plain_answers, plain_workspace);
+        let wanted = plain::play(form.number(), plan, plain_answers, plain_workspace);
         let got = {
             let answers = self.answers.lend(answers_length);
             let workspace = self.workspace.lend(workspace_length);
-            register::play(plan, answers, workspace)
+            register::play(for_library(form), plan, answers, workspace)
         };
-        tally.count("play", &said(wanted));
+        tally.count("play", form, &said(wanted));
         let about =
             format!("play, {answers_length} bytes for answers, workspace {workspace_length}");
         same(&about, said(got), said(wanted))?;
@@ -97,16 +92,21 @@ impl Bench {
     }
 
     /// Looks here and there, or now and then everywhere in a short plan.
-    fn looks(&mut self, random: &mut Random, plan: &[u8], tally: &mut Tally) -> Result<(), String> {
-        let (servers, ticks) = size_said(plan);
+    fn looks(
+        &mut self,
+        random: &mut Random,
+        asked: Asked,
+        tally: &mut Tally,
+    ) -> Result<(), String> {
+        let (servers, ticks) = size_said(asked.plan);
         if servers * ticks < 200 && random.once_in(30) {
             for place in 0..servers * ticks {
-                self.look(random, plan, place % servers, place / servers, tally)?;
+                self.look(random, asked, place % servers, place / servers, tally)?;
             }
         }
         for _ in 0..3 {
             let (server, tick) = (place(random, servers), place(random, ticks));
-            self.look(random, plan, server, tick, tally)?;
+            self.look(random, asked, server, tick, tally)?;
         }
         Ok(())
     }
@@ -114,21 +114,23 @@ impl Bench {
     fn look(
         &mut self,
         random: &mut Random,
-        plan: &[u8],
+        Asked { form, plan }: Asked,
         server: usize,
         tick: usize,
         tally: &mut Tally,
     ) -> Result<(), String> {
+        let library_form = for_library(form);
         let workspace_length = workspace_length(random);
         let plain_workspace = &mut self.plain_workspace[..workspace_length];
         plain_workspace.copy_from_slice(self.workspace.before(workspace_length));
-        let seen = plain::look(plan, plain_workspace, server, tick);
+        let seen = plain::look(form.number(), plan, plain_workspace, server, tick);
         let about =
             format!("look at server {server} after tick {tick}, workspace {workspace_length}");
         let wanted = shown(seen.map(|seen| (seen.condition, seen.count)));
-        tally.count("look", &wanted);
+        tally.count("look", form, &wanted);
 
-        let got = register::look(plan, self.workspace.lend(workspace_length), server, tick);
+        let workspace = self.workspace.lend(workspace_length);
+        let got = register::look(library_form, plan, workspace, server, tick);
         same(&about, words(got), plain_words(seen))?;
         self.workspace_stands(&about, workspace_length, seen.is_err())?;
 
@@ -137,7 +139,7 @@ impl Bench {
         let got = {
             let workspace = self.workspace.lend(workspace_length);
             let pairs = self.pairs.lend(pairs_length);
-            register::look_into(plan, workspace, server, tick, pairs)
+            register::look_into(library_form, plan, workspace, server, tick, pairs)
         };
         same(&about, shown(got), wanted)?;
         let mut pairs = seen.map_or(Vec::new(), packed);
@@ -156,32 +158,33 @@ impl Bench {
     fn judge_many(
         &mut self,
         random: &mut Random,
-        plan: &[u8],
+        asked: Asked,
         reads: usize,
         tally: &mut Tally,
     ) -> Result<(), String> {
-        let mut answers = vec![0; 5 * reads];
-        if plain::play(plan, &mut answers, &mut self.plain_workspace).is_err() {
-            let length = 5 * random.below(3);
+        let Asked { form, plan } = asked;
+        let mut answers = vec![0; form.answer_bytes() * reads];
+        let played = plain::play(form.number(), plan, &mut answers, &mut self.plain_workspace);
+        if played.is_err() {
+            let length = form.answer_bytes() * random.below(3);
             answers = (0..length).map(|_| random.number() as u8).collect();
         }
-        judge(plan, &answers, tally)?;
+        judge(asked, &answers, tally)?;
         for _ in 0..4 {
-            let changed = changed(random, plan, &answers);
-            judge(plan, &changed, tally)?;
+            judge(asked, &changed(random, asked, &answers), tally)?;
         }
         Ok(())
     }
 }
 
-fn judge(plan: &[u8], answers: &[u8], tally: &mut Tally) -> Result<(), String> {
-    let wanted = plain::judge(plan, answers);
-    let got = register::judge(plan, answers);
-    tally.count("judge", &judged(wanted));
+fn judge(Asked { form, plan }: Asked, answers: &[u8], tally: &mut Tally) -> Result<(), String> {
+    let wanted = plain::judge(form.number(), plan, answers);
+    let got = register::judge(for_library(form), plan, answers);
+    tally.count("judge", form, &judged(wanted));
     same(&format!("judge of {answers:?}"), judged(got), judged(wanted))
 }
 
-/// Servers and ticks by the header, where there is one.
+/// Servers and ticks by the header, where there is one. They stand before the first value.
 fn size_said(plan: &[u8]) -> (usize, usize) {
     match plan {
         [first, _, third, fourth, ..] => {
@@ -208,7 +211,7 @@ fn workspace_length(random: &mut Random) -> usize {
     match random.below(8) {
         0 => WORKSPACE - 1,
         1 => random.pick(&[0, 1, 59_000, 30_000]),
-        2 | 3 => WORKSPACE + random.below(100),
+        2 | 3 => WORKSPACE + random.below(MORE),
         _ => WORKSPACE,
     }
 }
