@@ -1,7 +1,10 @@
 //! The plans that are measured: busy ones, in which nobody rests.
 
 use plans::{Forgery, Operation, Parts, Random};
-use register::Lists;
+use register::{Form, Lists};
+
+/// The place of the number of ticks in a header.
+const TICKS: usize = 5;
 
 #[derive(Clone, Copy)]
 pub struct Shape {
@@ -17,7 +20,7 @@ pub struct Shape {
 const SIXTEEN: Shape =
     Shape { servers: 16, faulty: 3, bounds: (1, 1), readers: 4, ticks: 128, forgeries: 0 };
 const SLOW: Shape = Shape { bounds: (15, 15), ..SIXTEEN };
-/// No accepted plan is longer.
+/// No accepted plan of its form is longer.
 pub const LONGEST: Shape = Shape { forgeries: 1024, ..SIXTEEN };
 /// What growth is measured from.
 pub const MIDDLE: Shape = Shape { bounds: (4, 6), readers: 2, forgeries: 512, ..SIXTEEN };
@@ -40,33 +43,77 @@ pub const NAMED: [(&str, Shape); 9] = [
     ),
 ];
 
-/// A plan, packed and as lists.
+/// A plan, packed and as lists, and what the plain program makes of it.
 pub struct Case {
+    pub form: Form,
     pub plan: Vec<u8>,
     pub lists: Lists,
+    pub reads: usize,
+    pub answers: Vec<u8>,
+    pub last_tick: usize,
+    /// How many stamped values server 0 keeps after the last tick.
+    pub kept: usize,
+    /// The plan in the other form, where that has room for its values.
+    pub carried: Option<Vec<u8>>,
 }
 
 impl Case {
-    pub fn new(shape: Shape) -> Self {
-        let parts = parts(shape);
-        let plan = parts.pack();
-        assert!(plain::check(&plan).is_ok());
-        let plans::Lists { header, placements, operations, forgeries, delays } = parts.lists();
-        Case { plan, lists: Lists { header, placements, operations, forgeries, delays } }
+    /// A plan of a shape, with values that fill those of the form.
+    pub fn new(form: Form, shape: Shape) -> Self {
+        Case::of(form, parts(for_plans(form), shape).lists())
     }
+
+    /// A plan of a shape whose values form one has room for.
+    pub fn narrow(form: Form, shape: Shape) -> Self {
+        Case::of(form, parts(plans::Form::One, shape).lists())
+    }
+
+    fn of(form: Form, lists: plans::Lists) -> Self {
+        let number = form.number();
+        let plan = lists.pack(for_plans(form));
+        let reads = plain::check(number, &plan).unwrap();
+        let mut workspace = vec![0; plain::WORKSPACE_BYTES];
+        let mut answers = vec![0; form.answer_bytes() * reads];
+        plain::play(number, &plan, &mut answers, &mut workspace).unwrap();
+        let plans::Lists { header, placements, operations, forgeries, delays } = lists;
+        let last_tick = header[TICKS] as usize - 1;
+        let kept = plain::look(number, &plan, &mut workspace, 0, last_tick).unwrap().count;
+        let carried = carried(form, &plan);
+        let lists = Lists { header, placements, operations, forgeries, delays };
+        Case { form, plan, lists, reads, answers, last_tick, kept, carried }
+    }
+}
+
+fn for_plans(form: Form) -> plans::Form {
+    match form {
+        Form::One => plans::Form::One,
+        Form::Two => plans::Form::Two,
+    }
+}
+
+/// The plan of a form in the other.
+fn carried(form: Form, plan: &[u8]) -> Option<Vec<u8>> {
+    let mut out = vec![0; Form::Two.longest_plan()];
+    let length = match form {
+        Form::One => plain::carry(plan, &mut out),
+        Form::Two => plain::carry_back(plan, &mut out),
+    };
+    out.truncate(length.ok()?);
+    Some(out)
 }
 
 /// A plan's parts: each party begins as soon as it may, the agents move on in turn at every
 /// movement, delays are random, forgeries stand all over the ticks.
-fn parts(shape: Shape) -> Parts {
+fn parts(form: plans::Form, shape: Shape) -> Parts {
     let mut parts = Parts {
+        form,
         servers: shape.servers,
         faulty: shape.faulty,
         delta: shape.bounds.0,
         period: shape.bounds.1,
         readers: shape.readers,
         ticks: shape.ticks,
-        initial: 7,
+        initial: wide(form, 7),
         zero: 0,
         placements: Vec::new(),
         operations: Vec::new(),
@@ -84,12 +131,17 @@ fn parts(shape: Shape) -> Parts {
     parts
 }
 
+/// A value of form one at the upper end of the form's.
+fn wide(form: plans::Form, value: u32) -> u32 {
+    value << (form.value_bits() - plans::Form::One.value_bits())
+}
+
 fn operations(parts: &Parts) -> Vec<Operation> {
     let mut operations = Vec::new();
     for party in 0..=parts.readers {
         let begins = (0..parts.ticks).step_by(parts.duration(party) + 1);
         for tick in begins.filter(|tick| tick + parts.duration(party) < parts.ticks) {
-            let value = if party == 0 { (tick * 509 + 1) as u16 } else { 0 };
+            let value = if party == 0 { wide(parts.form, tick as u32 * 509 + 1) } else { 0 };
             operations.push(Operation { tick, party, value });
         }
     }
@@ -107,7 +159,7 @@ fn forgeries(parts: &Parts, count: usize) -> Vec<Forgery> {
             let reads = parts.operations.iter().filter(|operation| operation.party != 0);
             let open = reads.filter(|read| read.tick <= tick && tick < read.tick + 2 * parts.delta);
             for receiver in others.chain(open.map(|read| parts.servers + read.party)) {
-                let value = 60_000 + (tick / 4 % 8) as u16;
+                let value = wide(parts.form, 60_000 + tick as u32 / 4 % 8);
                 all.push(Forgery { tick, sender, receiver, value, number: 200 });
             }
         }

@@ -1,165 +1,126 @@
 //! timing [ROUNDS]: prints, as tables, the times of Check, Play, Look, Judge and Pack of the library,
-//! of the plain one and of the rival, in one run and on the same plans, how they grow, Pack beside
-//! Check, and the stack of Play and Pack.
+//! of the plain one and of the rival, in one run and on the same plans of form one, how they grow, and
+//! Pack beside Check; form two beside form one; carrying beside Check; and the stack of Play, Pack and
+//! carrying.
 
 mod cases;
 mod measure;
 mod operations;
 mod stack;
+mod tables;
+mod turns;
 
 use std::process::ExitCode;
 
+use register::Form;
+
 use cases::{Case, Shape, LONGEST, MIDDLE, NAMED};
-use measure::Times;
-use operations::Measured;
+use operations::{Operation, IN_A_FORM, IN_BOTH_FORMS, PROGRAMS};
+use turns::{Row, Turns};
 
 /// Samples that are taken at one go. All rows have their turn before the next ones, so that
 /// a busy minute of the machine touches all of them.
 const AT_ONCE: usize = 20;
 
-struct Row {
-    name: String,
-    case: Case,
-    /// By operation.
-    measured: [Measured; operations::ALL.len()],
-}
-
-impl Row {
-    fn new(name: String, shape: Shape) -> Self {
-        Row { name, case: Case::new(shape), measured: Default::default() }
-    }
-
-    /// The library's times of an operation.
-    fn library(&self, operation: &str) -> Times {
-        let place = operations::ALL.iter().position(|&name| name == operation);
-        let measured = &self.measured[place.expect("the operation is measured")];
-        measured.library.times().expect("samples were taken")
-    }
-
-    fn add(&mut self, rounds: usize) {
-        for (operation, measured) in operations::ALL.iter().zip(&mut self.measured) {
-            measured.add(operation, &self.case, rounds);
-        }
-    }
-}
-
 /// What growth is shown by: each part of a plan alone.
-fn growth() -> Vec<Row> {
-    let mut rows = Vec::new();
+fn growth() -> Vec<(String, Case)> {
+    let case = |shape| Case::new(Form::One, shape);
+    let mut cases = Vec::new();
     // Few ticks have no room for 512 forgeries.
-    rows.extend([16, 32, 64, 128].map(|ticks| {
-        Row::new(format!("{ticks} ticks, no forgeries"), Shape { ticks, forgeries: 0, ..MIDDLE })
+    cases.extend([16, 32, 64, 128].map(|ticks| {
+        (format!("{ticks} ticks, no forgeries"), case(Shape { ticks, forgeries: 0, ..MIDDLE }))
     }));
-    rows.extend([6, 8, 11, 16].map(|servers| {
-        Row::new(format!("{servers} servers, f=1"), Shape { servers, faulty: 1, ..MIDDLE })
+    cases.extend([6, 8, 11, 16].map(|servers| {
+        (format!("{servers} servers, f=1"), case(Shape { servers, faulty: 1, ..MIDDLE }))
     }));
-    rows.extend([0, 256, 512, 1024].map(|forgeries| {
-        Row::new(format!("{forgeries} forgeries"), Shape { forgeries, ..MIDDLE })
-    }));
-    rows
+    cases.extend(
+        [0, 256, 512, 1024].map(|forgeries| {
+            (format!("{forgeries} forgeries"), case(Shape { forgeries, ..MIDDLE }))
+        }),
+    );
+    cases
 }
 
-fn microseconds(times: Times) -> String {
-    let median = times.median / 1000.0;
-    if median < 10.0 {
-        format!("{median:.2}")
-    } else {
-        format!("{median:.1}")
+/// A shape in both forms.
+struct Shaped {
+    name: &'static str,
+    one: Case,
+    two: Case,
+    /// The plan of form one in form two.
+    carried: Case,
+}
+
+impl Shaped {
+    fn new((name, shape): (&'static str, Shape)) -> Self {
+        let (one, two) = (Case::new(Form::One, shape), Case::new(Form::Two, shape));
+        Shaped { name, one, two, carried: Case::narrow(Form::Two, shape) }
+    }
+
+    /// All operations in form two, with form one in turn.
+    fn in_both_forms(&self) -> Row<'_> {
+        let cases = [&self.two, &self.one];
+        let turns = IN_A_FORM.map(|operation| Turns::new(operation, &IN_BOTH_FORMS, &cases));
+        Row::new(self.name, turns.into())
+    }
+
+    /// Carrying, with Check in turn.
+    fn carrying(&self) -> Row<'_> {
+        let turns = [&self.one, &self.carried].map(|case| {
+            let check = Turns::new(Operation::Check, &IN_BOTH_FORMS, &[case]);
+            Turns::new(Operation::Carry, &IN_BOTH_FORMS, &[case]).and(check)
+        });
+        Row::new(self.name, turns.into())
     }
 }
 
-/// The cells of the three, a dash for a program without the operation.
-fn cells(measured: &Measured, cell: impl Fn(Times) -> String) -> [String; 3] {
-    [&measured.library, &measured.plain, &measured.rival]
-        .map(|samples| samples.times().map_or("-".to_string(), &cell))
+/// All operations of the three programs.
+fn in_form_one<'a>(name: &'a str, case: &'a Case) -> Row<'a> {
+    let turns = IN_A_FORM.map(|operation| Turns::new(operation, &PROGRAMS, &[case]));
+    Row::new(name, turns.into())
 }
 
-fn print_operations(rows: &[Row], rounds: usize) {
-    println!("Time of one call in microseconds: the median of {rounds} samples, the three in turn; 128 ticks where none are named.");
-    println!("Spread: the middle half of the samples, in hundredths of the median.\n");
-    println!("| plan | bytes | operation | library | plain | rival | library/plain | library/rival | spread |");
-    println!("|---|---:|---|---:|---:|---:|---:|---:|---:|");
-    for Row { name, case, measured } in rows {
-        for (operation, measured) in operations::ALL.iter().zip(measured) {
-            let library = measured.library.times().expect("samples were taken").median;
-            let [_, to_plain, to_rival] =
-                cells(measured, |other| format!("{:.2}", library / other.median));
-            println!(
-                "| {name} | {} | {operation} | {} | {to_plain} | {to_rival} | {} |",
-                case.plan.len(),
-                cells(measured, microseconds).join(" | "),
-                cells(measured, |times| format!("{:.0}", times.spread())).join(" / "),
-            );
-        }
+fn run(rounds: usize) {
+    let (named, growing) = (NAMED.map(Shaped::new), growth());
+    let mut operations: Vec<Row> =
+        named.iter().map(|shaped| in_form_one(shaped.name, &shaped.one)).collect();
+    let mut growth: Vec<Row> = growing.iter().map(|(name, case)| in_form_one(name, case)).collect();
+    let mut both_forms: Vec<Row> = named.iter().map(Shaped::in_both_forms).collect();
+    let mut carrying: Vec<Row> = named.iter().map(Shaped::carrying).collect();
+    for taken in (0..rounds).step_by(AT_ONCE) {
+        let rows = operations.iter_mut().chain(&mut growth);
+        let rows = rows.chain(&mut both_forms).chain(&mut carrying);
+        rows.for_each(|row| row.add(AT_ONCE.min(rounds - taken)));
     }
-}
-
-fn print_growth(rows: &[Row]) {
-    println!("\nGrowth, from 16 servers (f=3, δ=4, Δ=6), 2 readers, 128 ticks, 512 forgeries: library / plain / rival in microseconds.\n");
-    println!("| changed | {} |", operations::ALL.join(" | "));
-    println!("|---|{}", "---:|".repeat(operations::ALL.len()));
-    for Row { name, measured, .. } in rows {
-        let row = measured.each_ref().map(|measured| cells(measured, microseconds).join(" / "));
-        println!("| {name} | {} |", row.join(" | "));
-    }
-}
-
-fn print_pack(rows: &[Row]) {
-    println!("\nThe library's Pack beside its Check of the same plan, in microseconds. Pack makes the tests of Check too.\n");
-    println!("| plan | bytes | Pack | Check | Pack/Check |");
-    println!("|---|---:|---:|---:|---:|");
-    for row in rows {
-        let (pack, check) = (row.library("Pack"), row.library("Check"));
-        println!(
-            "| {} | {} | {} | {} | {:.2} |",
-            row.name,
-            row.case.plan.len(),
-            microseconds(pack),
-            microseconds(check),
-            pack.median / check.median,
-        );
-    }
-}
-
-fn print_stack() {
-    let what = ["Play library", "Play plain", "Play rival", "Pack library", "Pack plain"];
-    let taken =
-        stack::taken(what).map(|(what, bytes)| format!("{what} {:.0} KB", bytes as f64 / 1024.0));
-    println!("\nStack that the longest plan takes, to about 1 KB:");
-    println!("{} (plain and rival also allocate).", taken.join(", "));
+    tables::print_operations(&operations, rounds);
+    tables::print_growth(&growth);
+    tables::print_pack(&operations);
+    tables::print_form_two(&both_forms);
+    tables::print_carry(&carrying);
+    stack::print();
 }
 
 fn main() -> ExitCode {
     let words: Vec<String> = std::env::args().skip(1).collect();
     let words: Vec<&str> = words.iter().map(String::as_str).collect();
-    let longest = Case::new(LONGEST);
-    assert_eq!(longest.plan.len(), register::LONGEST_PLAN);
+    // How this program calls itself.
+    if let ["--stack", what, frames] = words[..] {
+        if let Ok(frames) = frames.parse() {
+            stack::attempt(what, frames);
+            return ExitCode::SUCCESS;
+        }
+    }
     let rounds = match words[..] {
         [] => Some(101),
         [rounds] => rounds.parse().ok(),
-        // How this program calls itself.
-        ["--stack", what, frames] => match frames.parse() {
-            Ok(frames) => {
-                stack::attempt(what, frames, longest);
-                return ExitCode::SUCCESS;
-            }
-            Err(_) => None,
-        },
         _ => None,
     };
     let Some(rounds @ 1..) = rounds else {
         eprintln!("usage: bench/run [ROUNDS], a number from 1 on");
         return ExitCode::from(2);
     };
-    let mut named: Vec<Row> = NAMED.map(|(name, shape)| Row::new(name.to_string(), shape)).into();
-    let mut growth = growth();
-    for taken in (0..rounds).step_by(AT_ONCE) {
-        let rows = named.iter_mut().chain(&mut growth);
-        rows.for_each(|row| row.add(AT_ONCE.min(rounds - taken)));
+    for form in Form::ALL {
+        assert_eq!(Case::new(form, LONGEST).plan.len(), form.longest_plan());
     }
-    print_operations(&named, rounds);
-    print_growth(&growth);
-    print_pack(&named);
-    print_stack();
+    run(rounds);
     ExitCode::SUCCESS
 }

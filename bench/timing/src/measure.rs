@@ -1,4 +1,4 @@
-//! Times of one operation: every program in turn, on the same bytes.
+//! Times of calls, which have their turns one after the other.
 
 use std::hint::black_box;
 use std::time::Instant;
@@ -35,10 +35,10 @@ impl Times {
     }
 }
 
-/// One program's call of the operation; what it gives as a number.
-pub type Call<'a> = &'a mut dyn FnMut() -> usize;
+/// One program's call of an operation; what it gives as a number.
+pub type Call<'a> = Box<dyn FnMut() -> usize + 'a>;
 
-fn sample(times: usize, call: Call) -> f64 {
+fn sample(times: usize, call: &mut Call) -> f64 {
     let began = Instant::now();
     for _ in 0..times {
         black_box(call());
@@ -46,20 +46,18 @@ fn sample(times: usize, call: Call) -> f64 {
     began.elapsed().as_nanos() as f64 / times as f64
 }
 
-fn times_for(call: Call) -> usize {
+fn times_for(call: &mut Call) -> usize {
     // The first call warms up.
     sample(1, call);
     (SAMPLE_NANOSECONDS / sample(3, call)).ceil().clamp(1.0, 100_000.0) as usize
 }
 
-/// Adds so many samples of each program; all must give the same.
-pub fn measure<const N: usize>(rounds: usize, mut calls: [Call; N], samples: [&mut Samples; N]) {
-    let given = calls.each_mut().map(|call| call());
-    assert!(given.iter().all(|&number| number == given[0]), "they differ: {given:?}");
-    let times = calls.each_mut().map(|call| times_for(call));
+/// Adds so many samples of each call, one of each in turn.
+pub fn measure(rounds: usize, calls: &mut [Call], mut samples: Vec<&mut Samples>) {
+    let times: Vec<usize> = calls.iter_mut().map(times_for).collect();
     for _ in 0..rounds {
-        for i in 0..N {
-            samples[i].0.push(sample(times[i], calls[i]));
+        for (i, call) in calls.iter_mut().enumerate() {
+            samples[i].0.push(sample(times[i], call));
         }
     }
 }

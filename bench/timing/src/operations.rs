@@ -1,96 +1,148 @@
-//! The operations of the three programs, with equal results and lent bytes of their own.
+//! The operations of the three programs as calls, each with lent bytes of its own.
+
+use register::Form;
 
 use crate::cases::Case;
-use crate::measure::{measure, Call, Samples};
+use crate::measure::Call;
 
-pub const ALL: [&str; 5] = ["Check", "Play", "Look", "Judge", "Pack"];
-
-/// The samples of the three; the rival has no Judge and no Pack.
-#[derive(Clone, Default)]
-pub struct Measured {
-    pub library: Samples,
-    pub plain: Samples,
-    pub rival: Samples,
+#[derive(Clone, Copy, Debug, PartialEq, Eq)]
+pub enum Operation {
+    Check,
+    Play,
+    /// At server 0 after the last tick.
+    Look,
+    /// Of true answers.
+    Judge,
+    /// Into a buffer just long enough.
+    Pack,
+    /// To the other form, into a buffer just long enough.
+    Carry,
 }
 
-/// Bytes lent to one program.
-struct Lent {
-    answers: Vec<u8>,
+/// The operations that name a form.
+pub const IN_A_FORM: [Operation; 5] =
+    [Operation::Check, Operation::Play, Operation::Look, Operation::Judge, Operation::Pack];
+
+#[derive(Clone, Copy, Debug, PartialEq, Eq)]
+pub enum Program {
+    Library,
+    Plain,
+    Rival,
+}
+
+pub const PROGRAMS: [Program; 3] = [Program::Library, Program::Plain, Program::Rival];
+
+/// The programs that have all operations in both forms.
+pub const IN_BOTH_FORMS: [Program; 2] = [Program::Library, Program::Plain];
+
+/// Bytes lent to one program: what the operation fills, and the workspace.
+pub struct Lent {
+    pub out: Vec<u8>,
     workspace: Vec<u8>,
 }
 
-fn lent<const N: usize>(plan: &[u8]) -> [Lent; N] {
-    let answers = plain::judge::ANSWER_BYTES * plain::check(plan).unwrap();
-    [(); N].map(|()| Lent { answers: vec![0; answers], workspace: vec![0; plain::WORKSPACE_BYTES] })
+/// An operation of a program on a plan.
+#[derive(Clone, Copy)]
+pub struct Work<'a> {
+    pub program: Program,
+    pub operation: Operation,
+    pub case: &'a Case,
 }
 
-/// The lists as the plain program takes them.
-pub fn for_plain(lists: &register::Lists) -> plain::Lists<'_> {
-    let register::Lists { header, placements, operations, forgeries, delays } = lists;
-    plain::Lists { header, placements, operations, forgeries, delays }
-}
+impl<'a> Work<'a> {
+    /// The rival has three operations, in form one.
+    pub fn exists(self) -> bool {
+        let of_rival = [Operation::Check, Operation::Play, Operation::Look];
+        self.program != Program::Rival
+            || self.case.form == Form::One && of_rival.contains(&self.operation)
+    }
 
-impl Measured {
-    /// Adds so many samples. Look is after the last tick; Judge gets true answers; Pack gets a buffer
-    /// just long enough.
-    pub fn add(&mut self, operation: &str, case: &Case, rounds: usize) {
-        match operation {
-            "Check" => self.check(&case.plan, rounds),
-            "Play" => self.play(&case.plan, rounds),
-            "Look" => self.look(&case.plan, rounds),
-            "Judge" => self.judge(&case.plan, rounds),
-            _ => self.pack(case, rounds),
+    /// What it must give as a number, and the bytes that it must write.
+    pub fn wanted(self) -> (usize, &'a [u8]) {
+        let case = self.case;
+        match self.operation {
+            Operation::Check => (case.reads, &[]),
+            Operation::Play => (case.reads, &case.answers),
+            Operation::Look => (case.kept, &[]),
+            Operation::Judge => (1, &[]),
+            Operation::Pack => (case.plan.len(), &case.plan),
+            Operation::Carry => {
+                let carried = case.carried.as_deref().expect("the other form has room");
+                (carried.len(), carried)
+            }
         }
     }
 
-    fn add_two(&mut self, rounds: usize, calls: [Call; 2]) {
-        measure(rounds, calls, [&mut self.library, &mut self.plain]);
+    pub fn lent(self) -> Lent {
+        let (_, written) = self.wanted();
+        Lent { out: vec![0; written.len()], workspace: vec![0; plain::WORKSPACE_BYTES] }
     }
 
-    fn add_three(&mut self, rounds: usize, calls: [Call; 3]) {
-        let samples = [&mut self.library, &mut self.plain, &mut self.rival];
-        measure(rounds, calls, samples);
+    pub fn call(self, lent: &'a mut Lent) -> Call<'a> {
+        match self.program {
+            Program::Library => library(self.operation, self.case, lent),
+            Program::Plain => plain(self.operation, self.case, lent),
+            Program::Rival => rival(self.operation, self.case, lent),
+        }
     }
+}
 
-    fn check(&mut self, plan: &[u8], rounds: usize) {
-        let mut library = || register::check(plan).unwrap();
-        let mut plain = || plain::check(plan).unwrap();
-        let mut rival = || rival::check(plan).unwrap();
-        self.add_three(rounds, [&mut library, &mut plain, &mut rival]);
+fn library<'a>(operation: Operation, case: &'a Case, lent: &'a mut Lent) -> Call<'a> {
+    let Case { form, plan, lists, answers, last_tick, .. } = case;
+    let (form, last_tick) = (*form, *last_tick);
+    let Lent { out, workspace } = lent;
+    match operation {
+        Operation::Check => Box::new(move || register::check(form, plan).unwrap()),
+        Operation::Play => Box::new(move || register::play(form, plan, out, workspace).unwrap()),
+        Operation::Look => Box::new(move || {
+            register::look(form, plan, workspace, 0, last_tick).unwrap().kept().len()
+        }),
+        Operation::Judge => {
+            Box::new(move || usize::from(register::judge(form, plan, answers).unwrap()))
+        }
+        Operation::Pack => Box::new(move || register::pack(form, lists, out).unwrap()),
+        Operation::Carry => match form {
+            Form::One => Box::new(move || register::carry(plan, out).unwrap()),
+            Form::Two => Box::new(move || register::carry_back(plan, out).unwrap()),
+        },
     }
+}
 
-    fn play(&mut self, plan: &[u8], rounds: usize) {
-        let mut lent = lent(plan);
-        let [a, b, c] = &mut lent;
-        let mut library = || register::play(plan, &mut a.answers, &mut a.workspace).unwrap();
-        let mut plain = || plain::play(plan, &mut b.answers, &mut b.workspace).unwrap();
-        let mut rival = || rival::play(plan, &mut c.answers, &mut c.workspace).unwrap();
-        self.add_three(rounds, [&mut library, &mut plain, &mut rival]);
-        assert!(lent.iter().all(|given| given.answers == lent[0].answers), "answers differ");
+fn plain<'a>(operation: Operation, case: &'a Case, lent: &'a mut Lent) -> Call<'a> {
+    let Case { form, plan, lists, answers, last_tick, .. } = case;
+    let (number, last_tick) = (form.number(), *last_tick);
+    let Lent { out, workspace } = lent;
+    match operation {
+        Operation::Check => Box::new(move || plain::check(number, plan).unwrap()),
+        Operation::Play => Box::new(move || plain::play(number, plan, out, workspace).unwrap()),
+        Operation::Look => {
+            Box::new(move || plain::look(number, plan, workspace, 0, last_tick).unwrap().count)
+        }
+        Operation::Judge => {
+            Box::new(move || usize::from(plain::judge(number, plan, answers).unwrap()))
+        }
+        Operation::Pack => {
+            let register::Lists { header, placements, operations, forgeries, delays } = lists;
+            let lists = plain::Lists { header, placements, operations, forgeries, delays };
+            Box::new(move || plain::pack(number, &lists, out).unwrap())
+        }
+        Operation::Carry => match form {
+            Form::One => Box::new(move || plain::carry(plan, out).unwrap()),
+            Form::Two => Box::new(move || plain::carry_back(plan, out).unwrap()),
+        },
     }
+}
 
-    fn look(&mut self, plan: &[u8], rounds: usize) {
-        let last = plain::plan::Header::of(plan).unwrap().ticks - 1;
-        let [mut a, mut b, mut c] = lent(plan);
-        let mut library = || register::look(plan, &mut a.workspace, 0, last).unwrap().kept().len();
-        let mut plain = || plain::look(plan, &mut b.workspace, 0, last).unwrap().count;
-        let mut rival = || rival::look(plan, &mut c.workspace, 0, last).unwrap().count;
-        self.add_three(rounds, [&mut library, &mut plain, &mut rival]);
-    }
-
-    fn judge(&mut self, plan: &[u8], rounds: usize) {
-        let [Lent { mut answers, mut workspace }] = lent(plan);
-        plain::play(plan, &mut answers, &mut workspace).unwrap();
-        let mut library = || usize::from(register::judge(plan, &answers).unwrap());
-        let mut plain = || usize::from(plain::judge(plan, &answers).unwrap());
-        self.add_two(rounds, [&mut library, &mut plain]);
-    }
-
-    fn pack(&mut self, Case { plan, lists }: &Case, rounds: usize) {
-        let (mut a, mut b) = (vec![0; plan.len()], vec![0; plan.len()]);
-        let mut library = || register::pack(lists, &mut a).unwrap();
-        let mut plain = || plain::pack(&for_plain(lists), &mut b).unwrap();
-        self.add_two(rounds, [&mut library, &mut plain]);
-        assert!(a == *plan && b == *plan, "packed plans differ");
+fn rival<'a>(operation: Operation, case: &'a Case, lent: &'a mut Lent) -> Call<'a> {
+    let Case { plan, last_tick, .. } = case;
+    let last_tick = *last_tick;
+    let Lent { out, workspace } = lent;
+    match operation {
+        Operation::Check => Box::new(move || rival::check(plan).unwrap()),
+        Operation::Play => Box::new(move || rival::play(plan, out, workspace).unwrap()),
+        Operation::Look => {
+            Box::new(move || rival::look(plan, workspace, 0, last_tick).unwrap().count)
+        }
+        _ => unreachable!("the rival has no {operation:?}"),
     }
 }

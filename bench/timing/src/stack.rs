@@ -4,46 +4,53 @@
 use std::hint::black_box;
 use std::process::{Command, Stdio};
 
-use plain::judge::ANSWER_BYTES;
-use plain::plan::MOST_OPERATIONS;
+use register::Form;
 
-use crate::cases::Case;
-use crate::operations::for_plain;
+use crate::cases::{Case, LONGEST};
+use crate::operations::{Operation, Work, PROGRAMS};
 
 /// The stack of the thread that tries.
 const STACK: usize = 4 << 20;
 /// What one frame of `beneath` fills, at least.
 const FRAME: usize = 1024;
 
+/// The operations whose stack is of interest.
+const TRIED: [Operation; 3] = [Operation::Play, Operation::Pack, Operation::Carry];
+
 /// Calls beneath so many frames.
-fn beneath(frames: usize, call: &mut dyn FnMut()) {
+fn beneath(frames: usize, call: &mut dyn FnMut() -> usize) {
     let mut room = [0u8; FRAME];
     black_box(&mut room);
     if frames == 0 {
-        call();
+        black_box(call());
     } else {
         beneath(frames - 1, call);
     }
     black_box(&mut room);
 }
 
-/// Runs an operation of one of the programs, or nothing, beneath so many frames. The lent bytes are
-/// elsewhere.
-pub fn attempt(what: &str, frames: usize, Case { plan, lists }: Case) {
-    let what = what.to_string();
-    let mut answers = vec![0; ANSWER_BYTES * MOST_OPERATIONS];
-    let mut workspace = vec![0; plain::WORKSPACE_BYTES];
-    let mut out = vec![0; plan.len()];
-    let mut call = move || match what.as_str() {
-        "Play library" => drop(black_box(register::play(&plan, &mut answers, &mut workspace))),
-        "Play plain" => drop(black_box(plain::play(&plan, &mut answers, &mut workspace))),
-        "Play rival" => drop(black_box(rival::play(&plan, &mut answers, &mut workspace))),
-        "Pack library" => drop(black_box(register::pack(&lists, &mut out))),
-        "Pack plain" => drop(black_box(plain::pack(&for_plain(&lists), &mut out))),
-        _ => (),
+fn name(work: Work) -> String {
+    format!("{:?} {:?} {:?}", work.operation, work.program, work.case.form)
+}
+
+/// All that can be tried on a plan.
+fn works(case: &Case) -> impl Iterator<Item = Work<'_>> {
+    let of = move |operation| PROGRAMS.map(|program| Work { program, operation, case });
+    TRIED.into_iter().flat_map(of).filter(|work| work.exists())
+}
+
+/// Runs what is named, or nothing, beneath so many frames. The lent bytes are elsewhere.
+pub fn attempt(what: &str, frames: usize) {
+    let cases = Form::ALL.map(|form| Case::narrow(form, LONGEST));
+    let work = cases.iter().flat_map(works).find(|&work| name(work) == what);
+    let run = || match work {
+        Some(work) => beneath(frames, &mut work.call(&mut work.lent())),
+        None => beneath(frames, &mut || 0),
     };
-    let thread = std::thread::Builder::new().stack_size(STACK);
-    thread.spawn(move || beneath(frames, &mut call)).unwrap().join().unwrap();
+    std::thread::scope(|scope| {
+        let thread = std::thread::Builder::new().stack_size(STACK);
+        thread.spawn_scoped(scope, run).unwrap().join().unwrap();
+    });
 }
 
 fn ends(what: &str, frames: usize) -> bool {
@@ -67,9 +74,27 @@ fn most_frames(what: &str) -> usize {
     low
 }
 
-/// About how many bytes of stack the longest plan takes, for each of these operations of a program.
-pub fn taken<const N: usize>(what: [&'static str; N]) -> [(&'static str, usize); N] {
+/// How much stack an operation takes, by how many frames fit beside nothing.
+fn kilobytes(work: Work, beside_nothing: usize) -> String {
+    if !work.exists() {
+        return "-".to_string();
+    }
+    let frames = beside_nothing - most_frames(&name(work));
+    format!("{:.0}", frames as f64 * (STACK / beside_nothing) as f64 / 1024.0)
+}
+
+/// Prints how much stack the longest plan takes.
+pub fn print() {
+    println!("\nStack that the longest plan takes, in KB, to about one; plain and rival also allocate.\n");
+    println!("| operation | plan in form | library | plain | rival |");
+    println!("|---|---|---:|---:|---:|");
     let beside_nothing = most_frames("nothing");
-    let frame = STACK / beside_nothing;
-    what.map(|what| (what, (beside_nothing - most_frames(what)) * frame))
+    for (form, said) in [(Form::One, "one"), (Form::Two, "two")] {
+        let case = &Case::narrow(form, LONGEST);
+        for operation in TRIED {
+            let cells = PROGRAMS
+                .map(|program| kilobytes(Work { program, operation, case }, beside_nothing));
+            println!("| {operation:?} | {said} | {} |", cells.join(" | "));
+        }
+    }
 }
