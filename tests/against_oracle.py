@@ -2,169 +2,143 @@
 """against_oracle.py FOLDER [--plans N] [--seed S]
 
 Compares the proved library, through its Rust wrapper (tests/requests), and the program `simulate` with
-the rehearsal program of other authorship in FOLDER: on its vectors and on N plans that it generates
-(2,000 if not said), six for each seed from S on (0 if not said): small or not, damaged or not, and two
-whose reads begin around the ends of writes.
+the rehearsal program of other authorship in FOLDER, in both forms: on its vectors and on N plans of each
+form that it generates (2,000 if not said), six for each seed from S on (0 if not said).  In form one they
+are small or not, damaged or not, and two have reads that begin around the ends of writes.  In form two
+three have values of up to 24 bits and such reads, two are damaged, and one has the fields of a plan of
+form one, as the vectors have there.
 
-For each plan: Check and the header's numbers; the text that the program prints, also as the wrapper
-decodes the answers; Play with lent bytes of several lengths; Looks in and out of range, with pair
+For each plan: Check and the header's numbers; the text that the program prints (of form one), also as the
+wrapper decodes the answers; Play with lent bytes of several lengths; Looks in and out of range, with pair
 buffers of every length, and of a small plan every Look; Judge of right, altered and malformed answers;
 Pack of the plan's lists, right and bent, into buffers of several lengths, where the lists of an accepted
-plan have to give its bytes and these the lists again.  Results and every lent byte are compared.
+plan have to give its bytes and these the lists again; the plan carried to the other form, into buffers of
+several lengths, and with a value that form one has no room for.  A carried plan has to be accepted with
+the same numbers and get the same answers, and carried back it has to be the same bytes.  Every plan is
+also handed in under the other form, as it is and with the length that its header implies there, and its
+lists are packed there.  Results and every lent byte are compared.
 
 Builds what it needs with `rt` and `cargo`; LIB_DIR names a folder with another libcapi.a to compare.
-Prints what differs, then one line with the counts; the exit status is 1 if anything differs."""
+Prints what differs, then a line with the counts for each form; the exit status is 1 if anything differs.
+The forms run side by side."""
 
 import argparse
-import collections
+import concurrent.futures
+import itertools
 import os
 import random
-import struct
 import subprocess
 import sys
 
 sys.dont_write_bytecode = True
 
+from asked import PAIR, REQUESTS, TOP, WORKSPACE, WORKSPACES, Asked
 from oracle import Oracle
 
-TOP = os.path.dirname(os.path.dirname(os.path.abspath(__file__)))
-REQUESTS = os.path.join(TOP, "tests", "requests")
-SIMULATE = os.path.join(TOP, "target", "bin", "simulate")
-
-ANSWER = 5
-WORKSPACE = 60_000
-WORKSPACES = (0, WORKSPACE - 1, WORKSPACE, WORKSPACE + 9)
-PAIR_BUFFERS = range(12)
+FORM_ONE, FORM_TWO = FORMS = 1, 2
+# Plans that are generated from a seed, in each form.
+KINDS = 6
+ANSWER_SIZES = 5, 6
+PAIR_BUFFERS = range(3 * PAIR + 3)
 FAR = (2 ** 32, 2 ** 64 - 1)
+# The highest value that a plan can be carried back with.
+NARROW = 2 ** 16 - 1
 # Servers times ticks of a plan that is looked at everywhere, at most: all that are generated small.
 LOOKED_AT = 16 * 24
-# Bytes of the requests that are answered by one run of the library, about.
-TOGETHER = 50_000_000
-MOST_SHOWN = 20
-COMPARED = "Check", "Play", "Look", "Judge", "text printed", "text decoded", "Pack"
+COMPARED = "Check", "Play", "Look", "Judge", "text printed", "text decoded", "Pack", "Carry", "there and back"
 
 
-def lent(length):
-    return bytearray(i % 251 + 1 for i in range(length))
-
-
-LENT = {length: bytes(lent(length)) for length in WORKSPACES}
-CLEARED = {length: bytes(WORKSPACE) + LENT[length][WORKSPACE:] for length in WORKSPACES if length >= WORKSPACE}
-
-
-def state(workspace):
-    """A workspace after a call, in the words of tests/requests."""
-    now, length = bytes(workspace), len(workspace)
-    return "kept" if now == LENT[length] else "cleared" if now == CLEARED.get(length) else "spoilt"
-
-
-def hexed(data):
-    return "x" + bytes(data).hex()
-
-
-def string(data):
-    return numbers(len(data)) + data
-
-
-def numbers(*values):
-    return struct.pack(f">{len(values)}Q", *values)
-
-
-def listed(values):
-    return string(struct.pack(f">{len(values)}I", *values))
-
-
-class Comparison:
-    """Requests with the answers that the other program gives, and what came of them."""
+class Comparison(Asked):
+    """What is asked about each plan."""
 
     def __init__(self, oracle, seed):
-        self.oracle, self.rng = oracle, random.Random(seed)
-        self.waiting, self.waiting_bytes = [], 0
-        self.counts, self.refusals = collections.Counter(), collections.Counter()
-        self.different = 0
+        super().__init__(oracle)
+        self.rng = random.Random(seed)
 
-    # What is asked.
+    def all_about(self, name, plan):
+        accepted = self.about(name, plan)
+        self.counts["accepted" if accepted else "refused"] += 1
+        self.text(name, plan)
+        self.about_lists(name, plan, accepted)
 
-    def ask(self, name, what, record, wanted, count=1):
-        self.counts[what] += count
-        if wanted.startswith("refused"):
-            self.refusals[what, int(wanted.split()[1])] += 1
-        self.waiting.append((f"{name}, {what}", record, wanted))
-        self.waiting_bytes += len(record)
+    def of_the_other_form(self, name, plan, lists):
+        """A plan of the other form with its lists, handed in under this one."""
+        self.counts["of the other form"] += 1
+        fitted = self.oracle.fitted(plan)
+        for handed_in in [plan] if fitted in (None, plan) else [plan, fitted]:
+            self.counts["of the other form accepted"] += self.about(name, handed_in)
+        if lists is not None:
+            self.pack(name, lists, len(plan) * self.rng.choice([1, 2]))
 
-    def check(self, name, plan):
-        said = self.oracle.said(self.oracle.check(plan),
-                                lambda reads: " ".join(map(str, ["reads", reads, *self.oracle.header_numbers(plan)])))
-        self.ask(name, "Check", b"c" + string(plan), said)
+    def about(self, name, plan):
+        """Whether the plan is accepted."""
+        self.check(name, plan)
+        reads = self.oracle.check(plan)
+        refused = self.oracle.is_refused(reads)
+        if refused:
+            self.about_refused(name, plan)
+        else:
+            self.about_accepted(name, plan, reads)
+        self.about_carrying(name, plan)
+        return not refused
 
-    def text(self, name, plan):
-        wanted = self.oracle.text(plan)
-        self.ask(name, "text decoded", b"p" + string(plan), wanted.rstrip("\n").replace("\n", "|"))
-        self.counts["text printed"] += 1
-        printed = subprocess.run([SIMULATE], input=plan, capture_output=True).stdout
-        self.compare(f"{name}, text printed", printed.decode(), wanted)
+    def about_refused(self, name, plan):
+        rng = self.rng
+        self.play(name, plan, rng.choice([0, 1, 300]), rng.choice(WORKSPACES))
+        self.look(name, plan, rng.choice(WORKSPACES), rng.randrange(20), rng.randrange(140), [rng.choice(PAIR_BUFFERS)])
+        self.judge(name, plan, bytes(rng.randrange(256) for _ in range(rng.randrange(12))))
 
-    def play(self, name, plan, buffer, workspace):
-        answers, lent_workspace = lent(buffer), bytearray(LENT[workspace])
-        said = self.oracle.said(self.oracle.play(plan, answers, lent_workspace), lambda reads: f"reads {reads}")
-        self.ask(name, "Play", b"b" + string(plan) + numbers(buffer, workspace),
-                 f"{said} {hexed(answers)} {state(lent_workspace)}")
-        return bytes(answers)
-
-    def look(self, name, plan, workspace, server, tick, pair_buffers):
-        """As many whole pairs as fit stand at the start of a pair buffer; all else of it is as before."""
-        lent_workspace = bytearray(LENT[workspace])
-        result = self.oracle.look(plan, lent_workspace, server, tick)
-        kept = [] if self.oracle.is_refused(result) else result[1]
-        packed = b"".join(struct.pack(">HB", *pair) for pair in kept)
-        said = self.oracle.said(result, lambda seen: f"seen {seen[0]} {len(kept)}")
-        for length in pair_buffers:
-            fit = packed[:length // 3 * 3]
-            pairs = fit + lent(length)[len(fit):]
-            self.ask(name, "Look", b"l" + string(plan) + numbers(workspace, server, tick, length),
-                     f"{said} {hexed(pairs)} {state(lent_workspace)}")
-
-    def every_look(self, name, plan, header):
-        self.counts["looked at everywhere"] += 1
-        text = ""
-        for tick, server, condition, kept in self.oracle.every_look(plan):
-            shown = [tick, server, condition, *(x for pair in kept for x in pair)]
-            text += " ".join(map(str, shown)) + "|"
-        self.ask(name, "Look", b"t" + string(plan), text, count=header.H * header.n)
-
-    def judge(self, name, plan, answers):
-        said = self.oracle.said(self.oracle.judge(plan, answers), lambda good: "yes" if good else "no")
-        self.counts[f"Judge {said}"] += said in ("yes", "no")
-        self.ask(name, "Judge", b"j" + string(plan) + string(answers), said)
+    def about_accepted(self, name, plan, reads):
+        rng, header = self.rng, self.oracle.header(plan)
+        exact, in_a_form = self.oracle.answer_bytes * reads, rng.choice(ANSWER_SIZES) * reads
+        answers = self.play(name, plan, exact, WORKSPACE)
+        self.play(name, plan, rng.choice([exact, exact + 7, max(0, exact - 1), 0, in_a_form]), rng.choice(WORKSPACES))
+        self.look(name, plan, WORKSPACE, rng.randrange(header.n), rng.randrange(header.H), PAIR_BUFFERS)
+        out_of_range = rng.choice([(header.n, 0), (0, header.H), (header.n - 1, rng.choice(FAR)), (rng.choice(FAR), header.H - 1)])
+        self.look(name, plan, rng.choice(WORKSPACES), *out_of_range, [rng.choice(PAIR_BUFFERS)])
+        if header.n * header.H <= LOOKED_AT:
+            self.every_look(name, plan)
+        self.judge(name, plan, answers)
+        malformed = [answers[:-1], answers + b"\0", answers + bytes(self.oracle.answer_bytes), b"", bytes(in_a_form)]
+        self.judge(name, plan, rng.choice(malformed))
+        for _ in range(6 if reads else 0):
+            self.judge(name, plan, self.altered(plan, answers))
 
     def altered(self, plan, answers):
         """Answers with one field of one of them altered, most often to something near."""
-        rng, count = self.rng, len(answers) // ANSWER
-        at = ANSWER * rng.choice([0, count - 1, rng.randrange(count)])
-        begin, reader, value, number, named, zero = self.oracle.unpack_answer(answers[at:at + ANSWER])
+        rng, size, highest = self.rng, self.oracle.answer_bytes, self.oracle.highest_value
+        count = len(answers) // size
+        at = size * rng.choice([0, count - 1, rng.randrange(count)])
+        begin, reader, value, number, named, zero = self.oracle.unpack_answer(answers[at:at + size])
         what = rng.randrange(8)
         if what < 4:
             pairs = self.oracle.pairs(plan)
             near = pairs[max(0, number - 1):number + 2]
             number, value = rng.choice(pairs if what < 2 else near)
         elif what == 4:
-            value = rng.choice([value ^ 1, rng.randrange(65536)])
+            value = rng.choice([value ^ 1, value ^ 1 << rng.randrange(highest.bit_length()), rng.randint(0, highest), highest])
         elif what == 5:
             number = rng.choice([number ^ 1, rng.randrange(256)])
         elif what == 6:
             named = rng.randrange(32)
         else:
             begin, reader, zero = rng.choice([(rng.randrange(128), reader, zero), (begin, rng.randrange(8), zero), (begin, reader, 1)])
-        return answers[:at] + self.oracle.pack_answer(begin, reader, value, number, named, zero) + answers[at + ANSWER:]
+        return answers[:at] + self.oracle.pack_answer(begin, reader, value, number, named, zero) + answers[at + size:]
 
-    def pack(self, name, lists, length):
-        """The other program's result, for a buffer of that length."""
-        buffer = lent(length)
-        result = self.oracle.pack(lists, buffer)
-        said = self.oracle.said(result, lambda plan: f"bytes {len(plan)}")
-        self.counts["Pack done"] += said.startswith("bytes")
-        self.ask(name, "Pack", b"k" + b"".join(map(listed, lists)) + numbers(length), f"{said} {hexed(buffer)}")
-        return result
+    def about_lists(self, name, plan, accepted):
+        lists = self.oracle.lists(plan)
+        if lists is None:
+            return
+        packed = self.pack(name, lists, len(plan))
+        if accepted:
+            self.counts["packed again"] += 1
+            self.compare(f"{name}, packed from its lists", packed, plan)
+            self.compare(f"{name}, the lists of what is packed", self.oracle.lists(packed), lists)
+            self.pack(name, lists, len(plan) + self.rng.randrange(1, 100))
+            self.pack(name, lists, len(plan) - 1)
+        for bent in [self.bent(lists), self.bent(lists), self.oracle.bent_lists(self.rng, plan)]:
+            self.counts["bent"] += bent != lists
+            self.pack(name, bent, len(plan) + self.rng.choice([0, 0, 0, -1, 9]))
 
     def bent(self, lists):
         """Lists with one thing changed: a number too wide or near, two records' order, or a length."""
@@ -187,102 +161,98 @@ class Comparison:
             bent[which] = rng.choice([values + [0] * more, values[:-more], []])
         return bent
 
-    def about_lists(self, name, plan, accepted):
-        lists = self.oracle.lists(plan)
-        if lists is None:
+    def about_carrying(self, name, plan):
+        rng, carried = self.rng, self.oracle.carry(plan, None)
+        if self.oracle.is_refused(carried):
+            for length in (0, rng.randrange(2 * len(plan) + 1)):
+                self.carry(name, plan, length)
             return
-        packed = self.pack(name, lists, len(plan))
-        if accepted:
-            self.counts["packed again"] += 1
-            self.compare(f"{name}, packed from its lists", packed, plan)
-            self.compare(f"{name}, the lists of what is packed", self.oracle.lists(packed), lists)
-            self.pack(name, lists, len(plan) + self.rng.randrange(1, 100))
-            self.pack(name, lists, len(plan) - 1)
-        for bent in [self.bent(lists), self.bent(lists), self.oracle.bent_lists(self.rng, plan)]:
-            self.counts["bent"] += bent != lists
-            self.pack(name, bent, len(plan) + self.rng.choice([0, 0, 0, -1, 9]))
+        exact = len(carried)
+        for length in (exact, exact + rng.randrange(1, 100), rng.choice([exact - 1, rng.randrange(exact)]), 0):
+            self.carry(name, plan, length)
+        self.there_and_back(name, plan)
+        if self.oracle.highest_value > NARROW:
+            self.carry_too_wide(name, plan, exact)
 
-    def all_about(self, name, plan):
-        self.check(name, plan)
-        self.text(name, plan)
-        reads = self.oracle.check(plan)
-        accepted = not self.oracle.is_refused(reads)
-        self.counts["accepted" if accepted else "refused"] += 1
-        if accepted:
-            self.about_accepted(name, plan, reads)
-        else:
-            self.about_refused(name, plan)
-        self.about_lists(name, plan, accepted)
-        if self.waiting_bytes >= TOGETHER:
-            self.settle()
-
-    def about_refused(self, name, plan):
-        rng = self.rng
-        self.play(name, plan, rng.choice([0, 1, 300]), rng.choice(WORKSPACES))
-        self.look(name, plan, rng.choice(WORKSPACES), rng.randrange(20), rng.randrange(140), [rng.choice(PAIR_BUFFERS)])
-        self.judge(name, plan, bytes(rng.randrange(256) for _ in range(rng.randrange(12))))
-
-    def about_accepted(self, name, plan, reads):
-        rng, exact, header = self.rng, ANSWER * reads, self.oracle.header(plan)
-        answers = self.play(name, plan, exact, WORKSPACE)
-        self.play(name, plan, rng.choice([exact, exact + 7, max(0, exact - 1), 0]), rng.choice(WORKSPACES))
-        self.look(name, plan, WORKSPACE, rng.randrange(header.n), rng.randrange(header.H), PAIR_BUFFERS)
-        out_of_range = rng.choice([(header.n, 0), (0, header.H), (header.n - 1, rng.choice(FAR)), (rng.choice(FAR), header.H - 1)])
-        self.look(name, plan, rng.choice(WORKSPACES), *out_of_range, [rng.choice(PAIR_BUFFERS)])
-        if header.n * header.H <= LOOKED_AT:
-            self.every_look(name, plan, header)
-        self.judge(name, plan, answers)
-        self.judge(name, plan, rng.choice([answers[:-1], answers + b"\0", answers + bytes(ANSWER), b""]))
-        for _ in range(6 if reads else 0):
-            self.judge(name, plan, self.altered(plan, answers))
-
-    # What is answered.
-
-    def settle(self):
-        asked = b"".join(record for _, record, _ in self.waiting)
-        program = os.path.join(REQUESTS, "target", "release", "requests")
-        got = subprocess.run([program], input=asked, stdout=subprocess.PIPE, check=True).stdout
-        lines = got.decode().splitlines()
-        assert len(lines) == len(self.waiting), (len(lines), len(self.waiting))
-        for (about, _, wanted), line in zip(self.waiting, lines):
-            self.compare(about, line, wanted)
-        self.waiting, self.waiting_bytes = [], 0
-
-    def compare(self, about, got, wanted):
-        if got != wanted:
-            self.different += 1
-            if self.different <= MOST_SHOWN:
-                print(f"{about}: got {got[:300]!r}, wanted {wanted[:300]!r}")
-
-    def refused(self, operations):
-        """How often each refusal came from these operations."""
-        times = collections.Counter()
-        for (what, number), count in self.refusals.items():
-            times[number] += count if what in operations else 0
-        return ", ".join(f"{number}: {count}" for number, count in sorted(times.items()) if count)
+    def carry_too_wide(self, name, plan, exact):
+        """A plan that can be carried back, with one value that can't."""
+        rng, highest = self.rng, self.oracle.highest_value
+        value = rng.choice([NARROW + 1, NARROW + 1, rng.randint(NARROW + 1, highest), highest])
+        for wide in self.oracle.with_a_value(plan, value, rng.choice):
+            self.carry(name, wide, rng.choice([exact, exact + 9, exact - 1, 0]))
 
     def summary(self):
         count = self.counts
         asked = ", ".join(f"{what} {count[what]}" for what in COMPARED)
-        return (f"{count['accepted'] + count['refused']} plans, {count['accepted']} accepted and {count['refused']} refused; "
-                f"compared: {asked}; every Look of {count['looked at everywhere']} plans; "
-                f"Judge yes {count['Judge yes']}, no {count['Judge no']}; refusals {self.refused(COMPARED[:-1])}; "
+        return (f"form {self.oracle.number}: {count['accepted'] + count['refused']} plans, {count['accepted']} accepted and "
+                f"{count['refused']} refused, and {count['of the other form']} of the other form, "
+                f"{count['of the other form accepted']} accepted; compared: {asked}; "
+                f"every Look of {count['looked at everywhere']} plans; Judge yes {count['Judge yes']}, no {count['Judge no']}; "
+                f"refusals {self.refused('Check', 'Play', 'Look', 'Judge')}; "
                 f"lists of {count['packed again']} accepted plans packed to their bytes and read again, {count['bent']} bent lists, "
-                f"Pack done {count['Pack done']}, refusals {self.refused(['Pack'])}; "
+                f"Pack done {count['Pack done']}, refusals {self.refused('Pack')}; "
+                f"Carry done {count['Carry done']}, refusals {self.refused('Carry')}; "
                 f"{self.different} different")
 
 
+def generated_one(oracle, seed, kind):
+    """A plan of form one, with its name."""
+    if kind < 4:
+        small, damage = kind < 2, kind % 2 == 1
+        name = f"seed {seed}{' small' if small else ''}{' damaged' if damage else ''}"
+        return name, oracle.generate.generate(seed, damage=damage, small=small)
+    _, plan = oracle.generate02.generate(seed, "one", kind)
+    return f"seed {seed} around the ends of writes, {kind}", plan
+
+
+def generated_two(oracle, seed, kind):
+    """A plan of form two, with its name."""
+    if kind < 3:
+        _, plan = oracle.generate02.generate(seed, "two", kind)
+        return f"seed {seed} in form two, {kind}", plan
+    if kind < 5:
+        both_forms = (oracle.generate02.generate(seed, "damaged", index) for index in itertools.count())
+        damaged = (plan for form, plan in both_forms if form == oracle.form)
+        return f"seed {seed} in form two damaged, {kind}", next(itertools.islice(damaged, kind - 3, None))
+    of_form_one = (generated_one(oracle, seed, which % KINDS) for which in itertools.count(seed))
+    return next(with_the_fields(oracle, of_form_one))
+
+
+def with_the_fields(oracle, named_plans):
+    """Plans of form one with the same fields in form two, those that have the length that their header implies."""
+    for name, plan in named_plans:
+        fields = oracle.of_form_one(plan)
+        if fields is not None:
+            yield f"{name}, its fields", fields
+
+
+def vectors(oracle):
+    """The other program's own plans; in form two their fields, and a longest plan with the widest values."""
+    if oracle.number == FORM_ONE:
+        yield from oracle.vectors()
+        yield "a plan of both forms", oracle.of_both_forms()
+        return
+    yield from with_the_fields(oracle, oracle.vectors())
+    yield "a longest plan", oracle.longest()
+
+
 def plans(oracle, count, seed):
-    yield from oracle.vectors()
+    yield from vectors(oracle)
+    generated = generated_one if oracle.number == FORM_ONE else generated_two
     for i in range(count):
-        own, which = seed + i // 6, i % 6
-        if which < 4:
-            small, damage = which < 2, which % 2 == 1
-            name = f"seed {own}{' small' if small else ''}{' damaged' if damage else ''}"
-            yield name, oracle.generate.generate(own, damage=damage, small=small)
-        else:
-            _, plan = oracle.generate02.generate(own, "one", which)
-            yield f"seed {own} around the ends of writes, {which}", plan
+        yield generated(oracle, seed + i // KINDS, i % KINDS)
+
+
+def compared(folder, number, count, seed):
+    """The counts of a form, and how many answers differ."""
+    oracle, other = Oracle(folder, number), Oracle(folder, FORM_TWO if number == FORM_ONE else FORM_ONE)
+    comparison = Comparison(oracle, seed)
+    for name, plan in plans(oracle, count, seed):
+        comparison.all_about(name, plan)
+    for name, plan in plans(other, count, seed):
+        comparison.of_the_other_form(f"{name}, of form {other.number}", plan, other.lists(plan))
+    comparison.settle()
+    return comparison.summary(), comparison.different
 
 
 def build():
@@ -306,14 +276,13 @@ def main():
     arguments = parser.parse_args()
     if not os.path.isfile(os.path.join(arguments.folder, "oracle02.py")):
         parser.error(f"{arguments.folder} has no oracle02.py")
-    oracle = Oracle(arguments.folder)
     build()
-    comparison = Comparison(oracle, arguments.seed)
-    for name, plan in plans(oracle, arguments.plans, arguments.seed):
-        comparison.all_about(name, plan)
-    comparison.settle()
-    print(comparison.summary())
-    return 1 if comparison.different else 0
+    with concurrent.futures.ProcessPoolExecutor(len(FORMS)) as pool:
+        runs = [pool.submit(compared, arguments.folder, form, arguments.plans, arguments.seed) for form in FORMS]
+        results = [run.result() for run in runs]
+    for summary, _ in results:
+        print(summary)
+    return 1 if any(different for _, different in results) else 0
 
 
 if __name__ == "__main__":

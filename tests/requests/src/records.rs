@@ -1,6 +1,6 @@
 //! Records taken from bytes, front to back.
 
-use register::Lists;
+use register::{Form, Lists};
 
 pub struct Records<'a>(&'a [u8]);
 
@@ -20,6 +20,12 @@ impl<'a> Records<'a> {
     pub fn number(&mut self) -> Option<usize> {
         let bytes = self.bytes(8)?;
         Some(bytes.iter().fold(0, |number, &byte| number << 8 | usize::from(byte)))
+    }
+
+    /// The form of the next number.
+    pub fn form(&mut self) -> Option<Form> {
+        let number = self.number()?;
+        Form::ALL.into_iter().find(|form| form.number() == number)
     }
 
     pub fn string(&mut self) -> Option<&'a [u8]> {
