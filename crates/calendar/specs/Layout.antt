@@ -39,10 +39,6 @@ places = 65
 abbrev pub noPair : ℕ
 noPair = 255
 
--- how many pairs a server keeps
-abbrev pub depth : ℕ
-depth = 3
-
 -- the word at which the cells begin, behind the rows' spans
 abbrev pub cellsAt : ℕ
 cellsAt = rows

@@ -18,8 +18,8 @@ pub const PLACES: usize = 65;
 // A number that no known pair has.
 pub const NO_PAIR: u8 = 255;
 
-// How many pairs a server keeps (document 01: three).
-pub const DEPTH: usize = 3;
+// How many pairs a server keeps (document 02, 'Eight': five).
+pub const DEPTH: usize = 5;
 
 // How many servers there may be.
 pub const SERVERS: usize = 16;

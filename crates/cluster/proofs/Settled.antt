@@ -12,7 +12,8 @@ use Rattle.register.specs.{Lists.count, Lists.sameList}
 use Rattle.register.specs.Server.{faulty, isFaulty, curedAt, insert}
 use Rattle.register.proofs as register-laws
 use Rattle.register.proofs.Logic.{test, T-eq, F-eq, cond-e}
-use Rattle.calendar.specs.{Layout.rows, Layout.places, Layout.depth, Layout.lowOf, Layout.highOf, Layout.sender, View.Spanned}
+use Rattle.plan.specs.Packed.{storeDepth}
+use Rattle.calendar.specs.{Layout.rows, Layout.places, Layout.lowOf, Layout.highOf, Layout.sender, View.Spanned}
 use Rattle.serving.specs.Stored.{Plain, Both, server, absent}
 use Rattle.serving.specs.Stages.{noVotes, blankAs, resetAt, turned, isNew, within, Voted, taken, voting, withWrite, delivered, deliveredOf, stageOne, stageTwo, movedOn, stageFour, stagesOf}
 use Rattle.serving.proofs as serving-laws
@@ -76,20 +77,20 @@ put-turn p q l = three _ p q (λ d. sym (put-lower q p l d)) (λ e. rw e) (λ d.
 
 -- putting it in changes nothing
 abbrev Kept : ℕ → List ℕ → Type 0
-Kept p l = take depth (insert p l) ≡ l
+Kept p l = take storeDepth (insert p l) ≡ l
 
 abbrev put : Bool → ℕ → List ℕ → List ℕ
-put b q l = cond b (take depth (insert q l)) l
+put b q l = cond b (take storeDepth (insert q l)) l
 
-put-in : (p : ℕ) (l : List ℕ) → Kept p (take depth (insert p l))
-put-in p l = put-cut depth p (insert p l) ∙ rw (put-twice p l)
+put-in : (p : ℕ) (l : List ℕ) → Kept p (take storeDepth (insert p l))
+put-in p l = put-cut storeDepth p (insert p l) ∙ rw (put-twice p l)
 
 put-keeps : (b : Bool) (p q : ℕ) (l : List ℕ) → Kept p l → Kept p (put b q l)
-put-keeps true p q l w = rw (put-cut depth p (insert q l), put-turn p q l, ← put-cut depth q (insert p l), w)
+put-keeps true p q l w = rw (put-cut storeDepth p (insert q l), put-turn p q l, ← put-cut storeDepth q (insert p l), w)
 put-keeps false p q l w = w
 
-put-few : (b : Bool) (q : ℕ) (l : List ℕ) → length l ≤ depth → length (put b q l) ≤ depth
-put-few true q l h = omega (arith, length-take depth (insert q l))
+put-few : (b : Bool) (q : ℕ) (l : List ℕ) → length l ≤ storeDepth → length (put b q l) ≤ storeDepth
+put-few true q l h = omega (arith, length-take storeDepth (insert q l))
 put-few false q l h = h
 
 put-same : (b : Bool) (p : ℕ) (l : List ℕ) → (T b → Kept p l) → put b p l ≡ l
@@ -97,7 +98,7 @@ put-same b p l w = cond-e (λ (k : List ℕ). k ≡ l) b _ _ w (λ f. refl)
 
 not-new : (p : ℕ) (l : List ℕ) → isNew p l ≡ false → Kept p l
 unfolding isNew
-not-new p l e = register-laws.Lists.sameList-eq (take depth (insert p l)) l (rw (not-false (sameList (take depth (insert p l)) l) e) tt)
+not-new p l e = register-laws.Lists.sameList-eq (take storeDepth (insert p l)) l (rw (not-false (sameList (take storeDepth (insert p l)) l) e) tt)
 
 kept-known : (p : ℕ) (l : List ℕ) → Kept p l → isNew p l ≡ false
 unfolding isNew
@@ -112,7 +113,7 @@ new-less p l k w n = elim (test (isNew p l)) [
 
 -- ---- taking in by number
 
-taken-few : (c : ℕ → Bool) (m : ℕ) (l : List ℕ) → length l ≤ depth → length (taken c m l) ≤ depth
+taken-few : (c : ℕ → Bool) (m : ℕ) (l : List ℕ) → length l ≤ storeDepth → length (taken c m l) ≤ storeDepth
 unfolding taken
 taken-few c zero l h = h
 taken-few c (suc j) l h = put-few (c j) j (taken c j l) (taken-few c j l h)
@@ -140,16 +141,16 @@ taken-alike c d (suc m) l e = rw (taken-alike c d m l (λ j a. e j (omega arith)
 ])
 
 -- after the pair of a WRITE
-module _ (m w : ℕ) (l : List ℕ) (few : length l ≤ depth) where
-  pub written-alike : (c d : ℕ → Bool) → ((j : ℕ) → j < m → isNew j l ≡ true → c j ≡ d j) → taken c m (cond (ltb w m) (take depth (insert w l)) l) ≡ taken d m (cond (ltb w m) (take depth (insert w l)) l)
+module _ (m w : ℕ) (l : List ℕ) (few : length l ≤ storeDepth) where
+  pub written-alike : (c d : ℕ → Bool) → ((j : ℕ) → j < m → isNew j l ≡ true → c j ≡ d j) → taken c m (cond (ltb w m) (take storeDepth (insert w l)) l) ≡ taken d m (cond (ltb w m) (take storeDepth (insert w l)) l)
   written-alike c d e = taken-alike c d m _ (λ j h n. e j h (new-less j l _ (put-keeps (ltb w m) j w l) n))
 
   -- what is new to the store afterwards was new before
-  pub new-before : (c : ℕ → Bool) (p : ℕ) → isNew p (taken c m (cond (ltb w m) (take depth (insert w l)) l)) ≡ true → isNew p l ≡ true
+  pub new-before : (c : ℕ → Bool) (p : ℕ) → isNew p (taken c m (cond (ltb w m) (take storeDepth (insert w l)) l)) ≡ true → isNew p l ≡ true
   new-before c p = new-less p l _ (λ v. taken-keeps c m p _ (put-keeps (ltb w m) p w l v))
 
 -- what was settled is taken in to no effect
-pub taken-none : (c : ℕ → Bool) (m : ℕ) (l : List ℕ) → ((j : ℕ) → j < m → c j ≡ true → take depth (insert j l) ≡ l) → taken c m l ≡ l
+pub taken-none : (c : ℕ → Bool) (m : ℕ) (l : List ℕ) → ((j : ℕ) → j < m → c j ≡ true → take storeDepth (insert j l) ≡ l) → taken c m l ≡ l
 unfolding taken
 taken-none c zero l h = refl
 taken-none c (suc m) l h = rw (taken-none c m l (λ j a. h j (omega arith))) (put-same (c m) m l (λ t. h m (omega arith) (T-eq _ t)))
@@ -185,13 +186,13 @@ module _ (m e r : ℕ) (he : 1 ≤ e) (hr : 1 ≤ r) where
   Fine s = Settled m e r s
 
   -- no votes, no quorum
-  unvoted-settled : (s : Plain) → length (s .kept) ≤ depth → s .fresh ≡ noVotes → s .old ≡ noVotes → Fine s
+  unvoted-settled : (s : Plain) → length (s .kept) ≤ storeDepth → s .fresh ≡ noVotes → s .old ≡ noVotes → Fine s
   unvoted-settled s h f o = record { few = h; same = λ j l v. absurd (false≢true (rw (f, o, register-laws.Counting.count-none 16, lt-leb e 0 he, lt-leb r 0 hr) at v)) }
 
   pub first-settled : Fine cluster-specs.Tick.firstServer
   first-settled = unvoted-settled cluster-specs.Tick.firstServer (omega arith) refl refl
 
-  delivered-settled : (w : ℕ) (votes : ℕ → ℕ → Bool) (asks live : ℕ → Bool) (s : Plain) → length (s .kept) ≤ depth → Fine (delivered m e r w votes asks live s .server)
+  delivered-settled : (w : ℕ) (votes : ℕ → ℕ → Bool) (asks live : ℕ → Bool) (s : Plain) → length (s .kept) ≤ storeDepth → Fine (delivered m e r w votes asks live s .server)
   unfolding delivered deliveredOf
   delivered-settled w votes asks live s h = record {
     few = taken-few _ m (withWrite m w s .kept) (rw (serving-laws.StageLaws.write-kept m w s) (put-few (ltb w m) w (s .kept) h));

@@ -10,7 +10,8 @@ use Rattle.register.specs.Plan.{Plan, Write, Read, stamped, kk, echoQuorum, rep
 use Rattle.register.specs.Cluster.{writesIn, readsIn}
 use Rattle.register.specs.Reading.{sameRead}
 use Rattle.calendar.specs.Bits.{bit}
-use Rattle.calendar.specs.Layout.{mostServers, mostReaders, places, noPair, depth, calendarSize}
+use Rattle.plan.specs.Packed.{storeDepth}
+use Rattle.calendar.specs.Layout.{mostServers, mostReaders, places, noPair, calendarSize}
 use Rattle.calendar.specs.View.{Spanned}
 use Rattle.cluster.specs.declared.Known.{Known}
 use Rattle.serving.specs.declared.Rules.{Rules}
@@ -32,7 +33,7 @@ pub record Knows (P : Plan) (g : ℕ → ℕ) (m : ℕ) : Type 0 where
   pub few : m ≤ places
   pub servers : P .n ≤ mostServers
   pub slow : P .delta ≤ 15
-  pub depth : P .depth ≡ depth
+  pub depth : P .depth ≡ storeDepth
   pub rising : (i j : ℕ) → i < j → g i < g j
   pub first : (0 < m) × (P .initial ≡ g 0)
   pub write : (w : Write) → In w (P .writes) → (j : ℕ) × (j < m) × (w .pair ≡ g j)

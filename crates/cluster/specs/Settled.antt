@@ -9,7 +9,8 @@ use lib.Dec.{eqb}
 use lib.ListN.{length, take, getD}
 use Rattle.register.specs.Server.{Status, isFaulty, insert, curedAt}
 use Rattle.calendar.specs.Bits.{bit}
-use Rattle.calendar.specs.Layout.{places, depth, lowOf, highOf}
+use Rattle.plan.specs.Packed.{storeDepth}
+use Rattle.calendar.specs.Layout.{places, lowOf, highOf}
 use Rattle.calendar.specs.View.{SamePast, Spanned}
 use Rattle.serving.specs.declared.Server.{Server}
 use Rattle.cluster.specs.declared.Cluster.{Cluster}
@@ -20,8 +21,8 @@ use Rattle.serving.specs.Stages.{voting, anyNew}
 use Rattle.cluster.specs.Tick.{Fed, Turned, TurnedFirst, Ticked}
 
 pub record Settled (m e r : ℕ) (s : Plain) : Type 0 where
-  pub few : length (s .kept) ≤ depth
-  pub same : (j : ℕ) → j < m → voting e r (s .fresh) (s .old) j ≡ true → take depth (insert j (s .kept)) ≡ s .kept
+  pub few : length (s .kept) ≤ storeDepth
+  pub same : (j : ℕ) → j < m → voting e r (s .fresh) (s .old) j ≡ true → take storeDepth (insert j (s .kept)) ≡ s .kept
 
 -- all servers of a cluster have
 abbrev pub Calm : Rules → Known → List Server → Type 0

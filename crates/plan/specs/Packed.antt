@@ -8,9 +8,9 @@ use Rattle.register.specs.Plan.{Plan, stamped}
 use Rattle.plan.specs.Header.{Header, headerOf, parties}
 use Rattle.plan.specs.Parts.{Operation, inPlacement, operationsOf, forgeryOf, delayOf, isLink, writesFrom, readsFrom}
 
--- 'Each box keeps at most three pairs'
+-- Eight: 'A box keeps at most five pairs, and echoes, answers and Look carry up to five.'
 abbrev pub storeDepth : ℕ
-storeDepth = 3
+storeDepth = 5
 
 -- Outside the tables, which no tick below H reads, nobody is faulty and a delay is 1.
 unfoldable pub planOf : ℕ → List ℕ → Plan

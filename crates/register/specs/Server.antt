@@ -76,7 +76,7 @@ unfoldable pub insertAll : List ℕ → List ℕ → List ℕ
 insertAll [] l = l
 insertAll (p ∷ ps) l = insertAll ps (insert p l)
 
--- 'Each box keeps at most three pairs, those of highest number (equal number: higher cue first)'
+-- 'Each box keeps at most' so many 'pairs, those of highest number (equal number: higher cue first)'
 unfoldable pub takeIn : ℕ → List ℕ → List ℕ → List ℕ
 takeIn depth ps l = take depth (insertAll ps l)
 

@@ -14,7 +14,8 @@ use Rattle.register.specs.Lists.{sameList}
 use Rattle.register.specs.Server.{Status, faulty, cured, correct, isFaulty, isCorrect, curedAt, insert}
 use Rattle.register.proofs as register-laws
 use Rattle.calendar.specs.Bits.{bit}
-use Rattle.calendar.specs.Layout.{depth, sender}
+use Rattle.plan.specs.Packed.{storeDepth}
+use Rattle.calendar.specs.Layout.{sender}
 use Rattle.calendar.proofs.Laws.{bit-zero, bit-or}
 use Rattle.serving.specs as serving-specs
 use Rattle.serving.specs.Stored.{Plain, Said, Both}
@@ -55,7 +56,7 @@ in-span low high j b v l h e = rw (le-leb low j l, lt-ltb j high h) e
 -- ---- a turn of taking in
 
 module _ (c : ℕ → Bool) (j : ℕ) (l k r : List ℕ) (e : k ≡ taken c j l) where
-  pub taken-more : (b : Bool) → c j ≡ b → r ≡ cond b (take depth (insert j k)) k → r ≡ taken c (j + 1) l
+  pub taken-more : (b : Bool) → c j ≡ b → r ≡ cond b (take storeDepth (insert j k)) k → r ≡ taken c (j + 1) l
   unfolding taken
   taken-more b h q = let z : j + 1 ≡ suc j = omega arith in rw (z, h, ← e) q
 
@@ -70,11 +71,11 @@ replied-law r a p c s false s' e f g = rw (e, f) zero-set
 pub pending-law : (p l a : ℕ) → _≡_ {A = ℕ → Bool} (λ x. bit x (bitOr (bitAnd p l) a)) (λ x. (bit x p && bit x l) || bit x a)
 pending-law p l a = fun-ext (λ x. rw (bit-or x (bitAnd p l) a, bit-and x p l))
 
-pub write-kept : (m w : ℕ) (s : Plain) → withWrite m w s .kept ≡ cond (ltb w m) (take depth (insert w (s .kept))) (s .kept)
+pub write-kept : (m w : ℕ) (s : Plain) → withWrite m w s .kept ≡ cond (ltb w m) (take storeDepth (insert w (s .kept))) (s .kept)
 write-kept m w s = register-laws.Logic.cond-ap (λ (x : Plain). x .kept) (ltb w m) (written w s) s
 
 pub delivered-law : (m : ℕ) (c : ℕ → Bool) (w : ℕ) (votes : ℕ → ℕ → Bool) (asks live : ℕ → Bool) (s : Plain) (first kept : List ℕ) (pend readers : ℕ → Bool)
-    → first ≡ cond (ltb w m) (take depth (insert w (s .kept))) (s .kept) → kept ≡ taken c m first
+    → first ≡ cond (ltb w m) (take storeDepth (insert w (s .kept))) (s .kept) → kept ≡ taken c m first
     → pend ≡ (λ x. (s .pending x && live x) || asks x) → readers ≡ repliesTo (isCorrect (s .status)) (sameList (s .kept) kept) asks pend
     → record {
       server = record { status = s .status; kept = kept; pending = pend; fresh = votes; old = s .old };

@@ -14,7 +14,7 @@ use Rattle.register.specs.Lists.{any, member, sameList}
 use Rattle.register.specs.Server.{insert}
 use Rattle.register.proofs as register-laws
 use Rattle.calendar.specs.declared.Stamped.{Stamped}
-use Rattle.calendar.specs.Layout.{depth}
+use Rattle.plan.specs.Packed.{storeDepth}
 use Rattle.calendar.specs.Posts.{vacant, amongFirst, among}
 use Rattle.calendar.proofs.Laws.{never}
 use Rattle.serving.specs.Stored.{keys, placeOf, putAt}
@@ -184,21 +184,21 @@ module _ (p : Stamped) (is : p .kept ≡ true) where
       rw (z .0, le-ltb (x .number) (p .number) (omega (arith, z .1)), ne-eqb (x .number) (p .number) (λ q. omega (arith, z .1)), eq-eqb (x .number) (x .number) refl)
       (changed-at n i ps (omega arith) (omega arith) (λ j q. a (suc j) (omega arith)) l)
 
-  module _ (ps : List Stamped) (size : length ps ≡ depth) where
-    unchanged : keys ps ≡ take depth (insert (p .number) (keys ps)) → isNew (p .number) (keys ps) ≡ false
+  module _ (ps : List Stamped) (size : length ps ≡ storeDepth) where
+    unchanged : keys ps ≡ take storeDepth (insert (p .number) (keys ps)) → isNew (p .number) (keys ps) ≡ false
     unfolding isNew
     unchanged e = rw (← e, same-as-itself (keys ps))
 
     -- at the first place that is not higher
-    pub new-first : (i : ℕ) → i < depth → Above p i ps → placeOf (getD ps i vacant) ≤ placeOf p → ltb (placeOf (getD ps i vacant)) (placeOf p) ≡ isNew (p .number) (keys ps)
+    pub new-first : (i : ℕ) → i < storeDepth → Above p i ps → placeOf (getD ps i vacant) ≤ placeOf p → ltb (placeOf (getD ps i vacant)) (placeOf p) ≡ isNew (p .number) (keys ps)
     unfolding isNew
     new-first i h a l = elim (eq-or-lt-of-le l) [
-      | inl e ↦ rw (le-ltb (placeOf (getD ps i vacant)) (placeOf p) (omega arith)) (sym (unchanged (put-same p is depth ps size i h a e)))
-      | inr k ↦ rw (lt-ltb (placeOf (getD ps i vacant)) (placeOf p) k, changed-at depth i ps h (omega arith) a k)
+      | inl e ↦ rw (le-ltb (placeOf (getD ps i vacant)) (placeOf p) (omega arith)) (sym (unchanged (put-same p is storeDepth ps size i h a e)))
+      | inr k ↦ rw (lt-ltb (placeOf (getD ps i vacant)) (placeOf p) k, changed-at storeDepth i ps h (omega arith) a k)
     ]
 
-    pub new-none : Above p depth ps → isNew (p .number) (keys ps) ≡ false
-    new-none a = unchanged (put-none p is depth ps size a)
+    pub new-none : Above p storeDepth ps → isNew (p .number) (keys ps) ≡ false
+    new-none a = unchanged (put-none p is storeDepth ps size a)
 
 -- one of some pairs is
 module _ (l : List ℕ) (low : ℕ) where

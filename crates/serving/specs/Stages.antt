@@ -7,7 +7,8 @@ use lib.Dec.{leb, ltb}
 use lib.ListN.{take}
 use Rattle.register.specs.Lists.{count, anyUpTo, sameList}
 use Rattle.register.specs.Server.{Status, faulty, cured, correct, isFaulty, isCorrect, curedAt, insert}
-use Rattle.calendar.specs.Layout.{mostServers, places, depth}
+use Rattle.plan.specs.Packed.{storeDepth}
+use Rattle.calendar.specs.Layout.{mostServers, places}
 use Rattle.serving.specs.declared.Rules.{Rules}
 use Rattle.serving.specs.Stored.{Plain, Said, Both}
 
@@ -29,7 +30,7 @@ abbrev pub restated : Status → Plain → Plain
 restated st s = record { status = st; kept = s .kept; pending = s .pending; fresh = s .fresh; old = s .old }
 
 abbrev pub written : ℕ → Plain → Plain
-written p s = record { status = s .status; kept = take depth (insert p (s .kept)); pending = s .pending; fresh = s .fresh; old = s .old }
+written p s = record { status = s .status; kept = take storeDepth (insert p (s .kept)); pending = s .pending; fresh = s .fresh; old = s .old }
 
 -- a server that is not faulty has the votes of f among its fresh ones; a faulty one loses them
 pub record Voted (f : ℕ → ℕ → Bool) (s r : Plain) : Type 0 where
@@ -61,11 +62,11 @@ voting e r fresh old j = quorate e r (fresh j) (old j)
 -- the pairs 0 .. m - 1 that pass, taken in by number
 unfoldable pub taken : (ℕ → Bool) → ℕ → List ℕ → List ℕ
 taken c zero l = l
-taken c (suc j) l = cond (c j) (take depth (insert j (taken c j l))) (taken c j l)
+taken c (suc j) l = cond (c j) (take storeDepth (insert j (taken c j l))) (taken c j l)
 
 -- putting pair p in changes the store: the store does not have it, and is not full of higher ones
 unfoldable pub isNew : ℕ → List ℕ → Bool
-isNew p l = not (sameList (take depth (insert p l)) l)
+isNew p l = not (sameList (take storeDepth (insert p l)) l)
 
 -- one of the pairs low .. high - 1 does
 abbrev pub anyNew : List ℕ → ℕ → ℕ → Bool

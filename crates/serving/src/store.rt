@@ -6,7 +6,8 @@ ghost use Prim.Native.Nat.{_<_, _≤_};
 ghost use lib.ListN.{take};
 ghost use Rattle.register.specs.Lists.{sameList};
 ghost use Rattle.register.specs.Server.{insert};
-ghost use Rattle.calendar.specs.Layout.{places, depth};
+ghost use Rattle.plan.specs.Packed.{storeDepth};
+ghost use Rattle.calendar.specs.Layout.{places};
 ghost use Rattle.serving.specs.Stored.{keys, placeOf, putAt};
 ghost use Rattle.serving.specs.Stages.{isNew, anyNew};
 use calendar::DEPTH;
@@ -24,8 +25,8 @@ fn place(p: Stamped) -> u16
 
 // The store with p at a place: what stood there and after it moves on by one, and the last of it is dropped.
 fn put_at(kept: [Stamped; DEPTH], p: Stamped, at: usize) -> [Stamped; DEPTH]
-    requires { ⌜ at < depth ⌝ }
-    ensures { λ r. ⌜ r ≡ take depth (putAt at p kept) ⌝ }
+    requires { ⌜ at < storeDepth ⌝ }
+    ensures { λ r. ⌜ r ≡ take storeDepth (putAt at p kept) ⌝ }
 {
     let mut more = kept;
     let mut carried = p;
@@ -39,10 +40,10 @@ fn put_at(kept: [Stamped; DEPTH], p: Stamped, at: usize) -> [Stamped; DEPTH]
     more
 }
 
-// 'Each box keeps at most three pairs, those of highest number': the store with p put in its place.
+// 'A box keeps at most five pairs', 'those of highest number': the store with p put in its place.
 pub fn insert(kept: [Stamped; DEPTH], p: Stamped) -> [Stamped; DEPTH]
     requires { ⌜ p .kept ≡ true ⌝ }
-    ensures { λ r. ⌜ keys r ≡ take depth (insert (p .number) (keys kept)) ⌝ }
+    ensures { λ r. ⌜ keys r ≡ take storeDepth (insert (p .number) (keys kept)) ⌝ }
 {
     let mine = place(p);
     let mut i: usize = 0;

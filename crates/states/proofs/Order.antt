@@ -17,7 +17,7 @@ use Rattle.register.proofs.Logic.{or-e, or-l, or-r, T-eq}
 use Rattle.register.proofs.Lists.{in-flat, flat-in}
 use Rattle.register.proofs.Rising.{take-map, insert-map, same-map}
 use Rattle.register.proofs.Stores.{Falling, in-insertAll, falling-insertAll, insertAll-in}
-use Rattle.calendar.specs.Layout.{depth}
+use Rattle.plan.specs.Packed.{storeDepth}
 use Rattle.serving.specs.Stages.{isNew, taken}
 use Rattle.cluster.proofs.Settled.{put-cut}
 
@@ -77,38 +77,38 @@ in-picked c g m q i = let (j, h, k) = in-flat q m (λ j. cond (c j) (g j ∷ [])
 module _ (g : ℕ → ℕ) (rising : (i j : ℕ) → i < j → g i < g j) where
   pub new-number : (j : ℕ) (l : List ℕ) → isNew (g j) (map g l) ≡ isNew j l
   unfolding isNew
-  new-number j l = rw (insert-map g rising j l, take-map g depth (insert j l), same-map g rising (take depth (insert j l)) l)
+  new-number j l = rw (insert-map g rising j l, take-map g storeDepth (insert j l), same-map g rising (take storeDepth (insert j l)) l)
 
-  put-number : (j : ℕ) (l : List ℕ) → map g (take depth (insert j l)) ≡ take depth (insert (g j) (map g l))
-  put-number j l = rw (insert-map g rising j l, take-map g depth (insert j l))
+  put-number : (j : ℕ) (l : List ℕ) → map g (take storeDepth (insert j l)) ≡ take storeDepth (insert (g j) (map g l))
+  put-number j l = rw (insert-map g rising j l, take-map g storeDepth (insert j l))
 
-  taken-picked : (c : ℕ → Bool) (m : ℕ) (l : List ℕ) → length l ≤ depth → map g (taken c m l) ≡ takeIn depth (picked c g m) (map g l)
+  taken-picked : (c : ℕ → Bool) (m : ℕ) (l : List ℕ) → length l ≤ storeDepth → map g (taken c m l) ≡ takeIn storeDepth (picked c g m) (map g l)
   unfolding taken flat takeIn insertAll
-  taken-picked c zero l h = sym (take-all depth (map g l) (rw (length-map l g) h))
+  taken-picked c zero l h = sym (take-all storeDepth (map g l) (rw (length-map l g) h))
   taken-picked c (suc j) l h = rw (all-append (picked c g j) (cond (c j) (g j ∷ []) []) (map g l)) (go (c j) (taken-picked c j l h))
     where
-      go : (b : Bool) → map g (taken c j l) ≡ take depth (insertAll (picked c g j) (map g l))
-          → map g (cond b (take depth (insert j (taken c j l))) (taken c j l)) ≡ take depth (insertAll (cond b (g j ∷ []) []) (insertAll (picked c g j) (map g l)))
-      go true e = put-number j (taken c j l) ∙ rw e (put-cut depth (g j) (insertAll (picked c g j) (map g l)))
+      go : (b : Bool) → map g (taken c j l) ≡ take storeDepth (insertAll (picked c g j) (map g l))
+          → map g (cond b (take storeDepth (insert j (taken c j l))) (taken c j l)) ≡ take storeDepth (insertAll (cond b (g j ∷ []) []) (insertAll (picked c g j) (map g l)))
+      go true e = put-number j (taken c j l) ∙ rw e (put-cut storeDepth (g j) (insertAll (picked c g j) (map g l)))
       go false e = e
 
   -- the WRITE's pair first, then the others by number, is taking in, for the same set
-  pub by-number : (c : ℕ → Bool) (m w : ℕ) (ps l : List ℕ) → Falling (map g l) → length l ≤ depth
+  pub by-number : (c : ℕ → Bool) (m w : ℕ) (ps l : List ℕ) → Falling (map g l) → length l ≤ storeDepth
       → ((q : ℕ) → In q ps → (j : ℕ) × (j < m) × T (eqb j w || c j) × (q ≡ g j)) → ((j : ℕ) → j < m → T (eqb j w || c j) → In (g j) ps)
-      → takeIn depth ps (map g l) ≡ map g (taken c m (cond (ltb w m) (take depth (insert w l)) l))
+      → takeIn storeDepth ps (map g l) ≡ map g (taken c m (cond (ltb w m) (take storeDepth (insert w l)) l))
   unfolding takeIn insertAll
   by-number c m w ps l d h f k = elim (decLe m w) [
     | yes e ↦ rw (le-ltb w m e)
-        (take-in-set depth ps (picked c g m) (map g l) d
+        (take-in-set storeDepth ps (picked c g m) (map g l) d
         (λ q i. let (j, a, y, z) = f q i in elim (or-e (eqb j w) (c j) y) [ inl x ↦ absurd (omega (arith, eqb→eq j w x)) | inr x ↦ rw z (picked-in c g m j a x) ])
         others
         ∙ sym (taken-picked c m l h))
     | no e ↦ rw (lt-ltb w m (omega arith))
-        (take-in-set depth ps (g w ∷ picked c g m) (map g l) d
+        (take-in-set storeDepth ps (g w ∷ picked c g m) (map g l) d
         (λ q i. let (j, a, y, z) = f q i in elim (or-e (eqb j w) (c j) y) [ inl x ↦ inl (z ∙ ap g (eqb→eq j w x)) | inr x ↦ inr (rw z (picked-in c g m j a x)) ])
         (λ q i. elim i [ inl x ↦ rw x (k w (omega arith) (or-l (eqb w w) (c w) (eqb-refl w))) | inr x ↦ others q x ])
-        ∙ sym (taken-picked c m (take depth (insert w l)) (omega (arith, length-take depth (insert w l)))
-        ∙ ap (takeIn depth (picked c g m)) (put-number w l) ∙ take-insertAll depth (picked c g m) (insert (g w) (map g l))))
+        ∙ sym (taken-picked c m (take storeDepth (insert w l)) (omega (arith, length-take storeDepth (insert w l)))
+        ∙ ap (takeIn storeDepth (picked c g m)) (put-number w l) ∙ take-insertAll storeDepth (picked c g m) (insert (g w) (map g l))))
   ]
     where
       others : (q : ℕ) → In q (picked c g m) → In q ps

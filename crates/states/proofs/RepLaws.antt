@@ -18,7 +18,7 @@ use Rattle.cluster.specs.Inputs.{Knows}
 use Rattle.states.specs.State.{Votes, Rep}
 use Rattle.serving.proofs.StageLaws.{write-kept}
 use Rattle.states.proofs as states-laws
-use Rattle.calendar.specs.Layout.{depth}
+use Rattle.plan.specs.Packed.{storeDepth}
 use Rattle.cluster.proofs.Settled.{written-alike, new-before}
 
 -- ---- counting by masks
@@ -109,7 +109,7 @@ module _ (P : Plan) (G : register-laws.Good.Good P) (g : ℕ → ℕ) (m : ℕ) 
       abbrev kept' : List ℕ
       kept' = takeIn (P .depth) (ws ++ votedIn P fresh (x .old)) (x .kept)
 
-      few : length (s .kept) ≤ depth
+      few : length (s .kept) ≤ storeDepth
       few = omega (arith, R .short, ap length (R .kept), length-map (s .kept) g)
 
       -- what the step rules take in, new or not, has numbers
@@ -133,7 +133,7 @@ module _ (P : Plan) (G : register-laws.Good.Good P) (g : ℕ → ℕ) (m : ℕ) 
         tally = I .tally (ap isFaulty (R .status) ∙ free)
 
         -- what is taken in, by numbers
-        kept-rep : kept' ≡ map g (taken voted m (cond (ltb w m) (take depth (insert w (s .kept))) (s .kept)))
+        kept-rep : kept' ≡ map g (taken voted m (cond (ltb w m) (take storeDepth (insert w (s .kept))) (s .kept)))
         unfolding votedIn
         kept-rep =
             ap (λ (d : ℕ). takeIn d (ws ++ votedIn P fresh (x .old)) (x .kept)) (K .depth)

@@ -12,7 +12,8 @@ use Rattle.register.specs.Plan.{Plan, Read, readEnd, echoQuorum, replyQuorum}
 use Rattle.register.specs.Server.{Claim, Server, has, isFaulty}
 use Rattle.register.specs.Cluster.{Log, serverOf, cluster}
 use Rattle.register.specs.Reading.{sameRead}
-use Rattle.calendar.specs.Layout.{mostReaders, slots, readersAt, places, depth, rowOf, sender}
+use Rattle.plan.specs.Packed.{storeDepth}
+use Rattle.calendar.specs.Layout.{mostReaders, slots, readersAt, places, rowOf, sender}
 use Rattle.calendar.specs.View.{Spanned}
 use Rattle.cluster.specs.declared.{Cluster.Cluster, Reader.Reader}
 use Rattle.serving.specs.Bits.{sets}
@@ -42,7 +43,7 @@ module _ (P : Plan) where
     pub record Rep (t : ℕ) (x : Server) (s : Plain) : Type 0 where
       pub status : x .status ≡ s .status
       pub kept : x .kept ≡ map g (s .kept)
-      pub short : length (x .kept) ≤ depth
+      pub short : length (x .kept) ≤ storeDepth
       pub fresh : Votes (x .kept) (x .fresh) (s .fresh)
       pub old : Votes (x .kept) (x .old) (s .old)
       -- a read that is open: its reader's bit

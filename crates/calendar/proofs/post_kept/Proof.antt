@@ -5,7 +5,7 @@ use native.Mathlib.Omega.{arith}
 use lib.ListN.{length}
 use borrow.Author.Needs.{needs}
 use borrow.Author.Tests.{not-true, not-false}
-use Rattle.calendar.specs.Layout.{depth}
+use Rattle.plan.specs.Packed.{storeDepth}
 use Rattle.calendar.specs.View.{Posted}
 use Rattle.calendar.specs.Posts.{inRow, amongFirst}
 use Rattle.calendar.proofs.Stores.{Full, full-more, kept-first, kept-more, kept-stop}
@@ -13,10 +13,10 @@ use Rattle.calendar.proofs.post_kept.Statement.{statement}
 use Rattle.calendar.proofs.post_kept.Tie as tie
 
 abbrev Inv-loop : tie.InvT-loop
-Inv-loop work₀ row i kept q₀ work q = (q ≤ depth) × (length kept ≡ depth) × Full q kept × Posted work₀ work (inRow row i (amongFirst q kept))
+Inv-loop work₀ row i kept q₀ work q = (q ≤ storeDepth) × (length kept ≡ storeDepth) × Full q kept × Posted work₀ work (inRow row i (amongFirst q kept))
 
 abbrev μ-loop : tie.MeasureT-loop
-μ-loop work₀ row i kept q₀ work q = depth - q
+μ-loop work₀ row i kept q₀ work q = storeDepth - q
 
 returns : tie.Need-returns Inv-loop μ-loop
 returns c =

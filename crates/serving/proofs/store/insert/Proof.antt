@@ -4,29 +4,29 @@ use Prim.Native.Nat.{_≤_, _<_, _-_}
 use native.Mathlib.Omega.{arith}
 use lib.ListN.{length}
 use borrow.Author.Needs.{needs}
-use Rattle.calendar.specs.Layout.{depth}
+use Rattle.plan.specs.Packed.{storeDepth}
 use Rattle.serving.specs.Stored.{placeOf}
 use Rattle.serving.proofs.StoreLaws.{Above, above-more, put-lower, put-same, put-none}
 use Rattle.serving.proofs.store.insert.Statement.{statement}
 use Rattle.serving.proofs.store.insert.Tie as tie
 
 abbrev Inv-loop : tie.InvT-loop
-Inv-loop p kept mine i₀ i = (i ≤ depth) × (length kept ≡ depth) × (mine ≡ placeOf p) × Above p i kept
+Inv-loop p kept mine i₀ i = (i ≤ storeDepth) × (length kept ≡ storeDepth) × (mine ≡ placeOf p) × Above p i kept
 
 abbrev μ-loop : tie.MeasureT-loop
-μ-loop p kept mine i₀ i = depth - i
+μ-loop p kept mine i₀ i = storeDepth - i
 
 returns : tie.Need-returns Inv-loop μ-loop
 returns c =
     let s = c .before .before .before .before .before .before in
     let l = c .before .before .before .before .loop in
-    put-same (s .args .p) (s .pre) depth (s .args .t1) (l .inv .1) (l .i) (c .before .before .before .loop-test .taken) (l .inv .3) (rw (c .before .place2 .ensures, l .inv .2) at (c .if1 .taken))
+    put-same (s .args .p) (s .pre) storeDepth (s .args .t1) (l .inv .1) (l .i) (c .before .before .before .loop-test .taken) (l .inv .3) (rw (c .before .place2 .ensures, l .inv .2) at (c .if1 .taken))
 
 returns-2 : tie.Need-returns-2 Inv-loop μ-loop
 returns-2 c =
     let s = c .before .before .before .before .before .before .before .before in
     let l = c .before .before .before .before .before .before .loop in
-    put-lower (s .args .p) (s .pre) depth (s .args .t1) (l .inv .1) (l .i) (c .before .before .before .before .before .loop-test .taken) (l .inv .3) (rw (c .before .before .before .place2 .ensures, l .inv .2) at (c .before .if2 .taken)) _ (c .put-at .ensures)
+    put-lower (s .args .p) (s .pre) storeDepth (s .args .t1) (l .inv .1) (l .i) (c .before .before .before .before .before .loop-test .taken) (l .inv .3) (rw (c .before .before .before .place2 .ensures, l .inv .2) at (c .before .if2 .taken)) _ (c .put-at .ensures)
 
 loop-again : tie.Need-loop-again Inv-loop μ-loop
 loop-again c =
@@ -39,8 +39,8 @@ returns-3 : tie.Need-returns-3 Inv-loop μ-loop
 returns-3 c =
     let s = c .before .before .before in
     let l = c .before .loop in
-    let e : l .i ≡ depth = omega arith in
-    put-none (s .args .p) (s .pre) depth (s .args .t1) (l .inv .1) (rw e at (l .inv .3))
+    let e : l .i ≡ storeDepth = omega arith in
+    put-none (s .args .p) (s .pre) storeDepth (s .args .t1) (l .inv .1) (rw e at (l .inv .3))
 
 pub insert-spec : {M : Type 1} → statement M
 insert-spec =

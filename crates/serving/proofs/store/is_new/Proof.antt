@@ -4,7 +4,7 @@ use Prim.Native.Nat.{ℕ, _≤_, _<_, _-_}
 use native.Mathlib.Omega.{arith}
 use lib.ListN.{length, getD}
 use borrow.Author.Needs.{needs}
-use Rattle.calendar.specs.Layout.{depth}
+use Rattle.plan.specs.Packed.{storeDepth}
 use Rattle.calendar.specs.Posts.{vacant}
 use Rattle.serving.specs.Stored.{placeOf}
 use Rattle.serving.proofs.StoreLaws.{above-more, new-first, new-none}
@@ -12,10 +12,10 @@ use Rattle.serving.proofs.store.is_new.Statement.{statement}
 use Rattle.serving.proofs.store.is_new.Tie as tie
 
 abbrev Inv-loop : tie.InvT-loop
-Inv-loop kept mine i₀ i = (i ≤ depth) × (length kept ≡ depth) × ((j : ℕ) → j < i → mine < placeOf (getD kept j vacant))
+Inv-loop kept mine i₀ i = (i ≤ storeDepth) × (length kept ≡ storeDepth) × ((j : ℕ) → j < i → mine < placeOf (getD kept j vacant))
 
 abbrev μ-loop : tie.MeasureT-loop
-μ-loop kept mine i₀ i = depth - i
+μ-loop kept mine i₀ i = storeDepth - i
 
 returns : tie.Need-returns Inv-loop μ-loop
 returns c =
@@ -36,7 +36,7 @@ returns-2 : tie.Need-returns-2 Inv-loop μ-loop
 returns-2 c =
     let s = c .before .before .before in
     let l = c .before .loop in
-    let e : l .i ≡ depth = omega arith in
+    let e : l .i ≡ storeDepth = omega arith in
     sym (new-none (s .args .p) (s .pre) (s .args .t1) (l .inv .1) (rw (c .before .before .place .ensures, e) at (l .inv .2)))
 
 pub is-new-spec : {M : Type 1} → statement M

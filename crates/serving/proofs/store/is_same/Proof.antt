@@ -4,16 +4,16 @@ use Prim.Native.Nat.{_≤_, _-_}
 use native.Mathlib.Omega.{arith}
 use lib.ListN.{length}
 use borrow.Author.Needs.{needs}
-use Rattle.calendar.specs.Layout.{depth}
+use Rattle.plan.specs.Packed.{storeDepth}
 use Rattle.serving.proofs.StoreLaws.{sameFrom, same-past, same-no, same-end, same-on}
 use Rattle.serving.proofs.store.is_same.Statement.{statement}
 use Rattle.serving.proofs.store.is_same.Tie as tie
 
 abbrev Inv-loop : tie.InvT-loop
-Inv-loop a b i₀ i = (i ≤ depth) × (length a ≡ depth) × (length b ≡ depth) × (sameFrom a b i ≡ sameFrom a b 0)
+Inv-loop a b i₀ i = (i ≤ storeDepth) × (length a ≡ storeDepth) × (length b ≡ storeDepth) × (sameFrom a b i ≡ sameFrom a b 0)
 
 abbrev μ-loop : tie.MeasureT-loop
-μ-loop a b i₀ i = depth - i
+μ-loop a b i₀ i = storeDepth - i
 
 returns : tie.Need-returns Inv-loop μ-loop
 returns c =

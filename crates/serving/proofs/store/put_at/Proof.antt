@@ -4,17 +4,17 @@ use Prim.Native.Nat.{_≤_, _-_}
 use native.Mathlib.Omega.{arith}
 use lib.ListN.{length, length-set}
 use borrow.Author.Needs.{needs}
-use Rattle.calendar.specs.Layout.{depth}
+use Rattle.plan.specs.Packed.{storeDepth}
 use Rattle.serving.specs.Stored.{putAt}
 use Rattle.serving.proofs.StoreLaws.{carried-on, dropped}
 use Rattle.serving.proofs.store.put_at.Statement.{statement}
 use Rattle.serving.proofs.store.put_at.Tie as tie
 
 abbrev Inv-loop : tie.InvT-loop
-Inv-loop at more₀ carried₀ i₀ more carried i = (i ≤ depth) × (length more ≡ depth) × (putAt i carried more ≡ putAt at carried₀ more₀)
+Inv-loop at more₀ carried₀ i₀ more carried i = (i ≤ storeDepth) × (length more ≡ storeDepth) × (putAt i carried more ≡ putAt at carried₀ more₀)
 
 abbrev μ-loop : tie.MeasureT-loop
-μ-loop at more₀ carried₀ i₀ more carried i = depth - i
+μ-loop at more₀ carried₀ i₀ more carried i = storeDepth - i
 
 loop-again : tie.Need-loop-again Inv-loop μ-loop
 loop-again c =
@@ -27,4 +27,4 @@ put-at-spec =
     tie.close
     (tie.spec Inv-loop μ-loop (λ c. (omega (arith, c .pre), c .good .0 .1 .0 .1, refl)) (search needs) (search needs) (search needs) (search needs) (search needs)
     (search needs) loop-again
-    (λ c. let l = c .before .loop in let e : l .i ≡ depth = omega arith in dropped depth (l .carried) (l .more) (l .inv .1) ∙ rw (rw e at (l .inv .2))))
+    (λ c. let l = c .before .loop in let e : l .i ≡ storeDepth = omega arith in dropped storeDepth (l .carried) (l .more) (l .inv .1) ∙ rw (rw e at (l .inv .2))))
