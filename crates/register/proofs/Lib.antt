@@ -24,3 +24,4 @@ pub mod Named
 pub mod Regular
 pub mod Theorem
 pub mod JustSet
+pub mod Depth

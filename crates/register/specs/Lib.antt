@@ -5,3 +5,4 @@ pub mod Cluster
 pub mod Reading
 pub mod Regular
 pub mod Promise
+pub mod Depth
