@@ -2,4 +2,5 @@ pub mod Opened
 pub mod Starred
 pub mod NotEmpty
 pub mod JustSet
+pub mod Depth
 pub mod Packed

@@ -73,7 +73,7 @@ unfolding judged Decimal.digitsWithin Decimal.decimalOf Text.lineWith Text.lineO
 lines = 0
 
 cases : ℕ
-unfolding lines S.k-one S.k-two S.period-short S.five S.four S.six S.five-two S.no-reads S.one-read S.written S.takeover S.just-set S.just-written S.from-the-start S.reads-one
+unfolding lines S.k-one S.k-two S.period-short S.five S.four S.six S.five-two S.no-reads S.one-read S.written S.takeover S.six-writes S.last-five S.just-set S.just-written S.from-the-start S.reads-one
 cases = 0
 
 unfoldable pub opened : List ℕ → Check.Outcome ℕ

@@ -1,5 +1,5 @@
--- The starred cases of document 01 ('Rehearsed cases') and a case of document 02, from the bytes: the plans, all of form one, each as the number
--- that its bytes are, and tables of what holds of them.
+-- The starred cases of document 01 ('Rehearsed cases') with that of document 02, and a case beside them, from the bytes: the plans, all of form one,
+-- each as the number that its bytes are, and tables of what holds of them.
 use mathlib.Core.Path.{_≡_}
 use mathlib.Core.Bool.{Bool, true, false}
 use mathlib.Core.List.{List, [], _∷_, _++_}
@@ -13,7 +13,7 @@ use Rattle.plan.specs.Header.{headerOf, kIn}
 use Rattle.plan.specs.Packed.{planOf}
 use Rattle.plan.specs.Check.{Outcome, refused, result, checkOf, checkIn}
 use Rattle.answers.specs.Answers.{answersOf}
-use Rattle.simulator.specs.Look.{is-cured, is-correct, Shown, shownBy}
+use Rattle.simulator.specs.Look.{is-cured, is-correct, Stamped, Shown, shownBy}
 use Rattle.simulator.specs.Judge.{readOf, judgeOf}
 use Rattle.lines.specs.Text.{textOf}
 use Rattle.pack.specs.Pack.{Packed}
@@ -73,6 +73,17 @@ takeover =
     hex 60 0x2a2110400070100080004000000002404444044044404440440444404044444004444440044444000444404404440444044044440404444400444444
     ++ (hex 54 0x004444400044440440444044404404444040444440044444400444440004444044044404440440444404044444004444440044444000)
 
+-- n = 5, f = 1, δ = 1, Δ = 2, s = 1, H = 14, start value 7, values 101 to 106 written at 0, 2 .. 10, read at 11; server 0 faulty at 10, server 1 at 12
+unfoldable pub six-writes : List ℕ
+six-writes =
+    hex 60 0x2a2110e00070700000000000000000000000800040000000194100066080019c30006810001a450006a1640000044440440444044404404444040444
+    ++ (hex 60 0x440044444400444440004444044044404440440444404044444004444440044444000444404404440444044044440404444400444444004444400044
+    ++ (hex 60 0x440440444044404404444040444440044444400444440004444044044404440440444404044444004444440044444000444404404440444044044440
+    ++ (hex 60 0x404444400444444004444400044440440444044404404444040444440044444400444440004444044044404440440444404044444004444440044444
+    ++ (hex 60 0x000444404404440444044044440404444400444444004444400044440440444044404404444040444440044444400444440004444044044404440440
+    ++ (hex 60 0x444404044444004444440044444000444404404440444044044440404444400444444004444400044440440444044404404444040444440044444400
+    ++ (hex 28 0x44444000444404404440444044044440404444400444444004444400))))))
+
 -- n = 6, f = 1, δ = 2, Δ = 3: k is 2; start value 7, value 100 written at 0, which ends at 2, read at 2; server 0 faulty at 0, server 1 at 3, all
 -- delays 2
 unfoldable pub just-set : List ℕ
@@ -125,6 +136,17 @@ Holds w (judges s a o) = judgeOf w s a ≡ o
 Holds w (checks-in form s o) = checkIn form s ≡ o
 Holds w (carries from to s out p) = carryOf (widthOf from) (widthOf to) s out ≡ p
 
+-- Eight: 'a new one with six writes shows the two oldest of the seven pairs gone': (101, 1) and the start pair (7, 0)
+unfoldable pub last-five : List Stamped
+last-five =
+    record { value = 106; number = 6 } ∷
+    record { value = 105; number = 5 } ∷
+    record { value = 104; number = 4 } ∷
+    record { value = 103; number = 3 } ∷
+    record { value = 102; number = 2 } ∷
+    []
+
+-- The last five rows are Eight's: server 2 after its sixth WRITE; server 0, reset in tick 12, and the five pairs that the echoes bring it.
 unfoldable pub starred : List Row
 starred =
     checks k-one (result 0) ∷
@@ -148,6 +170,11 @@ starred =
     checks takeover (result 0) ∷
     shows takeover 0 2 (record { condition = is-cured; pairs = [] }) ∷
     shows takeover 0 3 (record { condition = is-correct; pairs = record { value = 9; number = 1 } ∷ record { value = 7; number = 0 } ∷ [] }) ∷
+    checks six-writes (result 1) ∷
+    shows six-writes 2 11 (record { condition = is-correct; pairs = last-five }) ∷
+    shows six-writes 0 12 (record { condition = is-cured; pairs = [] }) ∷
+    shows six-writes 0 13 (record { condition = is-correct; pairs = last-five }) ∷
+    answers six-writes 106 6 4 ∷
     []
 
 -- Four: 'A screen that reads in that very tick is owed the cue just set'. The last row was yes by document 01.
