@@ -54,10 +54,11 @@ extern "C" {
  * and later ones unchanged. */
 #define REGISTER_WORKSPACE 60000
 
-/* Bytes of one stamped value that look writes, in either form, and of the three that a server keeps at
- * most. */
+/* The most stamped values that a server keeps; the bytes of one that look writes, in either form, and of
+ * so many. */
+#define REGISTER_DEPTH 5
 #define REGISTER_PAIR 4
-#define REGISTER_PAIRS 12
+#define REGISTER_PAIRS 20
 
 /* What a refusal's number is added to: no other result of the functions that refuse is as large. */
 #define REGISTER_REFUSED 16777216
@@ -101,7 +102,7 @@ enum register_condition {
 };
 
 /* Looks at a server after a tick.  Returns its condition plus 4 times the number of stamped values
- * that it keeps, 0 to 3.  As many of them as fit whole stand at the start of pairs, highest first,
+ * that it keeps, 0 to 5.  As many of them as fit whole stand at the start of pairs, highest first,
  * in four bytes each: three of the value, the highest first, then its number; later bytes of pairs
  * stay.  In form one the first of the four is 0.  pairs_length may be anything; REGISTER_PAIRS has room
  * for all. */

@@ -43,7 +43,7 @@ mod seen;
 pub use answer::{answers, Answer};
 pub use draft::{Draft, Forgery, Operation, Party};
 pub use form::Form;
-pub use limits::{LONGEST_INPUT, MOST_READS, PAIRS_BYTES, PAIR_BYTES, WORKSPACE_BYTES};
+pub use limits::{DEPTH, LONGEST_INPUT, MOST_READS, PAIRS_BYTES, PAIR_BYTES, WORKSPACE_BYTES};
 pub use lists::Lists;
 pub use plan::Plan;
 pub use refusal::Refusal;

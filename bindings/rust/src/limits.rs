@@ -4,11 +4,14 @@
 /// Bytes of workspace that [`play`](crate::play) and [`look`](crate::look) ask for.
 pub const WORKSPACE_BYTES: usize = 60_000;
 
+/// The most stamped values that a server keeps.
+pub const DEPTH: usize = 5;
+
 /// Bytes of one stamped value that [`look_into`](crate::look_into) writes, in either form.
 pub const PAIR_BYTES: usize = 4;
 
 /// Bytes of all stamped values that a server keeps, at most.
-pub const PAIRS_BYTES: usize = 3 * PAIR_BYTES;
+pub const PAIRS_BYTES: usize = DEPTH * PAIR_BYTES;
 
 /// Bytes of a plan worth reading: one more than any header implies in either form. What follows them
 /// changes nothing, as the plan is refused for its header or its length by then.
@@ -69,6 +72,7 @@ mod tests {
         assert_eq!(LONGEST_INPUT, defined("REGISTER_LONGEST_INPUT"));
         assert_eq!(MOST_READS, defined("REGISTER_MOST_READS"));
         assert_eq!(WORKSPACE_BYTES, defined("REGISTER_WORKSPACE"));
+        assert_eq!(DEPTH, defined("REGISTER_DEPTH"));
         assert_eq!(PAIR_BYTES, defined("REGISTER_PAIR"));
         assert_eq!(PAIRS_BYTES, defined("REGISTER_PAIRS"));
     }

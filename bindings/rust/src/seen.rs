@@ -2,7 +2,7 @@
 
 use std::fmt;
 
-use crate::limits::{PAIRS_BYTES, PAIR_BYTES};
+use crate::limits::{DEPTH, PAIRS_BYTES, PAIR_BYTES};
 
 /// The state of a server.
 #[derive(Clone, Copy, Debug, PartialEq, Eq, Hash)]
@@ -40,12 +40,12 @@ pub struct Seen {
     /// Its state.
     pub condition: Condition,
     count: usize,
-    kept: [Stamped; PAIRS_BYTES / PAIR_BYTES],
+    kept: [Stamped; DEPTH],
 }
 
 impl Seen {
     pub(crate) fn of(condition: Condition, count: usize, pairs: [u8; PAIRS_BYTES]) -> Self {
-        let mut kept = [Stamped::default(); PAIRS_BYTES / PAIR_BYTES];
+        let mut kept = [Stamped::default(); DEPTH];
         for (kept, pair) in kept.iter_mut().zip(pairs.chunks_exact(PAIR_BYTES)) {
             let value = u32::from_be_bytes([0, pair[0], pair[1], pair[2]]);
             *kept = Stamped { value, number: pair[3] };
@@ -53,7 +53,8 @@ impl Seen {
         Seen { condition, count, kept }
     }
 
-    /// The stamped values that the server keeps, highest first; a faulty server shows none.
+    /// The stamped values that the server keeps, highest first, at most [`DEPTH`]; a faulty server
+    /// shows none.
     pub fn kept(&self) -> &[Stamped] {
         &self.kept[..self.count]
     }

@@ -2,12 +2,12 @@
 
 use register::{
     answers, check, judge, look, look_into, play, Answer, Condition, Form, Lists, Plan, Refusal,
-    Stamped, LONGEST_INPUT, PAIRS_BYTES, PAIR_BYTES, WORKSPACE_BYTES,
+    Stamped, DEPTH, LONGEST_INPUT, PAIRS_BYTES, PAIR_BYTES, WORKSPACE_BYTES,
 };
 
 use crate::plans::{
     bits_of, bytes_of, changed, flipped, in_form, packed, refused_plans, value_bits, BEFORE,
-    CONCURRENT, FIRST, JUST_SET, RECOVERY, TAKEOVER, TOO_FEW,
+    CONCURRENT, FIRST, JUST_SET, RECOVERY, SIX_WRITES, TAKEOVER, TOO_FEW,
 };
 use crate::{played, workspace};
 
@@ -26,6 +26,7 @@ fn answers_of_the_examples() {
         (RECOVERY, vec![answer(9, 1, 100, 1, 4)]),
         (CONCURRENT, vec![answer(5, 1, 101, 2, 4), answer(5, 2, 101, 2, 4)]),
         (JUST_SET, vec![answer(2, 1, 100, 1, 4)]),
+        (SIX_WRITES, vec![answer(11, 1, 106, 6, 4)]),
     ];
     for form in Form::ALL {
         for (example, wanted) in &wanted {
@@ -90,6 +91,24 @@ fn a_server_recovers() {
             assert_eq!(seen(4), (Condition::Cured, vec![]));
             assert_eq!(seen(6), (Condition::Correct, kept));
         }
+    }
+}
+
+/// six-writes.plan: a full store drops its lowest pair, and a server that is reset learns as many again.
+#[test]
+fn the_last_five_are_kept() {
+    for form in Form::ALL {
+        let plan = in_form(form, SIX_WRITES);
+        let seen = |server, tick| {
+            let seen = look(form, &plan, &mut workspace(), server, tick).unwrap();
+            (seen.condition, seen.kept().iter().map(|kept| kept.number).collect::<Vec<_>>())
+        };
+        assert_eq!(seen(2, 7), (Condition::Correct, vec![4, 3, 2, 1, 0]));
+        assert_eq!(seen(2, 9), (Condition::Correct, vec![5, 4, 3, 2, 1]));
+        assert_eq!(seen(2, 11), (Condition::Correct, vec![6, 5, 4, 3, 2]));
+        assert_eq!(seen(0, 12), (Condition::Cured, vec![]));
+        assert_eq!(seen(0, 13), seen(2, 11));
+        assert_eq!(seen(0, 13).1.len(), DEPTH);
     }
 }
 
@@ -180,12 +199,12 @@ fn buffers_exact_and_longer() {
     }
 }
 
-/// The pairs of a plan in buffers of every length.
-fn pairs_in_buffers(form: Form, plan: &[u8], all: &[u8]) {
+/// The pairs of server 0 after a tick, in buffers of every length.
+fn pairs_in_buffers(form: Form, plan: &[u8], tick: usize, all: &[u8]) {
     for length in 0..PAIRS_BYTES + 2 {
         let (mut pairs, mut workspace) = ([BEFORE; PAIRS_BYTES + 2], workspace());
-        let seen = look_into(form, plan, &mut workspace, 0, 6, &mut pairs[..length]);
-        assert_eq!(seen, Ok((Condition::Correct, 2)));
+        let seen = look_into(form, plan, &mut workspace, 0, tick, &mut pairs[..length]);
+        assert_eq!(seen, Ok((Condition::Correct, all.len() / PAIR_BYTES)));
         let written = (length / PAIR_BYTES * PAIR_BYTES).min(all.len());
         assert_eq!(pairs[..written], all[..written]);
         assert!(pairs[written..].iter().all(|&byte| byte == BEFORE));
@@ -196,10 +215,12 @@ fn pairs_in_buffers(form: Form, plan: &[u8], all: &[u8]) {
 #[test]
 fn pair_buffers_of_every_length() {
     for form in Form::ALL {
-        pairs_in_buffers(form, &in_form(form, RECOVERY), &[0, 0, 100, 1, 0, 0, 7, 0]);
+        pairs_in_buffers(form, &in_form(form, RECOVERY), 6, &[0, 0, 100, 1, 0, 0, 7, 0]);
+        let last_five: Vec<u8> = (2..=6).rev().flat_map(|i| [0, 0, 100 + i, i]).collect();
+        pairs_in_buffers(form, &in_form(form, SIX_WRITES), 13, &last_five);
     }
     let wide = changed(Form::Two, RECOVERY, |lists| lists.operations[2] = 0xab_cdef);
-    pairs_in_buffers(Form::Two, &wide, &[0xab, 0xcd, 0xef, 1, 0, 0, 7, 0]);
+    pairs_in_buffers(Form::Two, &wide, 6, &[0xab, 0xcd, 0xef, 1, 0, 0, 7, 0]);
 }
 
 #[test]

@@ -8,8 +8,9 @@ pub const TAKEOVER: &[u8] = include_bytes!("../../../../examples/takeover.plan")
 pub const RECOVERY: &[u8] = include_bytes!("../../../../examples/recovery.plan");
 pub const CONCURRENT: &[u8] = include_bytes!("../../../../examples/concurrent.plan");
 pub const JUST_SET: &[u8] = include_bytes!("../../../../examples/just-set.plan");
+pub const SIX_WRITES: &[u8] = include_bytes!("../../../../examples/six-writes.plan");
 pub const TOO_FEW: &[u8] = include_bytes!("../../../../examples/too-few.plan");
-pub const ACCEPTED: [&[u8]; 7] = [
+pub const ACCEPTED: [&[u8]; 8] = [
     include_bytes!("../../../../examples/smallest.plan"),
     FIRST,
     FESTIVAL,
@@ -17,6 +18,7 @@ pub const ACCEPTED: [&[u8]; 7] = [
     RECOVERY,
     CONCURRENT,
     JUST_SET,
+    SIX_WRITES,
 ];
 
 /// What lent bytes hold before a call.
