@@ -61,6 +61,8 @@ def plans():
                                [(0, 0, 100), (4, 0, 101), (5, 1, 0), (5, 2, 0)])
     yield "just-set", packed(6, 1, 2, 3, 1, 7, 7, [{0}, {1}, set()], [(0, 0, 100), (2, 1, 0)],
                              delay=lambda tick, sender, receiver: 2)
+    yield "six-writes", packed(5, 1, 1, 2, 1, 14, 7, [set()] * 5 + [{0}, {1}],
+                               [*((2 * i, 0, 101 + i) for i in range(6)), (11, 1, 0)])
     yield "too-few", packed(4, 1, 1, 2, 1, 6, 7, [{0}, {1}, {2}], [(0, 0, 100), (3, 1, 0)])
 
 
