@@ -24,6 +24,9 @@ use plan::Plan;
 
 pub const WORKSPACE_BYTES: usize = 60_000;
 
+/// The stamped values that a server keeps, at most.
+pub const DEPTH: usize = 5;
+
 /// A refusal by its published number.
 #[derive(Clone, Copy, Debug, PartialEq, Eq, PartialOrd, Ord)]
 pub struct Refused(pub u8);
@@ -42,7 +45,7 @@ pub enum Condition {
 pub struct Seen {
     pub condition: Condition,
     pub count: usize,
-    pub kept: [Stamped; 3],
+    pub kept: [Stamped; DEPTH],
 }
 
 /// The number of reads.

@@ -1,25 +1,27 @@
 //! One server: what it keeps, and the votes that it counts.
 
 use crate::plan::Stamped;
-use crate::Condition;
+use crate::{Condition, DEPTH};
 
-/// The stamped values that a server keeps: at most three, falling.
+/// The stamped values that a server keeps, falling.
 #[derive(Clone, Copy, Default)]
 pub struct Store {
     length: u8,
-    stamped: [Stamped; 3],
+    stamped: [Stamped; DEPTH],
 }
 
 impl Store {
     pub fn of(stamped: Stamped) -> Self {
-        Store { length: 1, stamped: [stamped, Stamped::default(), Stamped::default()] }
+        let mut store = Store { length: 1, ..Store::default() };
+        store.stamped[0] = stamped;
+        store
     }
 
     pub fn kept(&self) -> &[Stamped] {
         &self.stamped[..usize::from(self.length)]
     }
 
-    /// Takes in one more and drops the lowest past three; whether anything changed.
+    /// Takes in one more and drops the lowest past the depth; whether anything changed.
     fn take_in(&mut self, new: Stamped) -> bool {
         let place = self.kept().iter().take_while(|&&kept| kept > new).count();
         if place == self.stamped.len() || self.kept().get(place) == Some(&new) {

@@ -152,6 +152,28 @@ fn a_server_recovers() {
     }
 }
 
+/// Of seven pairs the two oldest are gone, and a server that is reset learns the other five again.
+#[test]
+fn six_writes() {
+    for form in Form::ALL {
+        let mut parts = parts(form, 5, 1, 1, 2, 14);
+        parts.operations = (0..6).map(|i| write(2 * i, 101 + i as u32)).collect();
+        parts.placements = vec![0, 0, 0, 0, 0, 1, 2];
+        let plan = parts.pack();
+        let see = |server, tick| {
+            let seen = look(form.number(), &plan, &mut [1; WORKSPACE_BYTES], server, tick).unwrap();
+            let kept = seen.kept[..seen.count].iter().map(|kept| (kept.value(), kept.number()));
+            (seen.condition, kept.collect::<Vec<_>>())
+        };
+        let last_five = vec![(106, 6), (105, 5), (104, 4), (103, 3), (102, 2)];
+        let before = vec![(104, 4), (103, 3), (102, 2), (101, 1), (7, 0)];
+        assert_eq!(see(2, 7), (Condition::Correct, before));
+        assert_eq!(see(2, 11), (Condition::Correct, last_five.clone()));
+        assert_eq!(see(0, 12), (Condition::Cured, vec![]));
+        assert_eq!(see(0, 13), (Condition::Correct, last_five));
+    }
+}
+
 #[test]
 fn the_last_tick() {
     for form in Form::ALL {

@@ -1,14 +1,15 @@
 //! What the servers keep, by server and by sequence number.
 
 use plain::plan::MOST_SERVERS;
+use plain::DEPTH;
 
 use crate::sets::{each, one, Servers, NUMBERS};
 
 pub struct Stores {
     /// One more than each number that a server keeps, falling; 0 for none.
-    kept: [[u8; 3]; MOST_SERVERS],
+    kept: [[u8; DEPTH]; MOST_SERVERS],
     pub keepers: [Servers; NUMBERS],
-    /// Who keeps it, or keeps three higher ones.
+    /// Who keeps it, or has a full store of higher ones.
     settled: [Servers; NUMBERS],
     /// Nothing below the first or from the second on is kept.
     low: usize,
@@ -19,7 +20,10 @@ impl Stores {
     pub fn new(servers: Servers) -> Self {
         let mut keepers = [0; NUMBERS];
         keepers[0] = servers;
-        let kept = [[1, 0, 0]; MOST_SERVERS];
+        let mut kept = [[0; DEPTH]; MOST_SERVERS];
+        for store in &mut kept {
+            store[0] = 1;
+        }
         Stores { kept, keepers, settled: keepers, low: 0, high: 1 }
     }
 
@@ -48,24 +52,23 @@ impl Stores {
     }
 
     fn take_in_one(&mut self, number: usize, server: usize) {
-        let [first, second, third] = self.kept[server];
-        let new = number as u8 + 1;
-        let kept = if new > first {
-            [new, first, second]
-        } else if new > second {
-            [first, new, second]
-        } else {
-            [first, second, new]
-        };
-        self.kept[server] = kept;
+        let kept = &mut self.kept[server];
+        let (new, dropped) = (number as u8 + 1, kept[DEPTH - 1]);
+        let mut place = DEPTH - 1;
+        while place > 0 && kept[place - 1] < new {
+            kept[place] = kept[place - 1];
+            place -= 1;
+        }
+        kept[place] = new;
+        let lowest = kept[DEPTH - 1];
         self.keepers[number] |= one(server);
         self.settled[number] |= one(server);
         self.low = self.low.min(number);
         self.high = self.high.max(number + 1);
-        if third > 0 {
-            self.keepers[usize::from(third) - 1] &= !one(server);
+        if dropped > 0 {
+            self.keepers[usize::from(dropped) - 1] &= !one(server);
         }
-        for lower in usize::from(third)..usize::from(kept[2]) {
+        for lower in usize::from(dropped)..usize::from(lowest) {
             self.settled[lower] |= one(server);
         }
     }
@@ -80,7 +83,7 @@ impl Stores {
             self.low += 1;
         }
         for server in each(servers) {
-            self.kept[server] = [0; 3];
+            self.kept[server] = [0; DEPTH];
         }
     }
 }
