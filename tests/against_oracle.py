@@ -10,7 +10,7 @@ form one, as the vectors have there.
 
 For each plan: Check and the header's numbers; the text that the program prints (of form one), also as the
 wrapper decodes the answers; Play with lent bytes of several lengths; Looks in and out of range, with pair
-buffers of every length, and of a small plan every Look; Judge of right, altered and malformed answers;
+buffers of every length, one of them after the last tick, and of a small plan every Look; Judge of right, altered and malformed answers;
 Pack of the plan's lists, right and bent, into buffers of several lengths, where the lists of an accepted
 plan have to give its bytes and these the lists again; the plan carried to the other form, into buffers of
 several lengths, and with a value that form one has no room for.  A carried plan has to be accepted with
@@ -33,13 +33,13 @@ import sys
 sys.dont_write_bytecode = True
 
 from asked import PAIR, REQUESTS, TOP, WORKSPACE, WORKSPACES, Asked
-from oracle import Oracle
+from oracle import DEPTH, Oracle
 
 FORM_ONE, FORM_TWO = FORMS = 1, 2
 # Plans that are generated from a seed, in each form.
 KINDS = 6
 ANSWER_SIZES = 5, 6
-PAIR_BUFFERS = range(3 * PAIR + 3)
+PAIR_BUFFERS = range(DEPTH * PAIR + 3)
 FAR = (2 ** 32, 2 ** 64 - 1)
 # The highest value that a plan can be carried back with.
 NARROW = 2 ** 16 - 1
@@ -96,6 +96,7 @@ class Comparison(Asked):
         self.look(name, plan, WORKSPACE, rng.randrange(header.n), rng.randrange(header.H), PAIR_BUFFERS)
         out_of_range = rng.choice([(header.n, 0), (0, header.H), (header.n - 1, rng.choice(FAR)), (rng.choice(FAR), header.H - 1)])
         self.look(name, plan, rng.choice(WORKSPACES), *out_of_range, [rng.choice(PAIR_BUFFERS)])
+        self.look(name, plan, WORKSPACE, rng.randrange(header.n), header.H - 1, [DEPTH * PAIR])
         if header.n * header.H <= LOOKED_AT:
             self.every_look(name, plan)
         self.judge(name, plan, answers)
@@ -187,7 +188,7 @@ class Comparison(Asked):
         return (f"form {self.oracle.number}: {count['accepted'] + count['refused']} plans, {count['accepted']} accepted and "
                 f"{count['refused']} refused, and {count['of the other form']} of the other form, "
                 f"{count['of the other form accepted']} accepted; compared: {asked}; "
-                f"every Look of {count['looked at everywhere']} plans; Judge yes {count['Judge yes']}, no {count['Judge no']}; "
+                f"every Look of {count['looked at everywhere']} plans, pairs shown {self.pairs_shown()}; Judge yes {count['Judge yes']}, no {count['Judge no']}; "
                 f"refusals {self.refused('Check', 'Play', 'Look', 'Judge')}; "
                 f"lists of {count['packed again']} accepted plans packed to their bytes and read again, {count['bent']} bent lists, "
                 f"Pack done {count['Pack done']}, refusals {self.refused('Pack')}; "

@@ -67,7 +67,7 @@ class Asked:
     def __init__(self, oracle):
         self.oracle = oracle
         self.waiting, self.waiting_bytes = [], 0
-        self.counts, self.refusals = collections.Counter(), collections.Counter()
+        self.counts, self.refusals, self.shown = collections.Counter(), collections.Counter(), collections.Counter()
         self.different = 0
 
     def ask(self, name, what, letter, record, wanted, count=1):
@@ -108,6 +108,7 @@ class Asked:
         lent_workspace = bytearray(LENT[workspace])
         result = self.oracle.look(plan, lent_workspace, server, tick)
         kept = [] if self.oracle.is_refused(result) else result[1]
+        self.shown[len(kept)] += not self.oracle.is_refused(result)
         said = self.oracle.said(result, lambda seen: f"seen {seen[0]} {len(kept)}")
         for length in pair_buffers:
             fit = packed_pairs(kept)[:length // PAIR * PAIR]
@@ -120,6 +121,7 @@ class Asked:
         for tick, server, condition, kept in seen:
             shown = [tick, server, condition, *(number for pair in kept for number in pair)]
             text += " ".join(map(str, shown)) + "|"
+            self.shown[len(kept)] += 1
         self.counts["looked at everywhere"] += 1
         self.ask(name, "Look", b"t", string(plan), text, count=len(seen))
 
@@ -167,6 +169,10 @@ class Asked:
         if self.different <= MOST_SHOWN:
             got, wanted = repr(got)[:SHOWN], repr(wanted)[:SHOWN]
             print(f"form {self.oracle.number}, {about}: got {got}, wanted {wanted}", flush=True)
+
+    def pairs_shown(self):
+        """How many servers looked at, each after a tick, show so many pairs."""
+        return ", ".join(f"{pairs}: {count}" for pairs, count in sorted(self.shown.items()))
 
     def refused(self, *operations):
         """How often each refusal came from these operations."""

@@ -37,7 +37,7 @@ import sys
 
 sys.dont_write_bytecode = True
 
-from oracle import FORM_ONE, FORM_TWO, Oracle, kept, lent, write
+from oracle import DEPTH, FORM_ONE, FORM_TWO, Oracle, kept, lent, write
 
 LOOKED_AT = 120
 SMALL_BYTES = 2_500
@@ -120,6 +120,23 @@ def around_a_write_end(oracle):
                 yield oracle.built(n=n, f=1, delta=delta, Delta=period, H=ticks, start=start, delay=delta,
                                    held=[[i % n] for i in range(ticks)], ops=operations,
                                    forge=[(begin, sender, n + 1, values[0], 1)])
+
+
+def of_many_writes(oracle):
+    """Around as many writes as a store keeps pairs: with one server, and for both k with another server taken
+    over in each period, which the echoes bring all pairs again and which forges one that is dropped in time."""
+    start, step = VALUES[oracle.number][0], 1 if oracle.number == FORM_ONE else 2 ** 16
+    for delta, period, n, f in ((1, 63, 1, 0), (1, 2, 5, 1), (1, 1, 6, 1), (2, 4, 5, 1)):
+        for writes in range(DEPTH - 2, DEPTH + 4):
+            last = (writes - 1) * (delta + 1)
+            ticks, read = last + 3 * delta + 1, last + delta
+            if n * ticks > LOOKED_AT:
+                break
+            operations = [*((i * (delta + 1), 0, start + (i + 1) * step) for i in range(writes)), (read, 1, 0)]
+            forgers = {tick: tick // period % n for tick in (last, read)} if f else {}
+            yield oracle.built(n=n, f=f, delta=delta, Delta=period, H=ticks, start=start, delay=delta,
+                               held=[[i % n] if f else [] for i in range(ticks)], ops=operations,
+                               forge=[(tick, sender, (sender + 1) % n, start + step, 1) for tick, sender in forgers.items()])
 
 
 def with_one_value(one, two):
@@ -350,8 +367,10 @@ def all_plans(folder):
     one, two = Oracle(folder), Oracle(folder, FORM_TWO)
     yield from ((one, plan, False) for plan in plans_of_form_one(one))
     yield from ((one, plan, True) for plan in around_a_write_end(one))
+    yield from ((one, plan, False) for plan in of_many_writes(one))
     yield from ((two, plan, False) for plan in plans_of_form_two(one, two))
     yield from ((two, plan, True) for plan in around_a_write_end(two))
+    yield from ((two, plan, False) for plan in of_many_writes(two))
     for oracle, plan in itertools.chain(in_the_wrong_form(one, two), in_no_form(folder, one)):
         yield oracle, plan, False
 

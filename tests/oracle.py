@@ -5,7 +5,7 @@ import os
 import sys
 from dataclasses import replace
 
-DEPTH = 3           # pairs in a store
+DEPTH = 5           # pairs in a store (request Eight)
 LOOSE = True        # request Four: a write that ends as a read begins has finished before it
 LARGEST = 2 ** 32 - 1       # number of a list
 FILLER = 165        # byte of a lent buffer
