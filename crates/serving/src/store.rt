@@ -30,12 +30,12 @@ fn put_at(kept: [Stamped; DEPTH], p: Stamped, at: usize) -> [Stamped; DEPTH]
 {
     let mut more = kept;
     let mut carried = p;
-    let mut i = at;
-    while i < DEPTH {
-        let here = more[i];
-        more[i] = carried;
+    let mut q = at;
+    while q < DEPTH {
+        let here = more[q];
+        more[q] = carried;
         carried = here;
-        i += 1;
+        q += 1;
     }
     more
 }

@@ -46,7 +46,7 @@ pub post-kept-spec : {M : Type 1} → statement M
 post-kept-spec =
     tie.close
     (tie.spec Inv-loop μ-loop
-    (λ c. let a = c .before .args in (omega arith, c .before .good .1 .1 .0 .1 .0 .1, λ q h. absurd (omega arith), kept-first (a .t3) (a .row) (a .i) _))
+    (λ c. let a = c .before .args in (omega arith, omega (arith, c .before .good .1 .1 .0 .1 .0 .1), λ q h. absurd (omega arith), kept-first (a .t3) (a .row) (a .i) _))
     (search needs) (search needs) (λ c. c .before .before .before .before .loop .inv .3 .rest .size) returns post-requires (search needs) (search needs) loop-again
     (λ c. c .before .loop .inv .3 .rest .size)
     (λ c. let l = c .before .loop in let e : l .q ≡ length (c .before .before .before .args .t3) = omega (arith, l .inv .1) in rw e at (l .inv .3)))
