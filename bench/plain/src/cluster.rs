@@ -100,7 +100,7 @@ impl<'a> Cluster<'a> {
     pub fn tick(&mut self, tick: usize) {
         self.deliver(tick);
         self.end_cures(tick);
-        if tick.is_multiple_of(self.plan.header.period) {
+        if tick % self.plan.header.period == 0 {
             self.move_agents(tick);
             self.echo(tick);
         }
