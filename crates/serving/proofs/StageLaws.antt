@@ -13,9 +13,8 @@ use borrow.Author.Tests.{lt-ltb, le-leb, lt-leb}
 use Rattle.register.specs.Lists.{sameList}
 use Rattle.register.specs.Server.{Status, faulty, cured, correct, isFaulty, isCorrect, curedAt, insert}
 use Rattle.register.proofs as register-laws
-use Rattle.calendar.specs.Bits.{bit}
 use Rattle.plan.specs.Packed.{storeDepth}
-use Rattle.calendar.specs.Layout.{sender}
+use Rattle.calendar.specs.{Bits.bit, Layout.sender}
 use Rattle.calendar.proofs.Laws.{bit-zero, bit-or}
 use Rattle.serving.specs as serving-specs
 use Rattle.serving.specs.Stored.{Plain, Said, Both}

@@ -19,8 +19,7 @@ use Rattle.cluster.specs.declared.{Cluster.Cluster, Reader.Reader}
 use Rattle.serving.specs.Bits.{sets}
 use Rattle.serving.specs.Stored.{Plain, server, absent}
 use Rattle.serving.specs.Stages.{nobody, isNew}
-use Rattle.cluster.specs.Settled.{Settled}
-use Rattle.cluster.specs.Tick.{noReader}
+use Rattle.cluster.specs.{Settled.Settled, Tick.noReader}
 use Rattle.states.specs.Way.{voteWay, replyWay, heardWay}
 
 module _ (P : Plan) where
