@@ -3,12 +3,12 @@
 use mathlib.Core.Path.{_≡_, refl, sym, _∙_}
 use mathlib.Core.List.{List, [], _∷_, _++_}
 use Prim.Native.Nat.{ℕ, suc, _+_, _/_, _%_, _^_, _≤_, _<_}
-use native.Mathlib.Nat.{lt-of-lt-of-le}
+use native.Mathlib.Nat.{lt-of-lt-of-le, zero-add}
 use native.Mathlib.Numerals.{add-one}
 use native.Mathlib.Omega.{arith}
 use lib.Dec.{lit≤}
-use lib.ListN.{length, getD, take, set, length-append}
-use lib.Seq.{sets, take-suc}
+use lib.ListN.{length, getD, take, drop, set, length-append}
+use lib.Seq.{sets, sets-eq, take-suc}
 use Rattle.decimal.specs.Decimal.{digitByte, decimalOf, mostDigits}
 use Rattle.decimal.specs.Stored.{Stored}
 use Rattle.decimal.proofs.Laws.{decimal-one, decimal-more, decimal-length}
@@ -32,6 +32,10 @@ stored-as e S = rw e at S
 
 pub stored-none : (l : List ℕ) (at : ℕ) {y : ℕ} → y ≡ at → Stored l at [] l y
 stored-none l at h = record { next-is = omega arith; bytes-are = refl }
+
+-- a row that fits, from the start on
+pub stored-first : {l a o : List ℕ} {y : ℕ} → length a ≤ length l → Stored l 0 a o y → o ≡ a ++ drop (length a) l
+stored-first {l} {a} h S = S .bytes-are ∙ rw zero-add at (sets-eq a l 0 (omega arith))
 
 -- one byte more of a row
 pub stored-more : {l m o : List ℕ} {at i y : ℕ} (bytes : List ℕ) → i < length bytes → Stored l at (take i bytes) m (at + i)

@@ -1,6 +1,7 @@
 // Decimal numbers, and other bytes, stored in a lent buffer from a place on. What does not fit the buffer is left out.
 ghost use mathlib.Core.List.{[], _∷_};
-ghost use Prim.Native.Nat.{_+_, _^_, _≤_, _<_};
+ghost use Prim.Native.Nat.{_+_, _-_, _^_, _≤_, _<_};
+ghost use lib.ListN.{length};
 ghost use Rattle.decimal.specs.Decimal.{decimalOf, mostDigits};
 ghost use Rattle.decimal.specs.Stored.{Stored};
 
@@ -39,4 +40,15 @@ pub fn put(out: &mut [u8], at: usize, n: u64) -> usize
     }
     let next = put(out, at, n / 10);
     put_byte(out, next, b'0' + (n % 10) as u8)
+}
+
+// The digits of a number, the last of them before place `end`.
+pub fn put_right(out: &mut [u8], end: usize, n: u64)
+    requires { ⌜ length (decimalOf n) ≤ end ⌝ }
+    ensures { λ _. ⌜ Stored (now (out .entry)) (end - length (decimalOf n)) (decimalOf n) (now (out .exit)) end ⌝ }
+{
+    if 10 <= n {
+        put_right(out, end - 1, n / 10);
+    }
+    put_byte(out, end - 1, b'0' + (n % 10) as u8);
 }

@@ -3,6 +3,7 @@ use mathlib.Core.List.{List, [], _∷_, _++_}
 use Prim.Native.Nat.{ℕ, _+_, _*_}
 use lib.ListN.{length, take, drop}
 use Rattle.decimal.specs.Decimal.{decimalOf}
+use Rattle.decimal.specs.Aligned.{space, lineFeed}
 use Rattle.register.specs.Plan.{Plan, Read, readEnd, valueOf, numberOf}
 use Rattle.register.specs.Reading.{Answer, answerOf}
 use Rattle.plan.specs.Form.{formOne, widthOf}
@@ -25,12 +26,6 @@ readsWord = 114 ∷ 101 ∷ 97 ∷ 100 ∷ 115 ∷ 32 ∷ []
 -- "refused "
 abbrev pub refusedWord : List ℕ
 refusedWord = 114 ∷ 101 ∷ 102 ∷ 117 ∷ 115 ∷ 101 ∷ 100 ∷ 32 ∷ []
-
-abbrev pub space : ℕ
-space = 32
-
-abbrev pub lineFeed : ℕ
-lineFeed = 10
 
 -- a number and the byte behind it
 abbrev pub numberThen : ℕ → ℕ → List ℕ

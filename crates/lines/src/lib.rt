@@ -8,10 +8,11 @@ ghost use Prim.Native.Nat.{_+_, _*_, _^_, _≤_, _<_};
 ghost use lib.ListN.{length};
 ghost use Rattle.decimal.specs.Decimal.{mostDigits};
 ghost use Rattle.decimal.specs.Stored.{Stored};
+ghost use Rattle.decimal.specs.Aligned.{lineFeed};
 ghost use Rattle.plan.specs.Packed.{planOf};
 ghost use Rattle.plan.specs.Check.{result, checkOf};
 ghost use Rattle.answers.specs.Answers.{answersOf};
-ghost use Rattle.lines.specs.Text.{programWidth, numberThen, lineFeed, linesFor};
+ghost use Rattle.lines.specs.Text.{programWidth, numberThen, linesFor};
 ghost use Rattle.lines.specs.Lines.{answerIn, lineFor};
 
 // The form of the plans that the program reads.

@@ -6,6 +6,7 @@ use Prim.Native.Nat.{ℕ, _*_, _-_, _≤_, _<_}
 use native.Mathlib.Omega.{arith}
 use lib.ListN.{length, take}
 use borrow.Author.Tests.{lt-ltb, le-ltb}
+use Rattle.decimal.specs.Aligned.{lineFeed}
 use Rattle.plan.specs.Limits.{mostReads}
 use Rattle.plan.specs.Packed.{planOf}
 use Rattle.plan.specs.Check.{Outcome, refused, result, checkOf, checkIn}
@@ -17,7 +18,7 @@ use Rattle.simulator.specs.Play.{Played, playAfter, playOf, playIn}
 use Rattle.simulator.proofs.Played.{play-plays, play-writes}
 use Rattle.codes.specs.Codes.{refusedFrom, codeOf}
 use Rattle.codes.proofs.Apart.{outcomeIn, code-apart, reads-below}
-use Rattle.lines.specs.Text.{programForm, programWidth, readsWord, refusedWord, numberThen, lineFeed, lineWith, linesFor, textAfter, textOf}
+use Rattle.lines.specs.Text.{programForm, programWidth, readsWord, refusedWord, numberThen, lineWith, linesFor, textAfter, textOf}
 
 -- what the code of Play's outcome says of the plan, where Play left answers `a`
 pub record Decided (s : List ℕ) (code : ℕ) (a : List ℕ) : Type 0 where
