@@ -53,5 +53,8 @@ module _ (w : ℕ) (a : List ℕ) (i : ℕ) where
   unfoldable pub pairIn : ℕ
   pairIn = stamped w (getD answerNumbers 2 0) (getD answerNumbers 3 0)
 
+  unfoldable pub countIn : ℕ
+  countIn = getD answerNumbers 4 0
+
   unfoldable pub zeroIn : ℕ
   zeroIn = getD answerNumbers 5 0

@@ -19,12 +19,13 @@ pub struct Choice {
     pub count: u32,
 }
 
-// An answer that is judged: the read that it is to, its pair, and the zero bit behind its count.
+// An answer: the read that it is to, its pair, how many servers named it, and the zero bit behind.
 pub struct Answer {
     pub begin: u8,
     pub reader: u8,
     pub value: u32,
     pub number: u8,
+    pub count: u8,
     pub zero: u8,
 }
 
@@ -113,6 +114,7 @@ pub fn read(answers: &[u8], width: u8, i: usize) -> Answer
         reader: bits::part(key, 0, READER_BITS) as u8,
         value: bits::part(front, 0, width as usize) as u32,
         number: bits::part(all, COUNT_BITS + ZERO_BITS, NUMBER_BITS) as u8,
+        count: bits::part(all, ZERO_BITS, COUNT_BITS) as u8,
         zero: bits::part(all, 0, ZERO_BITS) as u8,
     }
 }

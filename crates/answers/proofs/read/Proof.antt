@@ -8,7 +8,7 @@ use lib.ListN.{length, getD}
 use Rattle.bits.specs.Field.{fieldOf}
 use Rattle.register.specs.Plan.{stamped}
 use Rattle.plan.proofs.Sizes.{narrow-value}
-use Rattle.answers.specs.Answers.{answerBits, answerSize, answerAt, beginIn, readerIn, pairIn, zeroIn}
+use Rattle.answers.specs.Answers.{answerBits, answerSize, answerAt, beginIn, readerIn, pairIn, countIn, zeroIn}
 use Rattle.answers.proofs.Lengths.{answer-few, answer-inside, bits-before, bits-inside}
 use Rattle.answers.proofs.Taken.{answer-taken}
 use borrow.Author.Needs.{needs}
@@ -74,21 +74,28 @@ part-requires-5 c κs = search needs
 cast-t20 : tie.Need-cast-t20
 cast-t20 c = search needs
 
+part-requires-6 : tie.Need-part-requires-6
+part-requires-6 c κs = search needs
+
+cast-t22 : tie.Need-cast-t22
+cast-t22 c = search needs
+
 returns : tie.Need-returns
-unfolding beginIn readerIn pairIn zeroIn
+unfolding beginIn readerIn pairIn countIn zeroIn
 returns c =
-    let taken = c .before .before .before .before .before in
+    let taken = c .before .before .before .before .before .before in
     let a = taken .before .before .before .before .args in
     let same : taken .field .result ≡ fieldOf (now (a .answers)) (answerAt (a .width) (now (a .answers)) (a .i)) (answerBits (a .width)) =
     taken .field .ensures .0 ∙ rw (taken .before .before .size .ensures, taken .before .bits .ensures) in
     let e = answer-taken (a .width) (now (a .answers)) (a .i) (taken .field .result) same in
     let at : ℕ → List ℕ → ℕ = λ n l. getD l n 0 in
     record {
-      begin = c .before .before .before .before .part .ensures .0 ∙ ap (at 0) e;
-      reader = c .before .before .before .part2 .ensures .0 ∙ ap (at 1) e;
-      pair = rw (c .before .before .part3 .ensures .0, c .before .part4 .ensures .0) (ap (λ (l : List ℕ). stamped (a .width) (at 2 l) (at 3 l)) e);
-      zero-bit = c .part5 .ensures .0 ∙ ap (at 5) e;
-      value-hi = c .before .before .part3 .ensures .1;
+      begin = c .before .before .before .before .before .part .ensures .0 ∙ ap (at 0) e;
+      reader = c .before .before .before .before .part2 .ensures .0 ∙ ap (at 1) e;
+      pair = rw (c .before .before .before .part3 .ensures .0, c .before .before .part4 .ensures .0) (ap (λ (l : List ℕ). stamped (a .width) (at 2 l) (at 3 l)) e);
+      count = c .before .part5 .ensures .0 ∙ ap (at 4) e;
+      zero-bit = c .part6 .ensures .0 ∙ ap (at 5) e;
+      value-hi = c .before .before .before .part3 .ensures .1;
     }
 
 pub read-spec : {M : Type 1} → statement M
@@ -113,4 +120,6 @@ read-spec =
     cast-t18
     part-requires-5
     cast-t20
+    part-requires-6
+    cast-t22
     returns)
