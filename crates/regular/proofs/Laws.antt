@@ -1,4 +1,5 @@
--- What the regular register allows, by number: the last finished pair, and a later one whose write began by the read's end.
+-- What the regular register allows, by number: the last finished pair, and a later one whose write began by the read's end; and which write shows
+-- whether one is concurrent.
 -- What 'finished' means enters by the register's two laws alone. It stands on those and on the tables of a plan's writes.
 use mathlib.Core.Path.{_≡_, refl, sym, ap, _∙_}
 use mathlib.Core.Bool.{Bool, true, false, not, _&&_}
@@ -187,3 +188,45 @@ module _ {w : ℕ} {P : Plan} {x : Read} {values begun : List ℕ} {m last : ℕ
 
         to : T (allowed P x p) → T inside
         to t = le→leb (getD begun number 0) (readEnd P x) (by (allowed-number p t))
+
+  -- Some write is concurrent exactly where the first one behind the last finished one began by the read's end.
+  concurrent-number : T (any (concurrent P x) (P .writes)) → (j : ℕ) × (last < j) × (j < m) × (getD begun j 0 ≤ readEnd P x)
+  unfolding concurrent
+  concurrent-number t =
+      let (u, i, c) = any-in (concurrent P x) (P .writes) t in
+      let (j, z, l, y) = in-write u i in
+      let n : T (not (finished P x u)) = and-l (not (finished P x u)) (leb (u .begun) (readEnd P x)) c in
+      let b : T (leb (u .begun) (readEnd P x)) = and-r (not (finished P x u)) (leb (u .begun) (readEnd P x)) c in
+      (j, after-last j z l (rw y at n), l, leb→le (getD begun j 0) (readEnd P x) (rw y at b))
+
+  pub none-concurrent : m ≤ suc last → any (concurrent P x) (P .writes) ≡ false
+  none-concurrent h = F-eq some (not-T some (λ t. none (concurrent-number t)))
+    where
+      some : Bool
+      some = any (concurrent P x) (P .writes)
+
+      none : (j : ℕ) × (last < j) × (j < m) × (getD begun j 0 ≤ readEnd P x) → ⊥
+      none (j, l, k, b) = omega arith
+
+  pub next-concurrent : suc last < m → any (concurrent P x) (P .writes) ≡ leb (getD begun (suc last) 0) (readEnd P x)
+  unfolding concurrent
+  next-concurrent h = T-iff (any (concurrent P x) (P .writes)) inside (λ t. le→leb next (readEnd P x) (by (concurrent-number t))) from
+    where
+      next : ℕ
+      next = getD begun (suc last) 0
+
+      inside : Bool
+      inside = leb next (readEnd P x)
+
+      first : (j : ℕ) → last < j → j < m → getD begun j 0 ≤ readEnd P x → Dec (j ≡ suc last) → next ≤ readEnd P x
+      first j l k b (yes e) = rw e at b
+      first j l k b (no d) = omega (arith, begun-rises (suc last) j (omega arith) (omega arith) k)
+
+      by : (j : ℕ) × (last < j) × (j < m) × (getD begun j 0 ≤ readEnd P x) → next ≤ readEnd P x
+      by (j, l, k, b) = first j l k b (ℕ-discrete j (suc last))
+
+      from : T inside → T (any (concurrent P x) (P .writes))
+      from t =
+          let u : Write = writeAt w values begun (suc last) in
+          in-any (concurrent P x) u (P .writes) (write-in (suc last) (omega arith) h)
+          (and-i (not (finished P x u)) inside (K .found .failing (suc last) (omega arith) h) t)

@@ -1,10 +1,12 @@
-// What the regular register allows as an answer to one read.
+// What the regular register allows as an answer to one read, and whether a write is concurrent with it.
 ghost use mathlib.Core.Path.{_≡_};
+ghost use mathlib.Core.List.{List};
 ghost use Prim.Native.Nat.{ℕ, _+_, _*_, _^_, _≤_, _<_};
 ghost use lib.Dec.{leb};
 ghost use lib.ListN.{getD};
+ghost use Rattle.register.specs.Lists.{any};
 ghost use Rattle.register.specs.Plan.{Plan, Read, Write, stamped};
-ghost use Rattle.register.specs.Regular.{finished, allowed};
+ghost use Rattle.register.specs.Regular.{finished, concurrent, allowed};
 ghost use Rattle.regular.specs.Tables.{Tables, Last};
 use calendar::PLACES;
 
@@ -37,6 +39,19 @@ fn last_finished(begun: &[u8; PLACES], m: usize, delta: u8, read: u8) -> usize
         j += 1;
     }
     last
+}
+
+// Is some write concurrent with a read begun in tick `read`: did the first one that had not finished before it begin by its end?
+pub fn has_concurrent(begun: &[u8; PLACES], m: usize, delta: u8, read: u8) -> bool
+    requires { ⌜ (1 ≤ m) × (m ≤ 65) ⌝ }
+    ensures { λ r. ⌜ ((w : ℕ) (P : Plan) (x : Read) (values : List ℕ) → Tables w P values (now (begun .entry)) m → P .delta ≡ delta → x .begun ≡ read
+        → r ≡ any (concurrent P x) (P .writes)) ⌝ }
+{
+    let next = last_finished(begun, m, delta, read) + 1;
+    if m <= next {
+        return false;
+    }
+    is_begun_by_end(begun[next], delta, read)
 }
 
 // Does the regular register allow this value and number as an answer to the read?
