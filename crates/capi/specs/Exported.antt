@@ -4,7 +4,8 @@ use mathlib.Core.List.{List}
 use Prim.Native.Nat.{ℕ}
 use Rattle.lists.specs.Lists.{Lists}
 use Rattle.plan.specs.Form.{isForm, widthOf}
-use Rattle.pack.specs.Pack.{Packed, packIn}
+use Rattle.plan.specs.Buffer.{Buffered}
+use Rattle.pack.specs.Pack.{packIn}
 use Rattle.answers.specs.Answers.{answerSize}
 use Rattle.simulator.specs.Play.{Played, playIn}
 use Rattle.codes.specs.Codes.{codeOf}
@@ -25,7 +26,7 @@ pub record Written : Type 0 where
   pub code : ℕ
   pub out : List ℕ
 
-abbrev pub writtenBy : Packed → Written
+abbrev pub writtenBy : Buffered → Written
 writtenBy x = record { code = codeOf (x .outcome); out = x .out }
 
 -- Pack in a form

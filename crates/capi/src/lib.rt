@@ -71,7 +71,7 @@ pub extern "C" fn register_pack(
     ensures { λ r. ⌜ record { code = r; out = now (out .exit) } ≡ packExported form
         (listsFrom (now (header .entry)) (now (placements .entry)) (now (operations .entry)) (now (forgeries .entry)) (now (delays .entry))) (now (out .entry)) ⌝ }
 {
-    codes::of_pack(pack::pack(form, header, placements, operations, forgeries, delays, out))
+    codes::of_output(pack::pack(form, header, placements, operations, forgeries, delays, out))
 }
 
 // The number of bytes of the plan of form one carried to form two, at the start of `out`.
@@ -79,7 +79,7 @@ pub extern "C" fn register_pack(
 pub extern "C" fn register_carry(plan: &[u8], out: &mut [u8]) -> usize
     ensures { λ r. ⌜ record { code = r; out = now (out .exit) } ≡ writtenBy (carryOf (widthOf formOne) (widthOf formTwo) (now (plan .entry)) (now (out .entry))) ⌝ }
 {
-    codes::of_carry(carry::carry(plan, out))
+    codes::of_output(carry::carry(plan, out))
 }
 
 // The same on the way back, from form two to form one.
@@ -87,7 +87,7 @@ pub extern "C" fn register_carry(plan: &[u8], out: &mut [u8]) -> usize
 pub extern "C" fn register_carry_back(plan: &[u8], out: &mut [u8]) -> usize
     ensures { λ r. ⌜ record { code = r; out = now (out .exit) } ≡ writtenBy (carryOf (widthOf formTwo) (widthOf formOne) (now (plan .entry)) (now (out .entry))) ⌝ }
 {
-    codes::of_carry(carry::carry_back(plan, out))
+    codes::of_output(carry::carry_back(plan, out))
 }
 
 // A field of answer i: 0 begin, 1 reader, 2 value, 3 number, 4 count. 0 where there is no such form, answer or field.

@@ -6,23 +6,16 @@ ghost use mathlib.Core.Bool.{true};
 ghost use mathlib.Core.List.{_++_};
 ghost use Prim.Native.Nat.{_≤_};
 ghost use lib.ListN.{length, drop};
-ghost use Rattle.plan.specs.{Form.formOne, Form.formTwo, Form.isForm, Form.widthOf, Form.mostWidth, Header.headerOf, Playable.Playable, Shape.shape, Shape.Sized};
-ghost use Rattle.pack.specs.Pack.{packInto};
+ghost use Rattle.plan.specs.{Form.formOne, Form.formTwo, Form.isForm, Form.widthOf, Form.mostWidth, Header.headerOf, Playable.Playable, Buffer.intoBuffer, Shape.shape, Shape.Sized, Numbered.output};
 ghost use Rattle.carrying.specs.Carrying.{carriedPlan, valuesFit, carryTests, carryOf};
-ghost use Rattle.carry.specs.Numbered.{carried};
 use moving::Places;
 use plan::Checked;
+use plan::Output;
 use plan::Refusal;
 use plan::forgeries::Forged;
 use plan::form;
 use plan::header::Shape;
 use plan::operations::Operation;
-
-// What carrying returns: the number of bytes written, or the first refusal that applies.
-pub enum Carried {
-    Bytes(usize),
-    Refused(Refusal),
-}
 
 // The header of a plan in the other form.
 fn with_width(h: Shape, width: u8) -> Shape
@@ -54,44 +47,44 @@ fn write(out: &mut [u8], plan: &[u8], h: Shape, width: u8)
 }
 
 // A plan that passed Check, from values of some width to values of another.
-fn carry_at(plan: &[u8], had: u8, wanted: u8, out: &mut [u8]) -> Carried
+fn carry_at(plan: &[u8], had: u8, wanted: u8, out: &mut [u8]) -> Output
     requires { ⌜ Playable had (now plan) × (had ≤ mostWidth) × (wanted ≤ mostWidth) ⌝ }
-    ensures { λ r. ⌜ record { outcome = carried r; out = now (out .exit) } ≡ packInto (carriedPlan had wanted (now (plan .entry))) (now (out .entry))
+    ensures { λ r. ⌜ record { outcome = output r; out = now (out .exit) } ≡ intoBuffer (carriedPlan had wanted (now (plan .entry))) (now (out .entry))
         (carryTests had wanted (now (plan .entry)) (length (now (out .entry)))) ⌝ }
 {
     let h = Shape::read(plan, had);
     if !values::all_fit(plan, h, wanted) {
-        return Carried::Refused(Refusal::ValueTooWide);
+        return Output::Refused(Refusal::ValueTooWide);
     }
     let size = with_width(h, wanted).bytes();
     if out.len() < size {
-        return Carried::Refused(Refusal::CarriedShort);
+        return Output::Refused(Refusal::CarriedShort);
     }
     write(out, plan, h, wanted);
-    Carried::Bytes(size)
+    Output::Bytes(size)
 }
 
-fn carry_between(from: usize, to: usize, plan: &[u8], out: &mut [u8]) -> Carried
+fn carry_between(from: usize, to: usize, plan: &[u8], out: &mut [u8]) -> Output
     requires { ⌜ isForm from ≡ true ⌝ }
-    ensures { λ r. ⌜ record { outcome = carried r; out = now (out .exit) } ≡ carryOf (widthOf from) (widthOf to) (now (plan .entry)) (now (out .entry)) ⌝ }
+    ensures { λ r. ⌜ record { outcome = output r; out = now (out .exit) } ≡ carryOf (widthOf from) (widthOf to) (now (plan .entry)) (now (out .entry)) ⌝ }
 {
     let checked = checks::check(from, plan);
     match checked {
-        Checked::Refused(why) => Carried::Refused(why),
+        Checked::Refused(why) => Output::Refused(why),
         Checked::Reads(_reads) => carry_at(plan, form::width(from), form::width(to), out),
     }
 }
 
 // From form one to form two.
-pub fn carry(plan: &[u8], out: &mut [u8]) -> Carried
-    ensures { λ r. ⌜ record { outcome = carried r; out = now (out .exit) } ≡ carryOf (widthOf formOne) (widthOf formTwo) (now (plan .entry)) (now (out .entry)) ⌝ }
+pub fn carry(plan: &[u8], out: &mut [u8]) -> Output
+    ensures { λ r. ⌜ record { outcome = output r; out = now (out .exit) } ≡ carryOf (widthOf formOne) (widthOf formTwo) (now (plan .entry)) (now (out .entry)) ⌝ }
 {
     carry_between(form::ONE, form::TWO, plan, out)
 }
 
 // And back.
-pub fn carry_back(plan: &[u8], out: &mut [u8]) -> Carried
-    ensures { λ r. ⌜ record { outcome = carried r; out = now (out .exit) } ≡ carryOf (widthOf formTwo) (widthOf formOne) (now (plan .entry)) (now (out .entry)) ⌝ }
+pub fn carry_back(plan: &[u8], out: &mut [u8]) -> Output
+    ensures { λ r. ⌜ record { outcome = output r; out = now (out .exit) } ≡ carryOf (widthOf formTwo) (widthOf formOne) (now (plan .entry)) (now (out .entry)) ⌝ }
 {
     carry_between(form::TWO, form::ONE, plan, out)
 }

@@ -11,8 +11,8 @@ use borrow.Author.Tests.{le-leb, lt-leb}
 use Rattle.bits.specs.Field.{Bytes}
 use Rattle.register.proofs.Logic.{T-eq}
 use Rattle.plan.specs.Check.{Outcome, refused, result, checkOf}
-use Rattle.plan.proofs.Tests.{passed}
-use Rattle.pack.specs.Pack.{Packed, packInto}
+use Rattle.plan.specs.Buffer.{Buffered, intoBuffer}
+use Rattle.plan.proofs.{Tests.passed, Buffer.into-outcome}
 use Rattle.carrying.specs.Carrying.{carriedPlan, valuesFit, carryTests, carryAfter, carryOf}
 use Rattle.carrying.specs.Carried.{Carried}
 use Rattle.carrying.proofs.Values.{wider-fits}
@@ -23,24 +23,24 @@ use Rattle.carrying.proofs.Answers.{answers-carried}
 module _ (v w : ℕ) (s : List ℕ) where
   module _ (out : List ℕ) where
     -- what is left behind Check
-    abbrev ends : Packed
-    ends = packInto (carriedPlan v w s) out (carryTests v w s (length out))
+    abbrev ends : Buffered
+    ends = intoBuffer (carriedPlan v w s) out (carryTests v w s (length out))
 
     pub after-check : (m : ℕ) → checkOf v s ≡ result m → carryOf v w s out ≡ ends
     unfolding carryOf carryAfter
     after-check m accepted = rw accepted
 
     pub too-wide : valuesFit v w s ≡ false → ends ≡ record { outcome = refused 19; out = out }
-    unfolding carryTests packInto
+    unfolding carryTests intoBuffer
     too-wide wide = rw wide
 
     pub too-short : valuesFit v w s ≡ true → length out < length (carriedPlan v w s) → ends ≡ record { outcome = refused 20; out = out }
-    unfolding carryTests packInto
+    unfolding carryTests intoBuffer
     too-short fit short = rw (fit, lt-leb (length (carriedPlan v w s)) (length out) short)
 
     pub fills : valuesFit v w s ≡ true → length (carriedPlan v w s) ≤ length out
         → ends ≡ record { outcome = result (length (carriedPlan v w s)); out = carriedPlan v w s ++ drop (length (carriedPlan v w s)) out }
-    unfolding carryTests packInto
+    unfolding carryTests intoBuffer
     fills fit room = rw (fit, le-leb (length (carriedPlan v w s)) (length out) room)
 
   -- an accepted plan whose values fit is written, given room
@@ -50,13 +50,8 @@ module _ (v w : ℕ) (s : List ℕ) where
 
   -- a plan that is refused keeps its number
   pub keeps-refusal : (number : ℕ) → checkOf v s ≡ refused number → (out : List ℕ) → carryOf v w s out ≡ record { outcome = refused number; out = out }
-  unfolding carryOf carryAfter packInto
+  unfolding carryOf carryAfter intoBuffer
   keeps-refusal number e out = rw e
-
-  into-outcome : (t out : List ℕ) (x : Outcome ℕ) → packInto t out x .outcome ≡ x
-  unfolding packInto
-  into-outcome t out (refused number) = refl
-  into-outcome t out (result m) = refl
 
   after-result : (room m : ℕ) (x : Outcome ℕ) → carryAfter v w s room x ≡ result m
       → (reads : ℕ) × (x ≡ result reads) × (valuesFit v w s ≡ true) × (m ≡ length (carriedPlan v w s))

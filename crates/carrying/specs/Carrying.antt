@@ -9,8 +9,8 @@ use Rattle.register.specs.Plan.{stamped, valueOf, numberOf}
 use Rattle.plan.specs.Header.{Header, headerOf}
 use Rattle.plan.specs.Parts.{operationOf, forgeryOf}
 use Rattle.plan.specs.Check.{Outcome, refused, result, unless, checkOf}
+use Rattle.plan.specs.Buffer.{Buffered, intoBuffer}
 use Rattle.lists.specs.Lists.{listsOf, packedPlan}
-use Rattle.pack.specs.Pack.{Packed, packInto}
 
 -- a stamped value in the other form, 'every field keeping its number': the same value and the same number
 unfoldable pub carriedPair : ℕ → ℕ → ℕ → ℕ
@@ -38,6 +38,5 @@ module _ (v w : ℕ) (s : List ℕ) where
   carryAfter room (refused number) = refused number
   carryAfter room (result m) = carryTests room
 
-  -- 'each later operation that fills a lent buffer returns the number of bytes written .. and leaves those past them unchanged' ('One')
-  unfoldable pub carryOf : List ℕ → Packed
-  carryOf out = packInto carriedPlan out (carryAfter (length out) (checkOf v s))
+  unfoldable pub carryOf : List ℕ → Buffered
+  carryOf out = intoBuffer carriedPlan out (carryAfter (length out) (checkOf v s))

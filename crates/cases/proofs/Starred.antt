@@ -9,12 +9,11 @@ use lib.{Dec.T, Dec.eqb, Dec.eqb→eq, ListN.length}
 use Rattle.bits.specs.Layout.{records}
 use Rattle.register.specs.{Cluster.cluster, Cluster.serverOf, Lists.In, Lists.sameList, Plan.Plan, Plan.numberOf, Plan.valueOf, Reading.Answer, Reading.answerOf}
 use Rattle.register.proofs.{Logic.and-l, Logic.and-r, Lists.sameList-eq}
-use Rattle.plan.specs.{Check.Outcome, Check.checkOf, Check.checkIn, Check.refused, Check.result, Form.widthOf, Header.headerOf, Header.kIn, Packed.planOf}
+use Rattle.plan.specs.{Buffer.Buffered, Buffer.intoBuffer, Check.Outcome, Check.checkOf, Check.checkIn, Check.refused, Check.result, Form.widthOf, Header.headerOf, Header.kIn, Packed.planOf}
 use Rattle.answers.specs.Answers.{answersOf}
 use Rattle.simulator.specs.{Judge.judgeOf, Judge.readOf, Look.Condition, Look.Shown, Look.Stamped, Look.is-correct, Look.is-cured, Look.is-faulty, Look.shownBy}
 use Rattle.lines.specs.Text.{textOf}
 use Rattle.lists.specs.Lists.{listsOf, planBits, packedPlan}
-use Rattle.pack.specs.Pack.{Packed, packInto}
 use Rattle.carrying.specs.Carrying.{carriedPlan, valuesFit, carryTests, carryAfter, carryOf}
 use Rattle.cases.specs.Starred as S
 use Rattle.cases.specs.FormTwo as F
@@ -22,7 +21,7 @@ use Rattle.cases.proofs.Opened.{opened}
 
 -- the definitions that a row of form two computes with besides
 carrying : ℕ
-unfolding opened checkIn records listsOf planBits packedPlan packInto carriedPlan valuesFit carryTests carryAfter carryOf
+unfolding opened checkIn records listsOf planBits packedPlan intoBuffer carriedPlan valuesFit carryTests carryAfter carryOf
 carrying = 0
 
 opened-two : ℕ
@@ -91,15 +90,15 @@ shown-same x y h =
     let p = pairs-same (x .pairs) (y .pairs) (and-r (eqb (condition-number (x .condition)) (condition-number (y .condition))) _ h) in
     ap₂ (λ (d : Condition) (q : List Stamped). let z : Shown = record { condition = d; pairs = q } in z) c p
 
-same-packed : Packed → Packed → Bool
-same-packed x y = same-outcome eqb eqb→eq (x .outcome) (y .outcome) && sameList (x .out) (y .out)
+same-buffered : Buffered → Buffered → Bool
+same-buffered x y = same-outcome eqb eqb→eq (x .outcome) (y .outcome) && sameList (x .out) (y .out)
 
-packed-same : (x y : Packed) → T (same-packed x y) → x ≡ y
-unfolding same-packed
-packed-same x y h =
+buffered-same : (x y : Buffered) → T (same-buffered x y) → x ≡ y
+unfolding same-buffered
+buffered-same x y h =
     let e = outcome-same eqb eqb→eq (x .outcome) (y .outcome) (and-l (same-outcome eqb eqb→eq (x .outcome) (y .outcome)) _ h) in
     let d = sameList-eq (x .out) (y .out) (and-r (same-outcome eqb eqb→eq (x .outcome) (y .outcome)) _ h) in
-    ap₂ (λ (o : Outcome ℕ) (bytes : List ℕ). let z : Packed = record { outcome = o; out = bytes } in z) e d
+    ap₂ (λ (o : Outcome ℕ) (bytes : List ℕ). let z : Buffered = record { outcome = o; out = bytes } in z) e d
 
 -- the test of a row
 passes : ℕ → S.Row → Bool
@@ -117,7 +116,7 @@ passes w (S.shows s b t shown) =
     eqb (condition-number (x .condition)) (condition-number (shown .condition)) && same-pairs (x .pairs) (shown .pairs)
 passes w (S.judges s a o) = same-outcome Bool·beq verdict-same (judgeOf w s a) o
 passes w (S.checks-in form s o) = same-outcome eqb eqb→eq (checkIn form s) o
-passes w (S.carries from to s out p) = same-packed (carryOf (widthOf from) (widthOf to) s out) p
+passes w (S.carries from to s out p) = same-buffered (carryOf (widthOf from) (widthOf to) s out) p
 
 -- a row that passes holds
 row-holds : (w : ℕ) (r : S.Row) → T (passes w r) → S.Holds w r
@@ -136,7 +135,7 @@ row-holds w (S.answers s value number count) h =
 row-holds w (S.shows s b t shown) h = shown-same (shownBy w (serverOf (cluster (planOf w s) (suc t)) b)) shown h
 row-holds w (S.judges s a o) h = outcome-same Bool·beq verdict-same _ o h
 row-holds w (S.checks-in form s o) h = outcome-same eqb eqb→eq _ o h
-row-holds w (S.carries from to s out p) h = packed-same _ p h
+row-holds w (S.carries from to s out p) h = buffered-same _ p h
 
 -- all rows pass, by computation
 all-pass : ℕ → List S.Row → Bool
@@ -153,7 +152,7 @@ ended-as-begun-pass = tt
 
 -- and those of form two
 form-two-pass : T (all-pass S.twoWidth F.form-two)
-unfolding opened-two same-outcome same-packed passes all-pass
+unfolding opened-two same-outcome same-buffered passes all-pass
 form-two-pass = tt
 
 each : (w : ℕ) (rs : List S.Row) → T (all-pass w rs) → (r : S.Row) → In r rs → S.Holds w r

@@ -12,11 +12,11 @@ use Rattle.plan.specs.Form.{widthOf}
 use Rattle.plan.specs.Header.{headerOf, kIn}
 use Rattle.plan.specs.Packed.{planOf}
 use Rattle.plan.specs.Check.{Outcome, refused, result, checkOf, checkIn}
+use Rattle.plan.specs.Buffer.{Buffered}
 use Rattle.answers.specs.Answers.{answersOf}
 use Rattle.simulator.specs.Look.{is-cured, is-correct, Stamped, Shown, shownBy}
 use Rattle.simulator.specs.Judge.{readOf, judgeOf}
 use Rattle.lines.specs.Text.{textOf}
-use Rattle.pack.specs.Pack.{Packed}
 use Rattle.carrying.specs.Carrying.{carryOf}
 use Rattle.cases.specs.Hex.{hex}
 
@@ -116,7 +116,7 @@ pub data Row : Type 0 where
   shows : List ℕ → ℕ → ℕ → Shown → Row
   judges : List ℕ → List ℕ → Outcome Bool → Row
   checks-in : ℕ → List ℕ → Outcome ℕ → Row
-  carries : ℕ → ℕ → List ℕ → List ℕ → Packed → Row
+  carries : ℕ → ℕ → List ℕ → List ℕ → Buffered → Row
 
 -- Of values of w bits: its bytes; what Check returns; k; the answer bytes; the text that is printed, whole; value, number and count of the first read's answer;
 -- server b after tick t; what Judge says of answers. In forms that are named: what Check returns; what carrying it from one to another returns and leaves

@@ -17,7 +17,7 @@ refusedFrom = 2 ^ 24
 abbrev pub refusalCode : ℕ → ℕ
 refusalCode number = refusedFrom + number
 
--- of an operation that returns a number: Check and Play, of reads; Pack, of bytes
+-- of an operation that returns a number: Check and Play, of reads; those that fill a lent buffer, of bytes
 abbrev pub codeOf : Outcome ℕ → ℕ
 codeOf (refused number) = refusalCode number
 codeOf (result m) = m

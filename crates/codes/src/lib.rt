@@ -2,14 +2,11 @@
 ghost use mathlib.Core.Path.{_≡_};
 ghost use mathlib.Core.List.{[]};
 ghost use Prim.Native.Nat.{_≤_};
-ghost use Rattle.plan.specs.Numbered.{refusalNumber, numbered};
+ghost use Rattle.plan.specs.Numbered.{refusalNumber, numbered, output};
 ghost use Rattle.simulator.specs.Numbered.{played, judged, lookedAs};
-ghost use Rattle.pack.specs.Numbered.{packed};
-ghost use Rattle.carry.specs.Numbered.{carried};
 ghost use Rattle.codes.specs.Codes.{refusalCode, codeOf, verdictCode, shownCode};
-use carry::Carried;
-use pack::Packed;
 use plan::Checked;
+use plan::Output;
 use plan::Refusal;
 use simulator::judge::Judged;
 use simulator::look::Seen;
@@ -97,21 +94,11 @@ pub fn of_seen(seen: Seen) -> usize
 }
 
 // The number of bytes.
-pub fn of_pack(p: Packed) -> usize
-    ensures { λ r. ⌜ r ≡ codeOf (packed p) ⌝ }
+pub fn of_output(o: Output) -> usize
+    ensures { λ r. ⌜ r ≡ codeOf (output o) ⌝ }
 {
-    match p {
-        Packed::Bytes(m) => m,
-        Packed::Refused(why) => refusal(why),
-    }
-}
-
-// The number of bytes.
-pub fn of_carry(c: Carried) -> usize
-    ensures { λ r. ⌜ r ≡ codeOf (carried c) ⌝ }
-{
-    match c {
-        Carried::Bytes(m) => m,
-        Carried::Refused(why) => refusal(why),
+    match o {
+        Output::Bytes(m) => m,
+        Output::Refused(why) => refusal(why),
     }
 }

@@ -10,7 +10,7 @@ use borrow.Author.Tests.{le-leb, eq-eqb, eqb-true}
 use Rattle.bits.specs.{Field.fieldOf, Field.Bytes, Fill.fill, Fill.bytesFor}
 use Rattle.bits.proofs.{Packing.in-final}
 use Rattle.register.proofs.{Logic.T-eq}
-use Rattle.plan.specs.{Form.isForm, Form.widthOf, Header.headerOf, Header.headerBits, Header.bitLength, Check.Outcome, Check.refused, Check.result, Check.checkOf}
+use Rattle.plan.specs.{Form.isForm, Form.widthOf, Header.headerOf, Header.headerBits, Header.bitLength, Check.Outcome, Check.refused, Check.result, Check.checkOf, Buffer.Buffered, Buffer.intoBuffer}
 use Rattle.plan.specs.Check as check
 use Rattle.plan.proofs.Accept as accept
 use Rattle.plan.proofs.{Final.bytes-rounded}
@@ -18,7 +18,7 @@ use Rattle.lists.specs.{Lists.Lists, Lists.listed, Lists.listsOf, Lists.packedP
 use Rattle.lists.proofs.Inverse as inverse
 use Rattle.lists.proofs.Again as again
 use Rattle.lists.proofs.{Counted.reads-listed}
-use Rattle.pack.specs.{Pack.lengthsImplied, Pack.Packed, Pack.packInto, Pack.packOf, Pack.packIn, Inverse.PacksWell, Inverse.IsPacking}
+use Rattle.pack.specs.{Pack.lengthsImplied, Pack.packOf, Pack.packIn, Inverse.PacksWell, Inverse.IsPacking}
 use Rattle.pack.proofs.{Tests.Passed, Tests.tests-passed, Tests.passes-tests, Tests.outcome-tests, Tests.form-packs, Tests.no-form-packs}
 
 -- lists that fit have the lengths that the header implies
@@ -88,9 +88,9 @@ pub form-packed-well : (form : ℕ) (l : Lists) (out : List ℕ) (m : ℕ) → p
 form-packed-well form l out m e = go (isForm form) refl
   where
     go : (known : Bool) → isForm form ≡ known → (isForm form ≡ true) × PacksWell (widthOf form) l m
-    go true k = (k, packed-well (widthOf form) l out m (ap (λ (x : Packed). x .outcome) (sym (form-packs form l out k)) ∙ e))
+    go true k = (k, packed-well (widthOf form) l out m (ap (λ (x : Buffered). x .outcome) (sym (form-packs form l out k)) ∙ e))
     go false k =
-        let r : _≡_ {A = Outcome ℕ} (refused 1) (result m) = ap (λ (x : Packed). x .outcome) (sym (no-form-packs form l out k)) ∙ e in
+        let r : _≡_ {A = Outcome ℕ} (refused 1) (result m) = ap (λ (x : Buffered). x .outcome) (sym (no-form-packs form l out k)) ∙ e in
         let z : _≡_ {A = ℕ} 0 1 = cc in absurd (omega arith)
 
 -- A plan that Check accepts.
@@ -127,7 +127,7 @@ module _ (w : ℕ) (s : List ℕ) (m : ℕ) (bytes : Bytes s) (e : checkOf w s �
 
 -- 'each accepted plan is the only packing of its lists'
 pub is-packing : (w : ℕ) (s : List ℕ) (m : ℕ) → Bytes s → checkOf w s ≡ result m → IsPacking w s
-unfolding packOf packInto
+unfolding packOf intoBuffer
 is-packing w s m bytes e = record {
   packed = λ out fit. rw (passes-tests w (listsOf w s) (length out) (tests w s m bytes e (length out) fit), packs-again w s m bytes e);
   only = λ t n b f same. sym (packs-again w t n b f) ∙ ap (packedPlan w) same ∙ packs-again w s m bytes e;

@@ -11,12 +11,12 @@ use borrow.Author.Tests.{eqb-true}
 use Rattle.bits.specs.{Field.Bytes, Fill.bytesFor, Layout.fits, Writing.Wrote}
 use Rattle.bits.proofs.{Packing.fits-at, Started.fresh}
 use Rattle.plan.specs.Widths as widths
-use Rattle.plan.specs.{Form.mostWidth, Header.Header, Header.headerOf, Header.bitLength, Header.moves, Header.delayCount, Limits.impliedBytes, Shape.Ranged, Shape.Sized}
+use Rattle.plan.specs.{Form.mostWidth, Header.Header, Header.headerOf, Header.bitLength, Header.moves, Header.delayCount, Limits.impliedBytes, Buffer.intoBuffer, Shape.Ranged, Shape.Sized}
 use Rattle.plan.specs.Check as check
 use Rattle.plan.proofs.{Ranges.ranged, Sizes.sizes, Sizes.implied-few}
 use Rattle.lists.specs.{Lists.Lists, Lists.Full, Lists.listed, Lists.planBits, Lists.packedPlan}
 use Rattle.lists.proofs.Inverse as inverse
-use Rattle.pack.specs.{Pack.lengthsImplied, Pack.partTests, Pack.packTests, Pack.packInto, Pack.packOf, Numbered.partsFrom, Numbered.Listed}
+use Rattle.pack.specs.{Pack.lengthsImplied, Pack.partTests, Pack.packTests, Pack.packOf, Numbered.partsFrom, Numbered.Listed}
 
 -- equal lengths, as the test has them
 same : (a b : ℕ) (rest : Bool) → eqb a b && rest ≡ true → (a ≡ b) × (rest ≡ true)
@@ -61,10 +61,10 @@ module _ (w : ℕ) (narrow : w ≤ mostWidth) (l : Lists) (h : Header) (p : List
   -- what is left of Pack is the parts' tests, which do not look at the list of the header
   parts-left : check.headerInRange (listed l) ≡ true → check.enoughServers (listed l) ≡ true → lengthsImplied w (listed l) l ≡ true → (out : List ℕ)
       → packOf w l out
-      ≡ packInto (packedPlan w l) out (partTests w (listed l) (packedPlan w l) (partsFrom (l .placements) (l .operations) (l .forgeries) (l .delays)) (length out))
+      ≡ intoBuffer (packedPlan w l) out (partTests w (listed l) (packedPlan w l) (partsFrom (l .placements) (l .operations) (l .forgeries) (l .delays)) (length out))
   unfolding packOf packTests partTests
   parts-left r s e out = rw (p .fit, r, s, e)
 
   pub pack-parts : check.headerInRange h ≡ true → check.enoughServers h ≡ true → lengthsImplied w h l ≡ true → (out : List ℕ)
-      → packOf w l out ≡ packInto (packedPlan w l) out (partTests w h (packedPlan w l) (partsFrom (l .placements) (l .operations) (l .forgeries) (l .delays)) (length out))
+      → packOf w l out ≡ intoBuffer (packedPlan w l) out (partTests w h (packedPlan w l) (partsFrom (l .placements) (l .operations) (l .forgeries) (l .delays)) (length out))
   pack-parts r s e out = rw (p .header) (parts-left (rw (p .header) at r) (rw (p .header) at s) (rw (p .header) at e) out)

@@ -1,6 +1,6 @@
 -- The tests of Pack as facts, both ways.
 -- It stands on the definition of Pack.
-use mathlib.Core.Path.{_≡_, _∙_, refl, sym}
+use mathlib.Core.Path.{_≡_, _∙_, sym}
 use mathlib.Core.Bool.{Bool, true, false, _&&_, and-eq-true-iff}
 use mathlib.Core.List.{List}
 use Prim.Native.Nat.{ℕ, _<_}
@@ -13,11 +13,12 @@ use Rattle.plan.specs.Form.{isForm, widthOf}
 use Rattle.plan.specs.Widths as widths
 use Rattle.plan.specs.Check as check
 use Rattle.plan.specs.Check.{Outcome, refused, result, unless}
-use Rattle.plan.proofs.Tests.{passed}
+use Rattle.plan.specs.Buffer.{intoBuffer}
+use Rattle.plan.proofs.{Tests.passed, Buffer.into-outcome}
 use Rattle.lists.specs.Lists as lists
 use Rattle.lists.specs.Lists.{Lists, listed, packedPlan}
 use Rattle.lists.proofs.Inverse.{Fit}
-use Rattle.pack.specs.Pack.{lengthsImplied, partTests, packTests, packInto, packOf, packIn}
+use Rattle.pack.specs.Pack.{lengthsImplied, partTests, packTests, packOf, packIn}
 
 -- what all tests say together
 pub record Passed (w : ℕ) (l : Lists) (room : ℕ) : Type 0 where
@@ -93,11 +94,6 @@ module _ (w : ℕ) (l : Lists) where
       )
 
   -- the outcome is that of the tests
-  into-outcome : (s out : List ℕ) (x : Outcome ℕ) → packInto s out x .outcome ≡ x
-  unfolding packInto
-  into-outcome s out (refused number) = refl
-  into-outcome s out (result m) = refl
-
   pub outcome-tests : (out : List ℕ) → packOf w l out .outcome ≡ packTests w l (length out)
   unfolding packOf
   outcome-tests out = into-outcome (packedPlan w l) out (packTests w l (length out))
@@ -109,7 +105,7 @@ form-packs form l out e = rw e
 
 -- in any other it is refusal 1
 pub no-form-packs : (form : ℕ) (l : Lists) (out : List ℕ) → isForm form ≡ false → packIn form l out ≡ record { outcome = refused 1; out = out }
-unfolding packIn packInto
+unfolding packIn intoBuffer
 no-form-packs form l out e = rw e
 
 -- a test that fails with another number than 1

@@ -1,22 +1,18 @@
 -- Pack (document 02, 'One'): its result and the lent buffer, for all lists of numbers.
 use mathlib.Core.Bool.{Bool, _&&_}
-use mathlib.Core.List.{List, _++_}
+use mathlib.Core.List.{List}
 use Prim.Native.Nat.{ℕ, _*_}
 use lib.Dec.{eqb, leb}
-use lib.ListN.{length, drop}
+use lib.ListN.{length}
 use Rattle.bits.specs.Layout.{fits}
 use Rattle.plan.specs.Form.{isForm, widthOf}
 use Rattle.plan.specs.Widths.{headerWidths, placementWidths, operationWidths, forgeryWidths, delayWidths}
 use Rattle.plan.specs.Header.{Header, moves, delayCount}
 use Rattle.plan.specs.Check as check
-use Rattle.plan.specs.Check.{Outcome, refused, result, unless}
+use Rattle.plan.specs.Check.{Outcome, result, unless}
+use Rattle.plan.specs.Buffer.{Buffered, intoBuffer}
 use Rattle.lists.specs.Lists as lists
 use Rattle.lists.specs.Lists.{Lists, listed, packedPlan}
-
--- What Pack returns, and the lent bytes afterwards.
-pub record Packed : Type 0 where
-  pub outcome : Outcome ℕ
-  pub out : List ℕ
 
 -- '4 is a list whose length isn't what the header implies'
 unfoldable pub lengthsImplied : ℕ → Header → Lists → Bool
@@ -37,11 +33,6 @@ partTests w h s l room =
     (unless (leb (length s) room) 14
     (result (length s))))))
 
--- 'returns the number of bytes written .. and leaves those past them unchanged'; a refusal writes nothing
-unfoldable pub packInto : List ℕ → List ℕ → Outcome ℕ → Packed
-packInto s out (refused number) = record { outcome = refused number; out = out }
-packInto s out (result m) = record { outcome = result m; out = s ++ drop m out }
-
 module _ (w : ℕ) (l : Lists) where
   -- 'The lists must meet the same checks as a plan, under the same numbers. Here 1 never occurs, a header list of other than ten numbers ..
   -- is 2': a list that does not fit the header's ten fields
@@ -53,9 +44,9 @@ module _ (w : ℕ) (l : Lists) where
       (unless (lengthsImplied w h l) 4
       (partTests w h (packedPlan w l) l room)))
 
-  unfoldable pub packOf : List ℕ → Packed
-  packOf out = packInto (packedPlan w l) out (packTests (length out))
+  unfoldable pub packOf : List ℕ → Buffered
+  packOf out = intoBuffer (packedPlan w l) out (packTests (length out))
 
 -- Ten: '1 is a form other than one or two (when packing too)'
-unfoldable pub packIn : ℕ → Lists → List ℕ → Packed
-packIn form l out = packInto (packedPlan (widthOf form) l) out (unless (isForm form) 1 (packTests (widthOf form) l (length out)))
+unfoldable pub packIn : ℕ → Lists → List ℕ → Buffered
+packIn form l out = intoBuffer (packedPlan (widthOf form) l) out (unless (isForm form) 1 (packTests (widthOf form) l (length out)))

@@ -5,23 +5,18 @@ ghost use mathlib.Core.List.{_++_};
 ghost use Prim.Native.Nat.{_*_, _≤_};
 ghost use lib.ListN.{length, drop};
 ghost use Rattle.bits.specs.{Field.Bytes, Layout.fits, Writing.Wrote};
-ghost use Rattle.plan.specs.{Form.mostWidth, Widths.headerWidths, Widths.placementWidths, Widths.operationWidths, Widths.forgeryWidths, Widths.delayWidths, Header.headerOf, Header.moves, Header.delayCount, Limits.impliedBytes, Check.placementsStand, Check.operationsStand, Check.forgeriesStand, Check.delaysStand, Shape.shape, Shape.Ranged, Shape.Sized};
+ghost use Rattle.plan.specs.{Form.mostWidth, Widths.headerWidths, Widths.placementWidths, Widths.operationWidths, Widths.forgeryWidths, Widths.delayWidths, Header.headerOf, Header.moves, Header.delayCount, Limits.impliedBytes, Check.placementsStand, Check.operationsStand, Check.forgeriesStand, Check.delaysStand, Buffer.intoBuffer, Shape.shape, Shape.Ranged, Shape.Sized, Numbered.output};
 ghost use Rattle.lists.specs.{Lists.Full, Lists.placementsWidths, Lists.operationsWidths, Lists.forgeriesWidths, Lists.delaysWidths, Lists.planBits};
-ghost use Rattle.pack.specs.{Pack.lengthsImplied, Pack.partTests, Pack.packInto, Pack.packOf, Pack.packIn, Numbered.listsFrom, Numbered.partsFrom, Numbered.packed, Numbered.Listed};
+ghost use Rattle.pack.specs.{Pack.lengthsImplied, Pack.partTests, Pack.packOf, Pack.packIn, Numbered.listsFrom, Numbered.partsFrom, Numbered.Listed};
 use parts::forgeries;
 use parts::placements;
+use plan::Output;
 use plan::Refusal;
 use plan::forgeries::Forged;
 use plan::form;
 use plan::header::Shape;
 use plan::logic::both;
 use plan::operations::Operation;
-
-// What Pack returns: the number of bytes written, or the first refusal that applies.
-pub enum Packed {
-    Bytes(usize),
-    Refused(Refusal),
-}
 
 // Have the lists the lengths that the header implies.
 fn are_implied(
@@ -150,29 +145,29 @@ fn finish(
     forgeries: &[u32],
     delays: &[u32],
     out: &mut [u8],
-) -> Packed
+) -> Output
     requires { ⌜ Sized (h .width) (now plan) (shape h) × (shape h ≡ headerOf (h .width) (now plan))
         × Full (h .width) (shape h) (partsFrom (now placements) (now operations) (now forgeries) (now delays)) ⌝ }
-    ensures { λ r. ⌜ record { outcome = packed r; out = now (out .exit) } ≡ packInto (now (plan .entry)) (now (out .entry)) (partTests (h .width) (shape h) (now (plan .entry))
+    ensures { λ r. ⌜ record { outcome = output r; out = now (out .exit) } ≡ intoBuffer (now (plan .entry)) (now (out .entry)) (partTests (h .width) (shape h) (now (plan .entry))
         (partsFrom (now (placements .entry)) (now (operations .entry)) (now (forgeries .entry)) (now (delays .entry))) (length (now (out .entry)))) ⌝ }
 {
     if !placements_pass(plan, h, placements) {
-        return Packed::Refused(Refusal::Placement);
+        return Output::Refused(Refusal::Placement);
     }
     if !operations_pass(plan, h, operations) {
-        return Packed::Refused(Refusal::Operation);
+        return Output::Refused(Refusal::Operation);
     }
     if !forgeries_pass(plan, h, forgeries) {
-        return Packed::Refused(Refusal::Forgery);
+        return Output::Refused(Refusal::Forgery);
     }
     if !delays_pass(plan, h, delays) {
-        return Packed::Refused(Refusal::Delay);
+        return Output::Refused(Refusal::Delay);
     }
     if out.len() < plan.len() {
-        return Packed::Refused(Refusal::BufferShort);
+        return Output::Refused(Refusal::BufferShort);
     }
     copy(out, plan);
-    Packed::Bytes(plan.len())
+    Output::Bytes(plan.len())
 }
 
 // Are there ten numbers that fit the header's fields.
@@ -196,23 +191,23 @@ fn pack_at(
     forgeries: &[u32],
     delays: &[u32],
     out: &mut [u8],
-) -> Packed
+) -> Output
     requires { ⌜ width ≤ mostWidth ⌝ }
-    ensures { λ r. ⌜ record { outcome = packed r; out = now (out .exit) } ≡ packOf width
+    ensures { λ r. ⌜ record { outcome = output r; out = now (out .exit) } ≡ packOf width
         (listsFrom (now (header .entry)) (now (placements .entry)) (now (operations .entry)) (now (forgeries .entry)) (now (delays .entry))) (now (out .entry)) ⌝ }
 {
     if !is_header(header, width) {
-        return Packed::Refused(Refusal::HeaderRange);
+        return Output::Refused(Refusal::HeaderRange);
     }
     let h = Shape::of(header, width);
     if !h.is_in_range() {
-        return Packed::Refused(Refusal::HeaderRange);
+        return Output::Refused(Refusal::HeaderRange);
     }
     if !h.has_enough_servers() {
-        return Packed::Refused(Refusal::TooFewServers);
+        return Output::Refused(Refusal::TooFewServers);
     }
     if !are_implied(h, placements, operations, forgeries, delays) {
-        return Packed::Refused(Refusal::Length);
+        return Output::Refused(Refusal::Length);
     }
     let mut own = [0u8; Shape::IMPLIED_BYTES];
     write(
@@ -245,12 +240,12 @@ pub fn pack(
     forgeries: &[u32],
     delays: &[u32],
     out: &mut [u8],
-) -> Packed
-    ensures { λ r. ⌜ record { outcome = packed r; out = now (out .exit) } ≡ packIn form
+) -> Output
+    ensures { λ r. ⌜ record { outcome = output r; out = now (out .exit) } ≡ packIn form
         (listsFrom (now (header .entry)) (now (placements .entry)) (now (operations .entry)) (now (forgeries .entry)) (now (delays .entry))) (now (out .entry)) ⌝ }
 {
     if !form::is_known(form) {
-        return Packed::Refused(Refusal::TooShort);
+        return Output::Refused(Refusal::TooShort);
     }
     pack_at(
         form::width(form),

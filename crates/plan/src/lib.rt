@@ -1,4 +1,4 @@
-// The packed plan (document 01, 'The plan, packed'): its header, an operation and a forgery as values, what Check returns, and all refusals.
+// The packed plan (document 01, 'The plan, packed'): its header, an operation and a forgery as values, what Check and those that fill a lent buffer return, and all refusals.
 pub mod forgeries;
 pub mod form;
 pub mod header;
@@ -58,5 +58,11 @@ pub enum Refusal {
 // What Check returns: the number of reads of an accepted plan, or the first refusal that applies.
 pub enum Checked {
     Reads(usize),
+    Refused(Refusal),
+}
+
+// What an operation that fills a lent buffer returns: the number of bytes written, or the first refusal that applies.
+pub enum Output {
+    Bytes(usize),
     Refused(Refusal),
 }

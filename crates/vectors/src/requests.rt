@@ -68,9 +68,9 @@ fn judge(form: usize, plan: &[u8], answers: [u8; sizes::ANSWERS], request: [u8; 
 // From the plan's form to the other one.
 fn carried(form: usize, plan: &[u8], out: &mut [u8]) -> usize {
     if form == form::TWO {
-        return codes::of_carry(carry::carry_back(plan, out));
+        return codes::of_output(carry::carry_back(plan, out));
     }
-    codes::of_carry(carry::carry(plan, out))
+    codes::of_output(carry::carry(plan, out))
 }
 
 // Carry: the length of the buffer.

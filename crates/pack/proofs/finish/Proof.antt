@@ -5,9 +5,10 @@ use denote.Ref.{now}
 use borrow.Author.Tests.{not-true, not-false, le-leb, lt-leb}
 use Rattle.bits.specs.Layout.{fits}
 use Rattle.plan.specs.Check.{operationsStand}
+use Rattle.plan.specs.Buffer.{intoBuffer}
 use Rattle.plan.specs.Shape.{shape}
 use Rattle.lists.specs.Lists.{operationsWidths}
-use Rattle.pack.specs.Pack.{partTests, packInto}
+use Rattle.pack.specs.Pack.{partTests}
 use borrow.Author.Needs.{needs}
 use Rattle.pack.proofs.finish.Statement.{statement}
 use Rattle.pack.proofs.finish.Tie as tie
@@ -16,14 +17,14 @@ placements-pass-requires : tie.Need-placements-pass-requires
 placements-pass-requires c κs = search needs
 
 returns : tie.Need-returns
-unfolding partTests packInto
+unfolding partTests intoBuffer
 returns c = rw (sym (c .before .placements-pass .ensures) ∙ not-true _ (c .if1 .taken))
 
 operations-pass-requires : tie.Need-operations-pass-requires
 operations-pass-requires c κs = search needs
 
 returns-2 : tie.Need-returns-2
-unfolding partTests packInto
+unfolding partTests intoBuffer
 returns-2 c =
     rw (
       sym (c .before .before .before .placements-pass .ensures) ∙ not-false _ (c .before .before .if1 .left),
@@ -40,7 +41,7 @@ forgeries-pass-requires c κs =
     (search needs, search needs, and-eq-true-iff fit stand .0 both .1, search needs)
 
 returns-3 : tie.Need-returns-3
-unfolding partTests packInto
+unfolding partTests intoBuffer
 returns-3 c =
     rw (
       sym (c .before .before .before .before .before .placements-pass .ensures) ∙ not-false _ (c .before .before .before .before .if1 .left),
@@ -52,7 +53,7 @@ delays-pass-requires : tie.Need-delays-pass-requires
 delays-pass-requires c κs = search needs
 
 returns-4 : tie.Need-returns-4
-unfolding partTests packInto
+unfolding partTests intoBuffer
 returns-4 c =
     rw (
       sym (c .before .before .before .before .before .before .before .placements-pass .ensures) ∙ not-false _ (c .before .before .before .before .before .before .if1 .left),
@@ -62,7 +63,7 @@ returns-4 c =
     )
 
 returns-5 : tie.Need-returns-5
-unfolding partTests packInto
+unfolding partTests intoBuffer
 returns-5 c =
     rw (
       sym (c .before .before .before .before .before .before .before .before .placements-pass .ensures) ∙ not-false _ (c .before .before .before .before .before .before .before .if1 .left),
@@ -79,7 +80,7 @@ same-length : tie.Need-same-length
 same-length c = search needs
 
 returns-6 : tie.Need-returns-6
-unfolding partTests packInto
+unfolding partTests intoBuffer
 returns-6 c =
     let q = c .before .before .before .before in
     rw (

@@ -8,10 +8,10 @@ use lib.Seq.{length-take-le}
 use native.Mathlib.Omega.{arith}
 use borrow.Author.Tests.{not-true, not-false}
 use Rattle.bits.specs.{Layout.fits}
-use Rattle.plan.specs.{Form.mostWidth, Widths.headerWidths, Header.Header, Limits.impliedBytes, Check.headerInRange, Check.enoughServers, Shape.shape}
+use Rattle.plan.specs.{Form.mostWidth, Widths.headerWidths, Header.Header, Limits.impliedBytes, Check.headerInRange, Check.enoughServers, Buffer.intoBuffer, Shape.shape}
 use Rattle.plan.proofs.{Chain.found, Sizes.implied-few}
 use Rattle.lists.specs.{Lists.Lists, Lists.Full, Lists.listed, Lists.packedPlan}
-use Rattle.pack.specs.{Pack.lengthsImplied, Pack.partTests, Pack.packTests, Pack.packInto, Pack.packOf, Numbered.listsFrom, Numbered.partsFrom, Numbered.Listed}
+use Rattle.pack.specs.{Pack.lengthsImplied, Pack.partTests, Pack.packTests, Pack.packOf, Numbered.listsFrom, Numbered.partsFrom, Numbered.Listed}
 use Rattle.pack.proofs.Ready as ready
 use borrow.Author.Needs.{needs}
 use Rattle.pack.proofs.pack_at.Statement.{statement}
@@ -101,7 +101,7 @@ is-header-requires : tie.Need-is-header-requires
 is-header-requires c κs = search needs
 
 returns : tie.Need-returns
-unfolding packOf packTests packInto partTests lengthsImplied
+unfolding packOf packTests intoBuffer partTests lengthsImplied
 returns c = rw (sym (c .before .is-header .ensures) ∙ not-true _ (c .if1 .taken))
 
 of-requires : tie.Need-of-requires
@@ -111,7 +111,7 @@ is-in-range-requires : tie.Need-is-in-range-requires
 is-in-range-requires c κs = search needs
 
 returns-2 : tie.Need-returns-2
-unfolding packOf packTests packInto partTests lengthsImplied
+unfolding packOf packTests intoBuffer partTests lengthsImplied
 returns-2 c =
     let e = found (λ w h. headerInRange h) (c .before .before .of .ensures) (c .before .is-in-range .ensures) ∙ not-true _ (c .if2 .taken) in
     rw (fit1 (c .before .before .before), e)
@@ -120,7 +120,7 @@ has-enough-servers-requires : tie.Need-has-enough-servers-requires
 has-enough-servers-requires c κs = search needs
 
 returns-3 : tie.Need-returns-3
-unfolding packOf packTests packInto partTests lengthsImplied
+unfolding packOf packTests intoBuffer partTests lengthsImplied
 returns-3 c =
     let q = c .before .before in
     let e = found (λ w h. enoughServers h) (same2 q) (c .before .has-enough-servers .ensures) ∙ not-true _ (c .if3 .taken) in
@@ -133,7 +133,7 @@ are-implied-requires c κs =
     ready.listed-ranged (value2 q) (lists2 q) (header2 q) (same2 q .0) (fit2 q) (range2 q)
 
 returns-4 : tie.Need-returns-4
-unfolding packOf packTests packInto partTests lengthsImplied
+unfolding packOf packTests intoBuffer partTests lengthsImplied
 returns-4 c =
     let q = c .before .before in
     let z = q .before .before in
