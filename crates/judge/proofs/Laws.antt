@@ -1,61 +1,34 @@
--- What Judge decodes of a plan that Check accepts: the tables say the plan's reads and writes.
--- It stands on what Check accepts and on where the operations stand in the plan's bits.
-use mathlib.Core.Path.{_≡_, sym, ap}
+-- Judge behind the tests of the answers: their refusals, else the verdict.
+-- It stands on the definitions.
+use mathlib.Core.Path.{_≡_, refl}
+use mathlib.Core.Bool.{Bool, true, false}
 use mathlib.Core.List.{List}
-use Prim.Native.Nat.{ℕ, _≤_, _<_}
-use native.Mathlib.Omega.{arith}
-use lib.ListN.{getD}
-use Rattle.register.specs.Lists.{tab, allUpTo}
-use Rattle.register.specs.Plan.{Read}
-use Rattle.plan.specs as plan-specs
-use Rattle.plan.specs.Header.{Header, headerOf, placementAt, moves}
-use Rattle.plan.specs.Parts.{writesFrom, readsFrom}
-use Rattle.plan.specs.Packed.{planOf}
-use Rattle.plan.specs.Shape.{shape}
-use Rattle.plan.specs.Check.{checkOf, result}
-use Rattle.plan.proofs as plan-laws
-use Rattle.plan.proofs.Accept.{playable, reads-counted, in-range}
-use Rattle.script.specs.Operations.{opAt, noWrite, Written, ReadIn}
-use Rattle.script.proofs.Scripting.{writes-same, reads-same}
-use Rattle.simulator.specs.Judge.{readOf, answerFits}
-use Rattle.regular.specs.Tables.{Tables}
-use Rattle.judge.specs.Fitting.{fitsRead}
+use Prim.Native.Nat.{ℕ, _*_}
+use lib.Dec.{eqb}
+use lib.ListN.{length}
+use Rattle.register.specs.Lists.{allUpTo}
+use Rattle.plan.specs.Form.{widthOf}
+use Rattle.plan.specs.Check.{Outcome, refused, result, unless, checkIn}
+use Rattle.answers.specs.Answers.{answerSize}
+use Rattle.simulator.specs.Judge.{answerFits, answerAllowed, judgeAfter, judgeIn}
+use Rattle.fitting.specs.Answered.{answeredAfter, answeredIn}
 
-module _ (w : ℕ) (s : List ℕ) (m : ℕ) (e : checkOf w s ≡ result m) where
-  A : plan-specs.Playable.Playable w s
-  A = playable w s m e
+module _ (w : ℕ) (s a : List ℕ) where
+  -- the verdict on answers that are to their reads
+  abbrev pub verdictAfter : Outcome ℕ → Outcome Bool
+  verdictAfter (refused number) = refused number
+  verdictAfter (result m) = result (allUpTo m (answerAllowed w s a))
 
-  pub few-answers : m ≤ 255
-  few-answers = omega (arith, reads-counted w s m e, plan-laws.AcceptReads.few-reads w s, in-range w s A .operations-hi)
+  two-tests : (m : ℕ) (long fit : Bool) → unless long 12 (unless fit 13 (verdictAfter (result m))) ≡ verdictAfter (unless long 12 (unless fit 13 (result m)))
+  two-tests m true true = refl
+  two-tests m true false = refl
+  two-tests m false fit = refl
 
-  -- the header by value
-  module _ (x : plan-specs.declared.header.Shape.Shape) (same : shape x ≡ headerOf w s) where
-    pub delta-same : planOf w s .delta ≡ x .delta
-    unfolding planOf
-    delta-same = sym (ap (λ (h : Header). h .delta) same)
+  verdict : (o : Outcome ℕ) → judgeAfter w s a o ≡ verdictAfter (answeredAfter w s a o)
+  unfolding judgeAfter answeredAfter
+  verdict (refused number) = refl
+  verdict (result m) = two-tests m (eqb (length a) (answerSize w * m)) (allUpTo m (answerFits w s a))
 
-    -- the bit where the operations start
-    module _ (at : ℕ) (start : at ≡ placementAt w (moves (shape x))) where
-      pub write-tables : (values begun : List ℕ) (n : ℕ) → Written w (writesFrom w 1 (tab (x .operations) (opAt w s at))) (x .initial) values begun n
-          → Tables w (planOf w s) values begun n
-      unfolding planOf
-      write-tables values begun n decoded =
-          let W = rw (writes-same w s A x same at start) at decoded in
-          record {
-            initial = rw (W .first, ← same);
-            written = rw (W .first) W;
-            rising = λ i j l h. omega (arith, plan-laws.AcceptWrites.writes-apart w s A noWrite i j l h);
-          }
-
-      module _ (begun reader : List ℕ) (q : ℕ) (R : ReadIn (readsFrom (tab (x .operations) (opAt w s at))) begun reader q) where
-        read-is : (i : ℕ) → i < m → readOf (planOf w s) i ≡ record { begun = getD begun i 0; reader = getD reader i 0 }
-        read-is i l =
-            let Q = rw (reads-same w s A x same at start) at R in
-            Q .each i (omega (arith, reads-counted w s m e, Q .count))
-
-        pub read-begins : (i : ℕ) → i < m → readOf (planOf w s) i .begun ≡ getD begun i 0
-        read-begins i l = ap (λ (r : Read). r .begun) (read-is i l)
-
-        pub fits-same : (a : List ℕ) → allUpTo m (λ i. fitsRead w a i (getD begun i 0) (getD reader i 0)) ≡ allUpTo m (answerFits w s a)
-        unfolding fitsRead answerFits
-        fits-same a = plan-laws.Laws.all-same _ (answerFits w s a) m (λ i l. rw (read-is i l))
+pub form-verdict : (form : ℕ) (s a : List ℕ) → judgeIn form s a ≡ verdictAfter (widthOf form) s a (answeredIn form s a)
+unfolding judgeIn answeredIn
+form-verdict form s a = verdict (widthOf form) s a (checkIn form s)

@@ -6,14 +6,14 @@ use Prim.Native.Nat.{ℕ, _+_, _*_, _-_, _≤_, _<_}
 use native.Mathlib.Omega.{arith}
 use borrow.Author.Needs.{needs}
 use borrow.Author.Tests.{not-true, not-false}
-use lib.ListN.{length, getD}
+use lib.ListN.{length}
 use denote.Ref.{now}
 use Rattle.register.specs.Lists.{allUpTo}
 use Rattle.register.specs.Plan.{Plan}
 use Rattle.register.specs.Regular.{allowed}
 use Rattle.plan.proofs.Laws.{all-none, all-more, all-stop, all-end}
 use Rattle.script.proofs.Records.{times-more}
-use Rattle.answers.specs.Answers.{answerSize, pairIn}
+use Rattle.answers.specs.Answers.{answerSize, beginIn, pairIn}
 use Rattle.simulator.specs.Judge.{readOf}
 use Rattle.regular.specs.Tables.{Tables}
 use Rattle.judge.proofs.all_allowed.Statement.{statement}
@@ -23,32 +23,32 @@ use Rattle.judge.proofs.all_allowed.Tie as tie
 abbrev allowedAt : ℕ → Plan → List ℕ → ℕ → Bool
 allowedAt w P answers i = allowed P (readOf P i) (pairIn w answers i)
 
--- the reads of a plan begin as the table says
-abbrev Begun : Plan → List ℕ → ℕ → Type 0
-Begun P reads count = (i : ℕ) → i < count → readOf P i .begun ≡ getD reads i 0
+-- the reads of a plan begin as the answers say
+abbrev Begun : ℕ → Plan → List ℕ → ℕ → Type 0
+Begun w P answers count = (i : ℕ) → i < count → readOf P i .begun ≡ beginIn w answers i
 
-abbrev Passed : List ℕ → ℕ → List ℕ → List ℕ → ℕ → ℕ → List ℕ → ℕ → ℕ → Type 0
-Passed answers width values begun m delta reads count i =
-    (P : Plan) → Tables width P values begun m → P .delta ≡ delta → Begun P reads count → allUpTo i (allowedAt width P answers) ≡ true
+abbrev Passed : List ℕ → ℕ → List ℕ → List ℕ → ℕ → ℕ → ℕ → ℕ → Type 0
+Passed answers width values begun m delta count i =
+    (P : Plan) → Tables width P values begun m → P .delta ≡ delta → Begun width P answers count → allUpTo i (allowedAt width P answers) ≡ true
 
 abbrev Inv-loop : tie.InvT-loop
-Inv-loop answers width values begun m delta reads count i₀ i = (i ≤ count) × Passed answers width values begun m delta reads count i
+Inv-loop answers width values begun m delta count i₀ i = (i ≤ count) × Passed answers width values begun m delta count i
 
 abbrev μ-loop : tie.MeasureT-loop
-μ-loop answers width values begun m delta reads count i₀ i = count - i
+μ-loop answers width values begun m delta count i₀ i = count - i
 
 abbrev entry : tie.After-is-allowed Inv-loop μ-loop → tie.Start Inv-loop μ-loop
-entry c = c .before .before .before .before .before .before
+entry c = c .before .before .before .before .before
 
 tested : (c : tie.After-is-allowed Inv-loop μ-loop) (P : Plan)
     → Tables (entry c .args .width) P (now (entry c .args .values)) (now (entry c .args .begun)) (entry c .args .m) → P .delta ≡ entry c .args .delta
-    → Begun P (now (entry c .args .reads)) (entry c .args .count)
-    → allowedAt (entry c .args .width) P (now (entry c .args .answers)) (c .before .before .before .before .loop .i) ≡ c .is-allowed .result
+    → Begun (entry c .args .width) P (now (entry c .args .answers)) (entry c .args .count)
+    → allowedAt (entry c .args .width) P (now (entry c .args .answers)) (c .before .before .before .loop .i) ≡ c .is-allowed .result
 tested c P W d b =
-    let i = c .before .before .before .before .loop .i in
-    let is = c .before .before .read .ensures in
+    let i = c .before .before .before .loop .i in
+    let is = c .before .read .ensures in
     rw (← is .pair)
-    (sym (c .is-allowed .ensures (entry c .args .width) P (readOf P i) (is .value-hi) W d (b i (omega arith))))
+    (sym (c .is-allowed .ensures (entry c .args .width) P (readOf P i) (is .value-hi) W d (b i (omega arith) ∙ sym (is .begin))))
 
 loop-holds : tie.Need-loop-holds Inv-loop μ-loop
 loop-holds c = (search needs, λ P W d b. all-none (allowedAt (c .before .args .width) P (now (c .before .args .answers))))
@@ -65,16 +65,13 @@ read-requires c κs =
     let s = c .before .before .before in
     (inside c, omega (arith, s .pre .2, c .loop-test .taken), s .pre .3)
 
-element-copy-out-is-allowed : tie.Need-element-copy-out-is-allowed Inv-loop μ-loop
-element-copy-out-is-allowed c = search needs
-
 is-allowed-requires : tie.Need-is-allowed-requires Inv-loop μ-loop
 is-allowed-requires c κs = search needs
 
 returns : tie.Need-returns Inv-loop μ-loop
 returns c = λ P W d b.
     let a = entry (c .before) .args in
-    let l = c .before .before .before .before .before .loop in
+    let l = c .before .before .before .before .loop in
     sym (all-stop (allowedAt (a .width) P (now (a .answers))) (l .i) (a .count) (omega arith) (tested (c .before) P W d b ∙ not-true _ (c .if1 .taken)))
 
 add-i : tie.Need-add-i Inv-loop μ-loop
@@ -86,7 +83,7 @@ loop-less c = search needs
 loop-again : tie.Need-loop-again Inv-loop μ-loop
 loop-again c =
     let a = entry (c .before) .args in
-    let l = c .before .before .before .before .before .loop in
+    let l = c .before .before .before .before .loop in
     (search needs, λ P W d b. all-more (allowedAt (a .width) P (now (a .answers))) (l .i) (l .inv .1 P W d b) (tested (c .before) P W d b ∙ not-false _ (c .if1 .left)))
 
 returns-2 : tie.Need-returns-2 Inv-loop μ-loop
@@ -103,7 +100,6 @@ all-allowed-spec =
     μ-loop
     loop-holds
     read-requires
-    element-copy-out-is-allowed
     is-allowed-requires
     returns
     add-i

@@ -12,9 +12,9 @@ use Rattle.register.specs.Lists.{allUpTo}
 use Rattle.plan.proofs.Laws.{all-none, all-more, all-stop, all-end}
 use Rattle.script.proofs.Records.{times-more}
 use Rattle.answers.specs.Answers.{answerSize}
-use Rattle.judge.specs.Fitting.{fitsRead}
-use Rattle.judge.proofs.all_fit.Statement.{statement}
-use Rattle.judge.proofs.all_fit.Tie as tie
+use Rattle.fitting.specs.Fitting.{fitsRead}
+use Rattle.fitting.proofs.all_fit.Statement.{statement}
+use Rattle.fitting.proofs.all_fit.Tie as tie
 
 -- answer i fits its read
 abbrev fits : ℕ → List ℕ → List ℕ → List ℕ → ℕ → Bool

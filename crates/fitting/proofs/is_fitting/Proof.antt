@@ -1,9 +1,9 @@
 -- `is_fitting` compares three fields of an answer with its read, in the definition's order.
 use borrow.Author.Tests.{ne-eqb, eq-eqb}
-use Rattle.judge.specs.Fitting.{fitsRead}
+use Rattle.fitting.specs.Fitting.{fitsRead}
 use borrow.Author.Needs.{needs}
-use Rattle.judge.proofs.is_fitting.Statement.{statement}
-use Rattle.judge.proofs.is_fitting.Tie as tie
+use Rattle.fitting.proofs.is_fitting.Statement.{statement}
+use Rattle.fitting.proofs.is_fitting.Tie as tie
 
 read-requires : tie.Need-read-requires
 read-requires c κs = search needs
