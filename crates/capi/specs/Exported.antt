@@ -1,4 +1,4 @@
--- What C is handed by Play, by Pack and by carrying: the result as a number, and the lent bytes afterwards. Built on the operations' own definitions.
+-- What C is handed by Play and by the operations that fill a lent buffer: the result as a number, and the lent bytes afterwards. Built on the operations' own definitions.
 use mathlib.Core.Bool.{cond}
 use mathlib.Core.List.{List}
 use Prim.Native.Nat.{ℕ}

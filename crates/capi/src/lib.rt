@@ -9,6 +9,7 @@ ghost use Rattle.fields.specs.Fields.{answerField, headerField};
 ghost use Rattle.pack.specs.Numbered.{listsFrom};
 ghost use Rattle.plan.specs.Form.{formOne, formTwo, widthOf};
 ghost use Rattle.carrying.specs.Carrying.{carryOf};
+ghost use Rattle.sheet.specs.Sheet.{sheetIn};
 ghost use Rattle.capi.specs.Exported.{playExported, packExported, writtenBy, answerBytesIn};
 use plan::form;
 use plan::header::Shape;
@@ -55,6 +56,19 @@ pub extern "C" fn register_judge(form: usize, plan: &[u8], answers: &[u8]) -> us
     ensures { λ r. ⌜ r ≡ verdictCode (judgeIn form (now (plan .entry)) (now (answers .entry))) ⌝ }
 {
     codes::of_judge(judge::judge(form, plan, answers))
+}
+
+// The number of bytes of the sheet of the answers, at the start of `page`.
+#[no_mangle]
+pub extern "C" fn register_sheet(
+    form: usize,
+    plan: &[u8],
+    answers: &[u8],
+    page: &mut [u8],
+) -> usize
+    ensures { λ r. ⌜ record { code = r; out = now (page .exit) } ≡ writtenBy (sheetIn form (now (plan .entry)) (now (answers .entry)) (now (page .entry))) ⌝ }
+{
+    codes::of_output(sheet::sheet(form, plan, answers, page))
 }
 
 // The number of bytes of the plan that is packed from the lists, at the start of `out`.
