@@ -60,12 +60,7 @@ pub extern "C" fn register_judge(form: usize, plan: &[u8], answers: &[u8]) -> us
 
 // The number of bytes of the sheet of the answers, at the start of `page`.
 #[no_mangle]
-pub extern "C" fn register_sheet(
-    form: usize,
-    plan: &[u8],
-    answers: &[u8],
-    page: &mut [u8],
-) -> usize
+pub extern "C" fn register_sheet(form: usize, plan: &[u8], answers: &[u8], page: &mut [u8]) -> usize
     ensures { λ r. ⌜ record { code = r; out = now (page .exit) } ≡ writtenBy (sheetIn form (now (plan .entry)) (now (answers .entry)) (now (page .entry))) ⌝ }
 {
     codes::of_output(sheet::sheet(form, plan, answers, page))

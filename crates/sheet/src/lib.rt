@@ -1,7 +1,6 @@
 // The sheet for the booth: the answers to a plan's reads, printed on a lent page.
-ghost use mathlib.Core.Path.{_≡_};
+ghost use mathlib.Core.{Path._≡_, List.List};
 ghost use Prim.Native.Nat.{ℕ, _+_, _*_, _^_, _≤_, _<_};
-ghost use mathlib.Core.List.{List};
 ghost use lib.ListN.{length};
 ghost use Rattle.decimal.specs.Stored.{Stored};
 ghost use Rattle.plan.specs.{Form.mostWidth, Packed.planOf, Check.result, Buffer.intoBuffer, Numbered.output};
