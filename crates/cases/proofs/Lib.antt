@@ -4,3 +4,4 @@ pub mod NotEmpty
 pub mod JustSet
 pub mod Depth
 pub mod Packed
+pub mod Sheets
