@@ -12,6 +12,8 @@ program of other authorship in the folder ORACLE says it:
                        j  length of the answers (4), which of them is replaced (2), its bytes (6; in form
                           one the last is nothing)
                        c  plan bytes lent (4), nothing (8)
+                       s  page bytes lent (2), then as for j: length of the answers (2), which of them is
+                          replaced (2), its bytes (6)
                      Lent bytes hold 165; answers beyond Play's are zeros.
   FOLDER/stdout      for each plan a line `plan I in form N` (I counted from 0); a line `check reads N` or
                      `check refused N`; in form one the program's text; for an accepted plan the line
@@ -25,6 +27,9 @@ program of other authorship in the folder ORACLE says it:
                        carry  `bytes N` or `refused N`; `kept` or `changed` for the bytes behind the carried
                               plan, on a refusal for the whole buffer; the plan's bytes as hexadecimal
                               digits, of more than 300 a check sum (`shown` in oracle.py)
+                       sheet  `refused N` and `kept` or `changed` for the whole page; or `bytes N`, then the
+                              lines of the sheet as they stand on the page, then a line with `kept` or
+                              `changed` for the bytes behind them
 
 The same oracle gives the same bytes."""
 
@@ -37,6 +42,7 @@ import sys
 
 sys.dont_write_bytecode = True
 
+import sheet
 from oracle import DEPTH, FORM_ONE, FORM_TWO, Oracle, kept, lent, write
 
 LOOKED_AT = 120
@@ -47,6 +53,9 @@ LONG_BYTES = 100_000
 ROOM = 36_000               # for any carried plan
 BEYOND = 2 ** 16 - 1        # an answer that is not there: nothing is replaced
 REPLACED = 6                # bytes of a request for an answer
+SHEETS = 5                  # one plan in so many has sheets; so has each with reads around the end of a write, and with the most reads
+MOST_READS = 168
+SHEET_LINES = 24            # of the sheets that are also asked for with altered answers
 # There are no such forms; the low bits of some name one.
 NO_FORMS = 0, 3, 255, 256, 257, 258, 65_537, 65_538, 2 ** 32 + 1, 2 ** 32 + 2, 2 ** 48 - 1
 # The start value and three that are written; in form two they differ only above the bits of form one.
@@ -213,12 +222,25 @@ class Asked:
         self.add(struct.pack(">c3I", b"l", space, server, tick),
                  f"look {self.oracle.said(result, seen)} {kept(workspace)} {'changed' if is_shown else 'kept'}")
 
-    def judge(self, length, index=BEYOND, replaced=b""):
+    def given(self, length, index, replaced):
+        """So many bytes of the answers, one of them replaced."""
         given, at = self.answers + bytes(length), len(replaced) * index
         if index != BEYOND:
             given = given[:at] + replaced + given[at + len(replaced):]
-        said = self.oracle.said(self.oracle.judge(self.plan, given[:length]), lambda good: "yes" if good else "no")
+        return given[:length]
+
+    def judge(self, length, index=BEYOND, replaced=b""):
+        judged = self.oracle.judge(self.plan, self.given(length, index, replaced))
+        said = self.oracle.said(judged, lambda good: "yes" if good else "no")
         self.add(struct.pack(f">cIH{REPLACED}s", b"j", length, index, replaced), f"judge {said}")
+
+    def sheet(self, room, length, index=BEYOND, replaced=b""):
+        """The numbers of a replaced answer are printed, if it belongs to its read."""
+        buffer = lent(room)
+        result = self.oracle.sheet(self.plan, self.given(length, index, replaced), buffer)
+        said = self.oracle.said(result, lambda page: f"bytes {len(page)}\n{page.decode('ascii')}")
+        left = buffer if self.oracle.is_refused(result) else buffer[len(result):]
+        self.add(struct.pack(f">c3H{REPLACED}s", b"s", room, length, index, replaced), f"sheet {said} {kept(left)}")
 
     def carry(self, room):
         buffer = lent(room)
@@ -313,6 +335,34 @@ class Asked:
             self.carry(room)
 
 
+    def no_sheets(self):
+        """Neither on no bytes nor on many, whatever the answers are."""
+        self.sheet(0, 0)
+        self.sheet(sheet.MOST, len(self.answers) + 5)
+
+    def sheets(self, rng):
+        """On a page as long as the sheet, one byte less and none; with answers too few and too many, and altered ones."""
+        size, exact = len(self.answers), sheet.size(len(self.answers) // self.oracle.answer_bytes)
+        self.sheet(exact, size)
+        self.sheet(exact - 1, size)
+        self.sheet(0, size)
+        self.sheet(exact, size + 1)
+        if not size:
+            return
+        self.sheet(0, size - 1)
+        index = rng.randrange(size // self.oracle.answer_bytes)
+        begin, reader, value, number, count, zero = self.answer(index)
+        replaced = [(begin ^ 1 << rng.randrange(7), reader, value, number, count, zero),
+                    (begin, reader ^ 1 << rng.randrange(3), value, number, count, zero),
+                    (begin, reader, value, number, count, 1)]
+        for room, answer in zip((exact, exact - 1, exact + 9), replaced):
+            self.sheet(room, size, index, self.oracle.pack_answer(*answer))
+        if exact <= sheet.LINE * SHEET_LINES:
+            value, number, count = rng.choice([(rng.randint(0, self.oracle.highest_value), rng.randrange(256), rng.randrange(32)),
+                                               (self.oracle.highest_value, 255, 31), (0, 0, 0), (value, number, count ^ 16)])
+            self.sheet(exact + 9, size, index, self.oracle.pack_answer(begin, reader, value, number, count))
+
+
 def seen(look):
     condition, pairs = look
     return " ".join(map(str, [condition, *(x for pair in pairs for x in pair)]))
@@ -358,7 +408,13 @@ def about(oracle, index, plan, rng, each_pair):
     first = [f"plan {index} in form {oracle.number}", f"check {oracle.said(reads, lambda count: f'reads {count}')}"]
     if oracle.number == FORM_ONE:
         first += oracle.text(plan).splitlines()
-    asked, lines = about_refused(oracle, plan, rng) if oracle.is_refused(reads) else about_accepted(oracle, plan, rng, each_pair)
+    refused = oracle.is_refused(reads)
+    asked, lines = about_refused(oracle, plan, rng) if refused else about_accepted(oracle, plan, rng, each_pair)
+    has_sheets = each_pair or index % SHEETS == 0 or reads == MOST_READS
+    if has_sheets and refused:
+        asked.no_sheets()
+    elif has_sheets:
+        asked.sheets(random.Random(index))
     return asked, [*first, *lines, *asked.lines]
 
 

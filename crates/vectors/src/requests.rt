@@ -14,7 +14,12 @@ const LETTER_BITS: usize = 8;
 // Of a length, a server or a tick.
 const NUMBER_BITS: usize = 32;
 
+// Of the length of a page, and of answers that are printed on it.
+const SHORT_BITS: usize = 16;
+
 // Of the index of a replaced answer; its bytes stand behind that.
+const INDEX_AT: usize = 40;
+
 const INDEX_BITS: usize = 16;
 
 const REPLACED_AT: usize = 7;
@@ -53,16 +58,42 @@ fn look(form: usize, plan: &[u8], space: usize, server: usize, tick: usize) {
     kept(&pairs);
 }
 
-// Judge: how many bytes of the answers, which of them is replaced, and its bytes.
-fn judge(form: usize, plan: &[u8], answers: [u8; sizes::ANSWERS], request: [u8; BYTES]) {
-    let length = bits::field(&request, LETTER_BITS, NUMBER_BITS) as usize;
-    let i = bits::field(&request, LETTER_BITS + NUMBER_BITS, INDEX_BITS) as usize;
+// The answers, one of them replaced: which, and its bytes.
+fn altered(
+    form: usize,
+    answers: [u8; sizes::ANSWERS],
+    request: [u8; BYTES],
+) -> [u8; sizes::ANSWERS] {
+    let i = bits::field(&request, INDEX_AT, INDEX_BITS) as usize;
     let replaced = lent::first(&request[REPLACED_AT..], sizes::answer_bytes(form));
     let mut given = answers;
     decimal::put_all(&mut given, sizes::answer_at(form, i), replaced);
+    given
+}
+
+// Judge: how many bytes of the answers, and what is replaced in them.
+fn judge(form: usize, plan: &[u8], answers: [u8; sizes::ANSWERS], request: [u8; BYTES]) {
+    let length = bits::field(&request, LETTER_BITS, NUMBER_BITS) as usize;
+    let given = altered(form, answers, request);
     let judged = judge::judge(form, plan, lent::first(&given, length));
     word(b"judge ");
     shown::verdict(codes::of_judge(judged));
+}
+
+// Sheet: the length of the page, how many bytes of the answers, and what is replaced in them.
+fn sheet(form: usize, plan: &[u8], answers: [u8; sizes::ANSWERS], request: [u8; BYTES]) {
+    let room = bits::field(&request, LETTER_BITS, SHORT_BITS) as usize;
+    let length = bits::field(&request, LETTER_BITS + SHORT_BITS, SHORT_BITS) as usize;
+    let given = altered(form, answers, request);
+    let mut page = [lent::FILLER; sizes::PAGE];
+    let written = sheet::sheet(
+        form,
+        plan,
+        lent::first(&given, length),
+        lent::first_mut(&mut page, room),
+    );
+    word(b"sheet ");
+    shown::page(codes::of_output(written), &page);
 }
 
 // From the plan's form to the other one.
@@ -95,6 +126,9 @@ pub fn run(form: usize, plan: &[u8], answers: [u8; sizes::ANSWERS], request: [u8
     }
     if letter == b'j' {
         judge(form, plan, answers, request);
+    }
+    if letter == b's' {
+        sheet(form, plan, answers, request);
     }
     if letter == b'c' {
         carry(form, plan, a);

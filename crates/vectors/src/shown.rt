@@ -1,6 +1,8 @@
 // What is printed of results, as `codes` has them.
 use super::sizes;
 use calendar::DEPTH;
+use report::kept;
+use report::lent;
 use report::number;
 use report::refusal;
 use report::word;
@@ -34,6 +36,27 @@ pub fn verdict(code: usize) {
         return;
     }
     word(b"yes");
+}
+
+// The lines at the start of a page, and whether the bytes behind them are as they were.
+fn lines(length: usize, out: &[u8]) {
+    if out.len() < length {
+        return;
+    }
+    word(lent::first(out, length));
+    kept(&out[length..]);
+}
+
+// The number of bytes and the lines of a sheet, or the refusal.
+pub fn page(code: usize, out: &[u8]) {
+    if codes::REFUSED <= code {
+        refusal(code);
+        kept(out);
+        return;
+    }
+    word(b"bytes ");
+    number(code as u64, b"\n");
+    lines(code, out);
 }
 
 // Pair i of those that Look shows: value, number.

@@ -9,6 +9,9 @@ pub const ANSWERS: usize = 1300;
 // Room for more than the workspace.
 pub const WORKSPACE: usize = 60010;
 
+// Room for more than a sheet.
+pub const PAGE: usize = 14000;
+
 // Room for all pairs of a server.
 pub const PAIRS: usize = pairs::PAIR_BYTES * DEPTH;
 
