@@ -1,8 +1,9 @@
-/* A replicated register under mobile Byzantine faults, rehearsed from a packed plan; the packing, and
- * the carrying of a plan from one form to the other.
+/* A replicated register under mobile Byzantine faults, rehearsed from a packed plan; the packing, the
+ * carrying of a plan from one form to the other, and a sheet of the answers.
  *
  * Link with target/staticlib/libcapi.a, which `rt staticlib capi` writes.  docs/FORMATS.md has the
- * bytes of plans and answers, the lists that a plan is packed from and the numbers of the refusals.
+ * bytes of plans and answers, the lists that a plan is packed from and the numbers of the refusals,
+ * docs/SHEET.md the columns of a sheet.
  *
  * A plan and its answers are in one of two forms: a value has 16 bits in form one and 24 in form two.
  * Their bytes do not say which; the caller names the form by its number, REGISTER_FORM_ONE or
@@ -12,11 +13,11 @@
  * and not null, also where the length is 0; lent bytes that are written must overlap nothing else in
  * the same call.
  *
- * Of check, play, look, judge, pack, carry and carry_back a result of REGISTER_REFUSED or more is a
- * refusal: REGISTER_REFUSED plus its number.  A refusal leaves all lent bytes as they were.
+ * Of check, play, look, judge, sheet, pack, carry and carry_back a result of REGISTER_REFUSED or more
+ * is a refusal: REGISTER_REFUSED plus its number.  A refusal leaves all lent bytes as they were.
  *
  * Stack: play takes under 32 KB, look and pack under 38 KB, the other functions under 4 KB (measured
- * with the longest plan of each form, on x86-64).  Nothing is allocated.
+ * with the longest plan of each form, on x86-64).  Nothing is allocated.  (TODO-LANDING: sheet too?)
  * Threads: there is no global state and nothing is kept between calls.  Calls may run at once if
  * none writes to bytes that another one uses.
  */
@@ -60,6 +61,11 @@ extern "C" {
 #define REGISTER_PAIR 4
 #define REGISTER_PAIRS 20
 
+/* Bytes of one line of a sheet, its line feed among them; a sheet has three lines more than the plan has
+ * reads.  Bytes of the longest sheet, in either form. */
+#define REGISTER_LINE 81
+#define REGISTER_MOST_SHEET 13851
+
 /* What a refusal's number is added to: no other result of the functions that refuse is as large. */
 #define REGISTER_REFUSED 16777216
 
@@ -78,9 +84,11 @@ enum register_refusal {
     REGISTER_ANSWERS_SHORT = 9,     /* play: under 5 bytes for each read, in form two under 6 */
     REGISTER_WORKSPACE_SHORT = 10,  /* play, look: under 60,000 bytes */
     REGISTER_OUT_OF_RANGE = 11,     /* look: no such server or tick */
-    REGISTER_ANSWERS_LENGTH = 12,   /* judge: length other than 5 times the reads, in form two 6 times */
-    REGISTER_OTHER_READ = 13,       /* judge: begin, reader or zero bit isn't that of the read */
+    REGISTER_ANSWERS_LENGTH = 12,   /* judge, sheet: length other than 5 times the reads, in form two 6
+                                     * times */
+    REGISTER_OTHER_READ = 13,       /* judge, sheet: begin, reader or zero bit isn't that of the read */
     REGISTER_BUFFER_SHORT = 14,     /* pack: the buffer is shorter than the plan */
+    REGISTER_PAGE_SHORT = 15,       /* sheet: the page is shorter than the sheet */
     REGISTER_VALUE_TOO_WIDE = 19,   /* carry_back: a value above 65,535, initial, written or forged */
     REGISTER_CARRIED_SHORT = 20     /* carry, carry_back: the buffer is shorter than the carried plan */
 };
@@ -116,6 +124,17 @@ size_t register_look(size_t form, const uint8_t *plan, size_t plan_length,
  * did), and that of a write that ended after it and began by the read's end. */
 size_t register_judge(size_t form, const uint8_t *plan, size_t plan_length,
                       const uint8_t *answers, size_t answers_length);
+
+/* Writes answers as a sheet to pin up, a page of lines of 80 characters and a line feed each: a heading,
+ * a rule, a line for each read, an empty line.  A read's line has begin, reader, end, value, number and
+ * count, and in its last column a * exactly where some write of the plan was concurrent with the read.
+ * The answers need not be those of play; nothing is judged.  They can be read back from the page.
+ *
+ * The sheet stands at the start of page, and later bytes of page stay; REGISTER_MOST_SHEET has room for
+ * any.  Returns the number of its bytes, REGISTER_LINE for each read and for three lines more. */
+size_t register_sheet(size_t form, const uint8_t *plan, size_t plan_length,
+                      const uint8_t *answers, size_t answers_length,
+                      uint8_t *page, size_t page_length);
 
 /* The fields of an answer. */
 enum register_answer_field {

@@ -1,6 +1,7 @@
 //! A replicated register under mobile Byzantine faults, rehearsed from a packed plan: a safe
 //! wrapper of the proved library. `docs/FORMATS.md` has the bytes of plans and answers, and the
-//! lists that [`pack`] takes; a [`Draft`] makes a plan from typed parts.
+//! lists that [`pack`] takes; a [`Draft`] makes a plan from typed parts. `docs/SHEET.md` has the columns
+//! of a [`sheet`].
 //!
 //! ```
 //! use register::{answers, check, judge, play, Form, Plan, WORKSPACE_BYTES};
@@ -26,7 +27,7 @@
 //! Every function takes any bytes and numbers of any length and never panics. A refused call changes
 //! no lent byte. The library keeps nothing between calls and allocates nothing; calls may run at once
 //! on several threads. [`play`] takes under 32 KB of stack, [`look`] and [`pack`] under 38 KB, the
-//! other functions under 4 KB.
+//! other functions under 4 KB. (TODO-LANDING: `sheet` too?)
 
 #![warn(missing_docs)]
 
@@ -43,7 +44,10 @@ mod seen;
 pub use answer::{answers, Answer};
 pub use draft::{Draft, Forgery, Operation, Party};
 pub use form::Form;
-pub use limits::{DEPTH, LONGEST_INPUT, MOST_READS, PAIRS_BYTES, PAIR_BYTES, WORKSPACE_BYTES};
+pub use limits::{
+    DEPTH, LINE_BYTES, LONGEST_INPUT, MOST_READS, MOST_SHEET_BYTES, PAIRS_BYTES, PAIR_BYTES,
+    WORKSPACE_BYTES,
+};
 pub use lists::Lists;
 pub use plan::Plan;
 pub use refusal::Refusal;
@@ -101,6 +105,36 @@ pub fn look_into(
 /// none did), and that of a write that ended after it and began by the read's end.
 pub fn judge(form: Form, plan: &[u8], answers: &[u8]) -> Result<bool, Refusal> {
     refusal::number_or_refusal(raw::judge(form.number(), plan, answers)).map(|yes| yes == 1)
+}
+
+/// Writes answers to a plan's reads as a sheet to pin up: the number of its bytes. They stand at the start
+/// of `page`, and later bytes are unchanged; [`MOST_SHEET_BYTES`] have room for any sheet. A sheet has
+/// lines of 80 characters and a line feed, all ASCII: a heading, a rule, a line for each read in the
+/// answers' order, an empty line. The last column of a read's line has a `*` exactly where some write of
+/// the plan was concurrent with the read.
+///
+/// The answers need not be those of [`play`]; nothing is judged. They can be read back from the page.
+///
+/// ```
+/// use register::{play, Form, Plan, Refusal, WORKSPACE_BYTES};
+///
+/// let plan = Plan::of(Form::One, include_bytes!("../../../examples/concurrent.plan"))?;
+/// let mut answers = vec![0; Form::One.answer_bytes() * plan.reads()];
+/// play(Form::One, plan.bytes(), &mut answers, &mut vec![0; WORKSPACE_BYTES])?;
+///
+/// let mut page = vec![0; plan.sheet_bytes()];
+/// assert_eq!(plan.sheet(&answers, &mut page), Ok(page.len()));
+/// let lines: Vec<&str> = std::str::from_utf8(&page).unwrap().lines().collect();
+/// let words: Vec<&str> = lines[2].split_whitespace().collect();
+/// assert_eq!(words, ["5", "1", "9", "101", "2", "4", "*"]);
+///
+/// // One byte less is too short.
+/// page.pop();
+/// assert_eq!(plan.sheet(&answers, &mut page), Err(Refusal::PageShort));
+/// # Ok::<(), Refusal>(())
+/// ```
+pub fn sheet(form: Form, plan: &[u8], answers: &[u8], page: &mut [u8]) -> Result<usize, Refusal> {
+    refusal::number_or_refusal(raw::sheet(form.number(), plan, answers, page))
 }
 
 /// Packs a plan from lists of numbers: the number of its bytes. They stand at the start of `out`, and

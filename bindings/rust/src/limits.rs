@@ -20,6 +20,15 @@ pub const LONGEST_INPUT: usize = 35_718;
 /// The most reads of an accepted plan, in either form.
 pub const MOST_READS: usize = 168;
 
+/// Bytes of one line of a sheet, its line feed among them.
+pub const LINE_BYTES: usize = 81;
+
+/// Lines of a sheet beside those of the reads: the heading, the rule and the empty line at the end.
+pub(crate) const OTHER_LINES: usize = 3;
+
+/// Bytes of the longest sheet, in either form.
+pub const MOST_SHEET_BYTES: usize = LINE_BYTES * (MOST_READS + OTHER_LINES);
+
 /// The most servers, readers and ticks of an accepted plan.
 pub(crate) const MOST_SERVERS: usize = 16;
 pub(crate) const MOST_READERS: usize = 4;
@@ -75,6 +84,8 @@ mod tests {
         assert_eq!(DEPTH, defined("REGISTER_DEPTH"));
         assert_eq!(PAIR_BYTES, defined("REGISTER_PAIR"));
         assert_eq!(PAIRS_BYTES, defined("REGISTER_PAIRS"));
+        assert_eq!(LINE_BYTES, defined("REGISTER_LINE"));
+        assert_eq!(MOST_SHEET_BYTES, defined("REGISTER_MOST_SHEET"));
     }
 
     #[test]

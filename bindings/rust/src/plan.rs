@@ -1,7 +1,8 @@
 //! An accepted plan, and the numbers in its header.
 
+use crate::limits::OTHER_LINES;
 use crate::raw::{self, HeaderField};
-use crate::{check, Form, Refusal};
+use crate::{check, sheet, Form, Refusal, LINE_BYTES};
 
 /// A view of an accepted plan's bytes: the numbers of its header, read by the library.
 #[derive(Clone, Copy, Debug, PartialEq, Eq, Hash)]
@@ -75,6 +76,16 @@ impl<'a> Plan<'a> {
     /// The number of forged messages.
     pub fn forgeries(&self) -> usize {
         self.field(HeaderField::Forgeries)
+    }
+
+    /// Bytes of a sheet of this plan's answers.
+    pub fn sheet_bytes(&self) -> usize {
+        LINE_BYTES * (self.reads + OTHER_LINES)
+    }
+
+    /// Writes answers to this plan's reads as a [`sheet`].
+    pub fn sheet(&self, answers: &[u8], page: &mut [u8]) -> Result<usize, Refusal> {
+        sheet(self.form, self.bytes, answers, page)
     }
 
     fn field(&self, field: HeaderField) -> usize {

@@ -56,6 +56,15 @@ mod library {
             answers: *const u8,
             answers_length: usize,
         ) -> usize;
+        pub fn register_sheet(
+            form: usize,
+            plan: *const u8,
+            plan_length: usize,
+            answers: *const u8,
+            answers_length: usize,
+            page: *mut u8,
+            page_length: usize,
+        ) -> usize;
         pub fn register_answer(
             form: usize,
             answers: *const u8,
@@ -154,6 +163,21 @@ pub fn judge(form: usize, plan: &[u8], answers: &[u8]) -> usize {
     }
 }
 
+pub fn sheet(form: usize, plan: &[u8], answers: &[u8], page: &mut [u8]) -> usize {
+    // SAFETY: the pointers and lengths are slices', and the one to write to is exclusive.
+    unsafe {
+        library::register_sheet(
+            form,
+            plan.as_ptr(),
+            plan.len(),
+            answers.as_ptr(),
+            answers.len(),
+            page.as_mut_ptr(),
+            page.len(),
+        )
+    }
+}
+
 pub fn answer(form: usize, answers: &[u8], index: usize, field: AnswerField) -> usize {
     // SAFETY: the pointer and length are a slice's.
     unsafe {
@@ -231,6 +255,7 @@ mod tests {
                 assert_eq!(play(form, plan, &mut lent, &mut workspace), NO_SUCH_FORM);
                 assert_eq!(look(form, plan, &mut workspace, 0, 0, &mut lent), NO_SUCH_FORM);
                 assert_eq!(judge(form, plan, &lent), NO_SUCH_FORM);
+                assert_eq!(sheet(form, plan, &[], &mut lent), NO_SUCH_FORM);
             }
             let header = [1, 0, 1, 1, 1, 3, 7, 1, 0, 0];
             let delays = [0, 0, 1, 1, 0, 0, 1, 0, 0].repeat(3);

@@ -38,6 +38,8 @@ pub enum Refusal {
     OtherRead = 13,
     /// The buffer is shorter than the packed plan.
     BufferShort = 14,
+    /// The page is shorter than the sheet.
+    PageShort = 15,
     /// A value is above 65,535: the initial one, one that is written, or a forged one.
     ValueTooWide = 19,
     /// The buffer is shorter than the carried plan.
@@ -46,7 +48,7 @@ pub enum Refusal {
 
 impl Refusal {
     /// Every refusal, in the order of their numbers.
-    pub const ALL: [Refusal; 16] = [
+    pub const ALL: [Refusal; 17] = [
         Refusal::PlanShort,
         Refusal::Header,
         Refusal::TooFewServers,
@@ -61,11 +63,12 @@ impl Refusal {
         Refusal::AnswersLength,
         Refusal::OtherRead,
         Refusal::BufferShort,
+        Refusal::PageShort,
         Refusal::ValueTooWide,
         Refusal::CarriedShort,
     ];
 
-    /// The published number: 1 to 14, 19 or 20.
+    /// The published number: 1 to 15, 19 or 20.
     pub fn number(self) -> usize {
         self as usize
     }
@@ -97,6 +100,7 @@ impl Refusal {
             }
             Refusal::OtherRead => "an answer's begin, reader or zero bit isn't that of its read",
             Refusal::BufferShort => "the buffer is shorter than the packed plan",
+            Refusal::PageShort => "the page is shorter than the sheet",
             Refusal::ValueTooWide => "a value is above 65,535, the highest of form one",
             Refusal::CarriedShort => "the buffer is shorter than the carried plan",
         }

@@ -6,15 +6,10 @@ use register::{
 };
 
 use crate::plans::{
-    bits_of, bytes_of, changed, flipped, in_form, packed, refused_plans, value_bits, BEFORE,
-    CONCURRENT, FIRST, JUST_SET, RECOVERY, SIX_WRITES, TAKEOVER, TOO_FEW,
+    answer_bytes, changed, flipped, in_form, packed, refused_plans, value_bits, BEFORE, CONCURRENT,
+    FIRST, JUST_SET, RECOVERY, SIX_WRITES, TAKEOVER, TOO_FEW,
 };
 use crate::{played, workspace};
-
-/// The bytes of an answer, from begin to the zero bit.
-fn answer_bytes(form: Form, numbers: [u32; 6]) -> Vec<u8> {
-    bytes_of(&bits_of(&numbers, &[7, 3, value_bits(form), 8, 5, 1]))
-}
 
 #[test]
 fn answers_of_the_examples() {
@@ -240,7 +235,7 @@ fn input_longer_than_any_header_implies() {
 
 #[test]
 fn refusals_in_words() {
-    let numbers = (1..=14).chain([19, 20]);
+    let numbers = (1..=15).chain([19, 20]);
     assert!(Refusal::ALL.into_iter().map(Refusal::number).eq(numbers));
     for refusal in Refusal::ALL {
         let words = refusal.to_string();

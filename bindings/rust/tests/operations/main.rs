@@ -5,6 +5,7 @@ mod carry;
 mod examples;
 mod pack;
 mod plans;
+mod sheet;
 
 use register::{check, play, Form, WORKSPACE_BYTES};
 

@@ -324,11 +324,11 @@ fn delays_by_a_function() {
     assert_eq!(lists.delays[64 + 6 * 8], 1);
 }
 
-#[test]
-fn a_draft_with_the_most_reads() {
+/// As many reads as a plan may have.
+pub fn most_reads() -> Draft {
     let operations =
         (0..MOST_READS).map(|i| Operation::Read { tick: i / 4 * 3, reader: 1 + i % 4 });
-    let draft = Draft {
+    Draft {
         servers: 16,
         faulty: 3,
         delta: 1,
@@ -339,8 +339,12 @@ fn a_draft_with_the_most_reads() {
         operations: operations.collect(),
         delay: 1,
         ..Draft::default()
-    };
+    }
+}
+
+#[test]
+fn a_draft_with_the_most_reads() {
     for form in Form::ALL {
-        assert_eq!(check(form, &draft.build(form).unwrap()), Ok(MOST_READS));
+        assert_eq!(check(form, &most_reads().build(form).unwrap()), Ok(MOST_READS));
     }
 }

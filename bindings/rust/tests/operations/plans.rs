@@ -98,6 +98,11 @@ pub fn packed(form: Form, lists: &Lists) -> Vec<u8> {
     bytes_of(&parts.flat_map(|(numbers, widths)| bits_of(numbers, &widths)).collect::<Vec<_>>())
 }
 
+/// The bytes of an answer, from begin to the zero bit.
+pub fn answer_bytes(form: Form, numbers: [u32; 6]) -> Vec<u8> {
+    bytes_of(&bits_of(&numbers, &[7, 3, value_bits(form), 8, 5, 1]))
+}
+
 /// The plan of an example in a form.
 pub fn in_form(form: Form, example: &[u8]) -> Vec<u8> {
     packed(form, &lists_of(Form::One, example))
