@@ -2,7 +2,7 @@
 
 use crate::bits::{field, join, split};
 use crate::form::Form;
-use crate::plan::{Plan, Read, Stamped};
+use crate::plan::{Plan, Read, Stamped, Write};
 
 /// The fields of an answer: begin, reader, value, number, count, zero.
 pub type Answer = [u64; 6];
@@ -29,13 +29,17 @@ pub fn belongs(read: &Read, answer: Answer) -> bool {
     begin as usize == read.begin && reader as usize == read.reader && zero == 0
 }
 
+/// Whether the write neither finished before the read nor began after its end.
+pub fn is_concurrent(write: &Write, read: &Read) -> bool {
+    write.end > read.begin && write.begin <= read.end
+}
+
 pub fn is_regular(plan: &Plan, read: &Read, answer: Answer) -> bool {
     let [_, _, value, number, ..] = answer;
     let given = Stamped::new(value as u32, number as u8);
     let initial = Stamped::new(plan.header.initial, 0);
     let finished = plan.writes.iter().rev().find(|write| write.end <= read.begin);
     let last_finished = finished.map_or(initial, |write| write.stamped);
-    let mut concurrent =
-        plan.writes.iter().filter(|write| write.end > read.begin && write.begin <= read.end);
+    let mut concurrent = plan.writes.iter().filter(|write| is_concurrent(write, read));
     given == last_finished || concurrent.any(|write| write.stamped == given)
 }

@@ -1,6 +1,7 @@
-//! Check, Play, Look and Judge of docs/RULES.md, and Pack and carrying of docs/FORMATS.md, as an
-//! ordinary program: the yardstick for the proved library's speed, and the other side of its
-//! differential tests. It shares no code with the library and makes no use of facts proved there.
+//! Check, Play, Look and Judge of docs/RULES.md, Pack and carrying of docs/FORMATS.md, and the sheet of
+//! docs/SHEET.md, as an ordinary program: the yardstick for the proved library's speed, and the other
+//! side of its differential tests. It shares no code with the library and makes no use of facts proved
+//! there.
 //!
 //! A form is named by its number, 1 or 2; another one is refused.
 
@@ -14,13 +15,15 @@ pub mod judge;
 mod pack;
 pub mod plan;
 mod server;
+mod sheet;
 
 pub use form::Form;
 pub use pack::Lists;
 pub use plan::Stamped;
 
 use cluster::Cluster;
-use plan::Plan;
+use judge::Answer;
+use plan::{Plan, Read};
 
 pub const WORKSPACE_BYTES: usize = 60_000;
 
@@ -99,17 +102,33 @@ pub fn look(
 
 /// Whether every answer is one that a regular register may give.
 pub fn judge(form: usize, plan: &[u8], answers: &[u8]) -> Outcome<bool> {
-    let form = Form::of(form)?;
-    let plan = Plan::unpack(form, plan)?;
+    let plan = Plan::unpack(Form::of(form)?, plan)?;
+    let mut answered = answered(&plan, answers)?;
+    Ok(answered.all(|(read, answer)| judge::is_regular(&plan, read, answer)))
+}
+
+/// The number of bytes of the sheet, which stands at the start of the page.
+pub fn sheet(form: usize, plan: &[u8], answers: &[u8], page: &mut [u8]) -> Outcome<usize> {
+    let plan = Plan::unpack(Form::of(form)?, plan)?;
+    let text = sheet::text(&plan, answered(&plan, answers)?);
+    put(text.as_bytes(), page, Refused(15))
+}
+
+/// Each read with the answer to it, if there are as many and every one belongs to its read.
+fn answered<'a>(
+    plan: &'a Plan,
+    answers: &'a [u8],
+) -> Outcome<impl Iterator<Item = (&'a Read, Answer)> + Clone> {
+    let form = plan.header.form;
     if answers.len() != form.answer_bytes() * plan.reads.len() {
         return Err(Refused(12));
     }
     let answers = answers.chunks_exact(form.answer_bytes()).map(|bytes| judge::get(form, bytes));
-    let mut answered = plan.reads.iter().zip(answers);
+    let answered = plan.reads.iter().zip(answers);
     if !answered.clone().all(|(read, answer)| judge::belongs(read, answer)) {
         return Err(Refused(13));
     }
-    Ok(answered.all(|(read, answer)| judge::is_regular(&plan, read, answer)))
+    Ok(answered)
 }
 
 /// The number of bytes of the packed plan, which stands at the start of the buffer.
@@ -127,9 +146,9 @@ pub fn carry_back(plan: &[u8], out: &mut [u8]) -> Outcome<usize> {
     put(&carry::carried(plan, Form::TWO, Form::ONE)?, out, Refused(20))
 }
 
-/// Puts a plan at the start of a buffer, which is refused if it is too short.
-fn put(plan: &[u8], out: &mut [u8], too_short: Refused) -> Outcome<usize> {
-    let place = out.get_mut(..plan.len()).ok_or(too_short)?;
-    place.copy_from_slice(plan);
-    Ok(plan.len())
+/// Puts bytes at the start of a buffer, which is refused if it is too short.
+fn put(bytes: &[u8], out: &mut [u8], too_short: Refused) -> Outcome<usize> {
+    let place = out.get_mut(..bytes.len()).ok_or(too_short)?;
+    place.copy_from_slice(bytes);
+    Ok(bytes.len())
 }

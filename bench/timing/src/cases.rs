@@ -1,7 +1,7 @@
 //! The plans that are measured: busy ones, in which nobody rests.
 
 use plans::{Forgery, Operation, Parts, Random};
-use register::{Form, Lists};
+use register::{Form, Lists, MOST_SHEET_BYTES};
 
 /// The place of the number of ticks in a header.
 const TICKS: usize = 5;
@@ -50,6 +50,7 @@ pub struct Case {
     pub lists: Lists,
     pub reads: usize,
     pub answers: Vec<u8>,
+    pub sheet: Vec<u8>,
     pub last_tick: usize,
     /// How many stamped values server 0 keeps after the last tick.
     pub kept: usize,
@@ -75,12 +76,15 @@ impl Case {
         let mut workspace = vec![0; plain::WORKSPACE_BYTES];
         let mut answers = vec![0; form.answer_bytes() * reads];
         plain::play(number, &plan, &mut answers, &mut workspace).unwrap();
+        let mut sheet = vec![0; MOST_SHEET_BYTES];
+        let length = plain::sheet(number, &plan, &answers, &mut sheet).unwrap();
+        sheet.truncate(length);
         let plans::Lists { header, placements, operations, forgeries, delays } = lists;
         let last_tick = header[TICKS] as usize - 1;
         let kept = plain::look(number, &plan, &mut workspace, 0, last_tick).unwrap().count;
         let carried = carried(form, &plan);
         let lists = Lists { header, placements, operations, forgeries, delays };
-        Case { form, plan, lists, reads, answers, last_tick, kept, carried }
+        Case { form, plan, lists, reads, answers, sheet, last_tick, kept, carried }
     }
 }
 

@@ -1,7 +1,7 @@
-//! timing [ROUNDS]: prints, as tables, the times of Check, Play, Look, Judge and Pack of the library,
-//! of the plain one and of the rival, in one run and on the same plans of form one, how they grow, and
-//! Pack beside Check; form two beside form one; carrying beside Check; and the stack of Play, Pack and
-//! carrying.
+//! timing [ROUNDS]: prints, as tables, the times of Check, Play, Look, Judge, Sheet and Pack of the
+//! library, of the plain one and of the rival, in one run and on the same plans of form one, how they
+//! grow, Sheet beside Judge and Pack beside Check; form two beside form one; carrying beside Check; and
+//! the stack of Play, Sheet, Pack and carrying.
 
 mod cases;
 mod measure;
@@ -93,6 +93,7 @@ fn run(rounds: usize) {
     }
     tables::print_operations(&operations, rounds);
     tables::print_growth(&growth);
+    tables::print_sheet(&operations);
     tables::print_pack(&operations);
     tables::print_form_two(&both_forms);
     tables::print_carry(&carrying);

@@ -13,6 +13,8 @@ pub enum Operation {
     Look,
     /// Of true answers.
     Judge,
+    /// Of true answers, on a page just long enough.
+    Sheet,
     /// Into a buffer just long enough.
     Pack,
     /// To the other form, into a buffer just long enough.
@@ -20,8 +22,14 @@ pub enum Operation {
 }
 
 /// The operations that name a form.
-pub const IN_A_FORM: [Operation; 5] =
-    [Operation::Check, Operation::Play, Operation::Look, Operation::Judge, Operation::Pack];
+pub const IN_A_FORM: [Operation; 6] = [
+    Operation::Check,
+    Operation::Play,
+    Operation::Look,
+    Operation::Judge,
+    Operation::Sheet,
+    Operation::Pack,
+];
 
 #[derive(Clone, Copy, Debug, PartialEq, Eq)]
 pub enum Program {
@@ -65,6 +73,7 @@ impl<'a> Work<'a> {
             Operation::Play => (case.reads, &case.answers),
             Operation::Look => (case.kept, &[]),
             Operation::Judge => (1, &[]),
+            Operation::Sheet => (case.sheet.len(), &case.sheet),
             Operation::Pack => (case.plan.len(), &case.plan),
             Operation::Carry => {
                 let carried = case.carried.as_deref().expect("the other form has room");
@@ -100,6 +109,7 @@ fn library<'a>(operation: Operation, case: &'a Case, lent: &'a mut Lent) -> Call
         Operation::Judge => {
             Box::new(move || usize::from(register::judge(form, plan, answers).unwrap()))
         }
+        Operation::Sheet => Box::new(move || register::sheet(form, plan, answers, out).unwrap()),
         Operation::Pack => Box::new(move || register::pack(form, lists, out).unwrap()),
         Operation::Carry => match form {
             Form::One => Box::new(move || register::carry(plan, out).unwrap()),
@@ -121,6 +131,7 @@ fn plain<'a>(operation: Operation, case: &'a Case, lent: &'a mut Lent) -> Call<'
         Operation::Judge => {
             Box::new(move || usize::from(plain::judge(number, plan, answers).unwrap()))
         }
+        Operation::Sheet => Box::new(move || plain::sheet(number, plan, answers, out).unwrap()),
         Operation::Pack => {
             let register::Lists { header, placements, operations, forgeries, delays } = lists;
             let lists = plain::Lists { header, placements, operations, forgeries, delays };

@@ -68,20 +68,29 @@ pub fn print_growth(rows: &[Row]) {
     }
 }
 
+pub fn print_sheet(rows: &[Row]) {
+    println!("\nThe library's Sheet beside its Judge of the same answers, in microseconds. Both make the tests of Check and of the answers.\n");
+    print_beside(rows, Operation::Sheet, Operation::Judge);
+}
+
 pub fn print_pack(rows: &[Row]) {
     println!("\nThe library's Pack beside its Check of the same plan, in microseconds. Pack makes the tests of Check too.\n");
-    println!("| plan | bytes | Pack | Check | Pack/Check |");
+    print_beside(rows, Operation::Pack, Operation::Check);
+}
+
+fn print_beside(rows: &[Row], operation: Operation, other: Operation) {
+    println!("| plan | bytes | {operation:?} | {other:?} | {operation:?}/{other:?} |");
     println!("|---|---:|---:|---:|---:|");
     for row in rows {
-        let [pack, check] = [Operation::Pack, Operation::Check]
-            .map(|operation| row.taken(Program::Library, operation, Form::One));
+        let [time, beside] =
+            [operation, other].map(|operation| row.taken(Program::Library, operation, Form::One));
         println!(
             "| {} | {} | {} | {} | {} |",
             row.name,
             row.bytes(Form::One),
-            microseconds(pack),
-            microseconds(check),
-            ratio(pack, check),
+            microseconds(time),
+            microseconds(beside),
+            ratio(time, beside),
         );
     }
 }
