@@ -10,13 +10,15 @@ form one, as the vectors have there.
 
 For each plan: Check and the header's numbers; the text that the program prints (of form one), also as the
 wrapper decodes the answers; Play with lent bytes of several lengths; Looks in and out of range, with pair
-buffers of every length, one of them after the last tick, and of a small plan every Look; Judge of right, altered and malformed answers;
-Pack of the plan's lists, right and bent, into buffers of several lengths, where the lists of an accepted
-plan have to give its bytes and these the lists again; the plan carried to the other form, into buffers of
-several lengths, and with a value that form one has no room for.  A carried plan has to be accepted with
-the same numbers and get the same answers, and carried back it has to be the same bytes.  Every plan is
-also handed in under the other form, as it is and with the length that its header implies there, and its
-lists are packed there.  Results and every lent byte are compared.
+buffers of every length, one of them after the last tick, and of a small plan every Look; Judge and Sheet
+of right, altered and malformed answers, the sheets on pages of several lengths, where the other program
+says the refusals and the facts of each read, sheet.py makes the page of them, and the answers have to be
+read back from it; Pack of the plan's lists, right and bent, into buffers of several lengths, where the
+lists of an accepted plan have to give its bytes and these the lists again; the plan carried to the other
+form, into buffers of several lengths, and with a value that form one has no room for.  A carried plan has
+to be accepted with the same numbers and get the same answers, and carried back it has to be the same
+bytes.  Every plan is also handed in under the other form, as it is and with the length that its header
+implies there, and its lists are packed there.  Results and every lent byte are compared.
 
 Builds what it needs with `rt` and `cargo`; LIB_DIR names a folder with another libcapi.a to compare.
 Prints what differs, then a line with the counts for each form; the exit status is 1 if anything differs.
@@ -32,6 +34,7 @@ import sys
 
 sys.dont_write_bytecode = True
 
+import sheet
 from asked import PAIR, REQUESTS, TOP, WORKSPACE, WORKSPACES, Asked
 from oracle import DEPTH, Oracle
 
@@ -45,7 +48,7 @@ FAR = (2 ** 32, 2 ** 64 - 1)
 NARROW = 2 ** 16 - 1
 # Servers times ticks of a plan that is looked at everywhere, at most: all that are generated small.
 LOOKED_AT = 16 * 24
-COMPARED = "Check", "Play", "Look", "Judge", "text printed", "text decoded", "Pack", "Carry", "there and back"
+COMPARED = "Check", "Play", "Look", "Judge", "Sheet", "text printed", "text decoded", "Pack", "Carry", "there and back"
 
 
 class Comparison(Asked):
@@ -86,7 +89,9 @@ class Comparison(Asked):
         rng = self.rng
         self.play(name, plan, rng.choice([0, 1, 300]), rng.choice(WORKSPACES))
         self.look(name, plan, rng.choice(WORKSPACES), rng.randrange(20), rng.randrange(140), [rng.choice(PAIR_BUFFERS)])
-        self.judge(name, plan, bytes(rng.randrange(256) for _ in range(rng.randrange(12))))
+        answers = bytes(rng.randrange(256) for _ in range(rng.randrange(12)))
+        self.judge(name, plan, answers)
+        self.sheet(name, plan, answers, rng.choice([0, sheet.size(0), sheet.size(3), sheet.MOST]))
 
     def about_accepted(self, name, plan, reads):
         rng, header = self.rng, self.oracle.header(plan)
@@ -100,10 +105,23 @@ class Comparison(Asked):
         if header.n * header.H <= LOOKED_AT:
             self.every_look(name, plan)
         self.judge(name, plan, answers)
+        self.sheets(name, plan, answers)
         malformed = [answers[:-1], answers + b"\0", answers + bytes(self.oracle.answer_bytes), b"", bytes(in_a_form)]
-        self.judge(name, plan, rng.choice(malformed))
+        self.judged_and_printed(name, plan, rng.choice(malformed), reads)
         for _ in range(6 if reads else 0):
-            self.judge(name, plan, self.altered(plan, answers))
+            self.judged_and_printed(name, plan, self.altered(plan, answers), reads)
+
+    def sheets(self, name, plan, answers):
+        """Of Play's answers, which are also the facts that the other program has of them."""
+        exact = sheet.size(len(answers) // self.oracle.answer_bytes)
+        self.compare(f"{name}, the facts", self.oracle.rows(plan, answers), self.oracle.facts(plan))
+        for length in (exact, exact + self.rng.randrange(1, 200), exact - 1, 0):
+            self.sheet(name, plan, answers, length)
+
+    def judged_and_printed(self, name, plan, answers, reads):
+        exact = sheet.size(reads)
+        self.judge(name, plan, answers)
+        self.sheet(name, plan, answers, self.rng.choice([exact, exact, exact, exact + 50, exact - 1, 0]))
 
     def altered(self, plan, answers):
         """Answers with one field of one of them altered, most often to something near."""
@@ -190,6 +208,8 @@ class Comparison(Asked):
                 f"{count['of the other form accepted']} accepted; compared: {asked}; "
                 f"every Look of {count['looked at everywhere']} plans, pairs shown {self.pairs_shown()}; Judge yes {count['Judge yes']}, no {count['Judge no']}; "
                 f"refusals {self.refused('Check', 'Play', 'Look', 'Judge')}; "
+                f"Sheet done {count['Sheet done']}, with {count['lines']} reads, {count['marks']} of them marked, all read back, "
+                f"refusals {self.refused('Sheet')}; "
                 f"lists of {count['packed again']} accepted plans packed to their bytes and read again, {count['bent']} bent lists, "
                 f"Pack done {count['Pack done']}, refusals {self.refused('Pack')}; "
                 f"Carry done {count['Carry done']}, refusals {self.refused('Carry')}; "

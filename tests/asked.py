@@ -6,6 +6,8 @@ import os
 import struct
 import subprocess
 
+import sheet
+
 TOP = os.path.dirname(os.path.dirname(os.path.abspath(__file__)))
 REQUESTS = os.path.join(TOP, "tests", "requests")
 ANSWERING = os.path.join(REQUESTS, "target", "release", "requests")
@@ -129,6 +131,19 @@ class Asked:
         said = self.oracle.said(self.oracle.judge(plan, answers), lambda good: "yes" if good else "no")
         self.counts[f"Judge {said}"] += said in ("yes", "no")
         self.ask(name, "Judge", b"j", string(plan) + string(answers), said)
+
+    def sheet(self, name, plan, answers, length):
+        """What comes of a sheet of these answers on a page of that length.  From the sheet alone they are read again."""
+        buffer = lent(length)
+        page = self.filled(name, "Sheet", self.oracle.sheet(plan, answers, buffer), buffer, b"s", string(plan) + string(answers))
+        if self.oracle.is_refused(page):
+            return
+        rows = self.oracle.rows(plan, answers)
+        self.counts["lines"] += len(rows)
+        self.counts["marks"] += sum(row[-1] for row in rows)
+        form, numbers = sheet.read_back(page)
+        again = b"".join(self.oracle.pack_answer(*fields) for fields in numbers)
+        self.compare(f"{name}, read back from the sheet", (form, again), (self.oracle.number, answers))
 
     def pack(self, name, lists, length):
         """The other program's result, for a buffer of that length."""

@@ -1,9 +1,12 @@
 """The rehearsal program of other authorship, as the scripts of this folder ask it: document 01 with
 the requests of document 02 that are met here.  A refusal is an object with a number."""
 
+import functools
 import os
 import sys
 from dataclasses import replace
+
+import sheet
 
 DEPTH = 5           # pairs in a store (request Eight)
 LOOSE = True        # request Four: a write that ends as a read begins has finished before it
@@ -163,13 +166,17 @@ class Oracle:
         plan = self.forms.check(self.form, plan)
         return plan if self.is_refused(plan) else len(plan.reads)
 
+    @functools.lru_cache(1)
+    def facts(self, plan):
+        """For each read of an accepted plan begin, screen, end, cue, number, count and mark."""
+        return [fact[:7] for fact in self.operations.facts(self.form, plan, DEPTH, LOOSE)]
+
     def text(self, plan):
         """What the program prints."""
         reads = self.check(plan)
         if self.is_refused(reads):
             return f"refused {reads.number}\n"
-        facts = self.operations.facts(self.form, plan, DEPTH, LOOSE)
-        lines = [("reads", reads), *(fact[:6] for fact in facts)]
+        lines = [("reads", reads), *(fact[:6] for fact in self.facts(plan))]
         return "".join(" ".join(map(str, line)) + "\n" for line in lines)
 
     def play(self, plan, answers, workspace):
@@ -204,6 +211,24 @@ class Oracle:
 
     def judge(self, plan, answers):
         return self.operations.judge(self.form, plan, answers, LOOSE)
+
+    def rows(self, plan, answers):
+        """The lines of a sheet of these answers: begin, screen, end and mark are the read's."""
+        given = self.forms.unpack_answers(self.form, answers)
+        return [(begin, screen, end, answer.cue, answer.number, answer.count, mark)
+                for (begin, screen, end, *_, mark), answer in zip(self.facts(plan), given)]
+
+    def sheet(self, plan, answers, buffer):
+        """The sheet's bytes, which then also stand in the buffer.  The other program has none: Judge gives the
+        refusals before 15, and of Play's answers it has the facts."""
+        judged = self.judge(plan, answers)
+        if self.is_refused(judged):
+            return judged
+        page = sheet.page(self.number, self.rows(plan, answers))
+        if len(buffer) < len(page):
+            return self.forms.Refused(15)
+        buffer[:len(page)] = page
+        return page
 
     def unpack_answer(self, answer):
         return self.forms.unpack_answers(self.form, answer)[0]

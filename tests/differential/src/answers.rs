@@ -1,4 +1,4 @@
-//! Answers to judge: true ones with something changed.
+//! Answers to judge and to make sheets of: true ones with something changed.
 
 use plain::judge::{get, put};
 use plain::plan::Plan;
@@ -45,7 +45,7 @@ fn change(random: &mut Random, asked: Asked, answer: &mut [u8], other: &[u8]) {
             let bit = random.below(8 * answer.len());
             answer[bit / 8] ^= 0x80 >> (bit % 8);
         }
-        // The count, which is not looked at.
+        // The count, which Judge does not look at.
         1 => answer[last] ^= 2 << random.below(5),
         2 | 3 => {
             let [_, _, value, number, ..] = get(form, other);

@@ -1,10 +1,10 @@
 //! differential [PLANS [SEED]]: the library, through its wrapper, against the plain one.
 //!
 //! Results and every lent byte are compared on random plans of both forms, accepted and damaged, with
-//! lent bytes too short and too long, looks in and out of range, answers true, changed and malformed,
-//! and now and then under the other form's name; and on as many random lists of numbers to pack, right
-//! and bent. Plans are also carried to the other form. There the library must give the same answers,
-//! and back from there the same bytes.
+//! lent bytes too short and too long, looks in and out of range, answers true, changed and malformed to
+//! judge and to make sheets of, and now and then under the other form's name; and on as many random
+//! lists of numbers to pack, right and bent. Plans are also carried to the other form. There the library
+//! must give the same answers, and back from there the same bytes.
 //! What shows a difference is kept under target/differ/ of this package.
 
 mod answers;
@@ -13,6 +13,7 @@ mod carrying;
 mod lent;
 mod packing;
 mod results;
+mod sheets;
 mod tally;
 mod trial;
 

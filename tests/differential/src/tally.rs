@@ -9,11 +9,12 @@ use plans::Form;
 pub struct Tally(BTreeMap<(&'static str, Form), BTreeMap<String, u64>>);
 
 /// The refusals that must come up.
-const IN_BOTH_FORMS: [(&str, &[u32]); 5] = [
+const IN_BOTH_FORMS: [(&str, &[u32]); 6] = [
     ("check", &[1, 2, 3, 4, 5, 6, 7, 8]),
     ("play", &[1, 2, 3, 4, 5, 6, 7, 8, 9, 10]),
     ("look", &[1, 2, 3, 4, 5, 6, 7, 8, 10, 11]),
     ("judge", &[1, 2, 3, 4, 5, 6, 7, 8, 12, 13]),
+    ("sheet", &[1, 2, 3, 4, 5, 6, 7, 8, 12, 13, 15]),
     ("pack", &[2, 3, 4, 5, 6, 7, 8, 14]),
 ];
 const IN_FORM_ONE: (&str, &[u32]) = ("carry", &[1, 2, 3, 4, 5, 6, 7, 8, 20]);

@@ -7,6 +7,7 @@ use crate::answers::changed;
 use crate::asked::{for_library, Asked};
 use crate::lent::{self, Lent, MORE};
 use crate::results::{judged, packed, plain_words, said, shown, words};
+use crate::sheets::Sheets;
 use crate::tally::Tally;
 
 const WORKSPACE: usize = plain::WORKSPACE_BYTES;
@@ -16,6 +17,7 @@ pub struct Bench {
     answers: Lent,
     workspace: Lent,
     pairs: Lent,
+    sheets: Sheets,
     plain_answers: Vec<u8>,
     plain_workspace: Vec<u8>,
 }
@@ -27,6 +29,7 @@ impl Bench {
             answers: Lent::new(random, longest_answers),
             workspace: Lent::new(random, WORKSPACE),
             pairs: Lent::new(random, PAIRS_BYTES),
+            sheets: Sheets::new(random),
             plain_answers: vec![0; longest_answers + MORE],
             plain_workspace: vec![0; WORKSPACE + MORE],
         }
@@ -44,7 +47,7 @@ impl Bench {
             self.play(random, asked, reads, tally)?;
         }
         self.looks(random, asked, tally)?;
-        self.judge_many(random, asked, reads, tally)
+        self.answered(random, asked, reads, tally)
     }
 
     fn check(&mut self, Asked { form, plan }: Asked, tally: &mut Tally) -> Result<usize, String> {
@@ -155,7 +158,8 @@ impl Bench {
         holds(stands, &format!("{about}: workspace differs"))
     }
 
-    fn judge_many(
+    /// Answers, true and changed, judged and on sheets.
+    fn answered(
         &mut self,
         random: &mut Random,
         asked: Asked,
@@ -170,8 +174,11 @@ impl Bench {
             answers = (0..length).map(|_| random.number() as u8).collect();
         }
         judge(asked, &answers, tally)?;
+        self.sheets.compare(random, asked, reads, &answers, tally)?;
         for _ in 0..4 {
-            judge(asked, &changed(random, asked, &answers), tally)?;
+            let changed = changed(random, asked, &answers);
+            judge(asked, &changed, tally)?;
+            self.sheets.compare(random, asked, reads, &changed, tally)?;
         }
         Ok(())
     }

@@ -12,15 +12,16 @@
 //!                            Look with lent bytes of those lengths
 //!   t plan                   every look
 //!   j plan answers           Judge
+//!   s plan answers page      Sheet on a lent page of that length
 //!   k header placements operations forgeries delays buffer
 //!                            Pack of these lists into a lent buffer of that length
 //!   y plan buffer            Carry from form one, Carry back from form two, into a lent buffer of that
 //!                            length
 //!   r plan                   there and back: what `c` and `p` say of the carried plan in its form, and
 //!                            the plan carried from there
-//! Lent bytes start as 1, 2, 3 .. modulo 251. Those of answers, pairs, packed and carried plans are
-//! printed in hex, a workspace as `kept` if no byte has changed, `cleared` if the first 60,000 are zero
-//! and the rest unchanged.
+//! Lent bytes start as 1, 2, 3 .. modulo 251. Those of answers, pairs, sheets, packed and carried plans
+//! are printed in hex, a workspace as `kept` if no byte has changed, `cleared` if the first 60,000 are
+//! zero and the rest unchanged.
 
 mod carrying;
 mod lent;
@@ -29,8 +30,8 @@ mod records;
 use std::io::{self, Read, Write};
 
 use register::{
-    answers, check, judge, look, look_into, pack, play, Condition, Form, Lists, Plan, Refusal,
-    WORKSPACE_BYTES,
+    answers, check, judge, look, look_into, pack, play, sheet, Condition, Form, Lists, Plan,
+    Refusal, WORKSPACE_BYTES,
 };
 
 use carrying::{carried, carry_into, other};
@@ -133,6 +134,10 @@ fn filled(length: usize, fill: impl FnOnce(&mut [u8]) -> Result<usize, Refusal>)
     format!("{said} {}", hex(&buffer))
 }
 
+fn printed_on(form: Form, plan: &[u8], answers: &[u8], page: usize) -> String {
+    filled(page, |page| sheet(form, plan, answers, page))
+}
+
 fn packed(form: Form, lists: &Lists, buffer: usize) -> String {
     filled(buffer, |buffer| pack(form, lists, buffer))
 }
@@ -165,6 +170,7 @@ fn about_a_plan(letter: u8, form: Form, records: &mut Records) -> Option<String>
         b'l' => Ok(looked(form, plan, place(records)?)),
         b't' => every_look(form, plan),
         b'j' => judged(form, plan, records.string()?),
+        b's' => Ok(printed_on(form, plan, records.string()?, records.number()?)),
         b'y' => Ok(filled(records.number()?, |buffer| carry_into(form, plan, buffer))),
         b'r' => there_and_back(form, plan),
         _ => return None,
