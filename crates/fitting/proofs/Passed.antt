@@ -7,13 +7,13 @@ use Prim.Native.Nat.{ℕ, _*_, _<_}
 use native.Mathlib.Omega.{arith}
 use lib.Dec.{eqb, eqb→eq}
 use lib.ListN.{length}
-use borrow.Author.Tests.{eqb-true}
 use Rattle.register.specs.Lists.{allUpTo}
-use Rattle.register.proofs.Logic.{T-eq, and-both}
-use Rattle.plan.specs.{Form.isForm, Form.widthOf, Packed.planOf, Check.Outcome, Check.refused, Check.result, Check.checkOf, Check.checkIn}
+use Rattle.register.proofs.Logic.{T-eq}
+use Rattle.plan.specs.{Form.isForm, Form.widthOf, Check.Outcome, Check.refused, Check.result, Check.checkOf, Check.checkIn}
 use Rattle.plan.proofs.{Forms.form-passed, Laws.all-at, Tests.passed}
-use Rattle.answers.specs.Answers.{answerSize, beginIn, readerIn, zeroIn}
-use Rattle.simulator.specs.Judge.{readOf, answerFits}
+use Rattle.answers.specs.Answers.{answerSize}
+use Rattle.simulator.specs.Judge.{answerFits}
+use Rattle.simulator.proofs.Fits.{IsTo, fits-to}
 use Rattle.fitting.specs.Answered.{answeredAfter, answeredIn, Answered}
 
 module _ (w : ℕ) (s a : List ℕ) (m : ℕ) where
@@ -38,22 +38,8 @@ module _ (w : ℕ) (s a : List ℕ) (m : ℕ) where
       }
 
   -- each answer is to its read
-  module _ (A : Answered w s a m) (i : ℕ) (l : i < m) where
-    tests : (eqb (beginIn w a i) (readOf (planOf w s) i .begun) ≡ true) × (eqb (readerIn w a i) (readOf (planOf w s) i .reader) ≡ true) × (eqb (zeroIn w a i) 0 ≡ true)
-    unfolding answerFits
-    tests =
-        let b = and-both (eqb (beginIn w a i) (readOf (planOf w s) i .begun)) _ (all-at (answerFits w s a) m i l (A .fit)) in
-        let d = and-both (eqb (readerIn w a i) (readOf (planOf w s) i .reader)) (eqb (zeroIn w a i) 0) (b .1) in
-        (b .0, d .0, d .1)
-
-    pub begin-fits : beginIn w a i ≡ readOf (planOf w s) i .begun
-    begin-fits = eqb-true _ _ (tests .0)
-
-    pub reader-fits : readerIn w a i ≡ readOf (planOf w s) i .reader
-    reader-fits = eqb-true _ _ (tests .1)
-
-    pub zero-fits : zeroIn w a i ≡ 0
-    zero-fits = eqb-true _ _ (tests .2)
+  pub is-to : Answered w s a m → (i : ℕ) → i < m → IsTo w s a i
+  is-to A i l = fits-to w s a i (all-at (answerFits w s a) m i l (A .fit))
 
 -- in a form: there is such a form, and they passed at its width
 pub form-answered : (form : ℕ) (s a : List ℕ) (m : ℕ) → answeredIn form s a ≡ result m → (isForm form ≡ true) × Answered (widthOf form) s a m

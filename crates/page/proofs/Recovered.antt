@@ -1,22 +1,22 @@
 -- From a page alone its answers are read back, in every form.
 -- It stands on the laws of lines, of digits and of packing.
 use mathlib.Core.Path.{_≡_, refl, sym, ap, _∙_}
-use mathlib.Core.Bool.{Bool, true, false, and-eq-true-iff}
+use mathlib.Core.Bool.{Bool, true, false}
 use mathlib.Core.List.{List, [], _∷_, map}
 use Prim.Native.Nat.{ℕ, zero, suc, _+_, _*_, _-_, _/_, _≤_, _<_}
 use native.Mathlib.{Nat.mul-zero, Nat.mul-suc, Nat.mul-assoc, Nat.mul-le-mul-left, Nat.le-refl, Nat.le-of-eq, Decide.decLt, Omega.arith}
-use lib.{Dec.eqb, Dec.lit<, Dec.lit≤}
+use lib.Dec.{lit<, lit≤}
 use lib.ListN.{length, take, drop, length-drop, take-append-drop, List·getD-eq-default}
 use lib.Seq.{take-at, drop-at, take-add, take-all, length-take-le, getD-take, getD-drop}
-use borrow.Author.Tests.{eqb-true}
 use Rattle.decimal.{specs.Decimal.readFrom, specs.Aligned.right, proofs.Laws.decimal-spells, proofs.Aligning.right-length, proofs.Aligning.read-word}
 use Rattle.bits.specs.{Field.fieldOf, Field.Bytes, Fill.fill, Fill.bytesFor, Layout.total, Layout.numbersAt, Layout.packedBits, Layout.inBytes}
 use Rattle.bits.proofs.{Laws.field-zero, Filling.fill-units, Joined.numbers-left, Numbers.numbers-part, Packing.packed-numbers, Packing.in-back}
 use Rattle.register.specs.Plan.{valueOf, numberOf}
 use Rattle.plan.{specs.Form.formOne, specs.Form.formTwo, specs.Form.isForm, specs.Form.widthOf, specs.Form.mostWidth, specs.Packed.planOf, proofs.Forms.by-form, proofs.Forms.form-narrow}
 use Rattle.answers.specs.Answers.{answerWidths, answerBits, answerSize, answerNumbers, beginIn, readerIn, pairIn, countIn, zeroIn}
-use Rattle.simulator.specs.Judge.{readOf, answerFits}
-use Rattle.page.specs.{Page.lineSize, Page.cells, Page.inCells, Page.markOf, Page.rule, Page.rowOf, Page.isMarked, Page.readLine, Page.pageOf, Words.fitCells, Recovered.cellNumbers, Recovered.answerOn, Recovered.answersFrom, Recovered.formOn, Recovered.answersOn, Recovered.IsTo}
+use Rattle.simulator.specs.Judge.{readOf}
+use Rattle.simulator.proofs.Fits.{IsTo}
+use Rattle.page.specs.{Page.lineSize, Page.cells, Page.inCells, Page.markOf, Page.rule, Page.rowOf, Page.isMarked, Page.readLine, Page.pageOf, Words.fitCells, Recovered.cellNumbers, Recovered.answerOn, Recovered.answersFrom, Recovered.formOn, Recovered.answersOn}
 use Rattle.page.proofs.{Rows.RowFits, Rows.row-is, Rows.row-fits, Lines.value-in, Lines.number-in, Lines.rule-line, Lines.read-fits, Lines.page-length, Lines.page-line}
 
 -- words that fit their cells are read back as numbers
@@ -77,15 +77,6 @@ module _ (vs a : List ℕ) (k : ℕ) (bytes : Bytes a) (whole : fill 8 (total vs
       ap (λ (xs : List ℕ). inBytes (packedBits vs xs)) part-numbers
       ∙ ap inBytes (packed-numbers vs part 0)
       ∙ in-back part (total vs) part-bytes part-length (ap (fieldOf part (total vs)) whole ∙ field-zero part (total vs))
-
--- an answer that Judge does not refuse is one to its read
-pub fits-to : (w : ℕ) (s a : List ℕ) (i : ℕ) → answerFits w s a i ≡ true → IsTo w s a i
-unfolding answerFits
-fits-to w s a i e =
-    let r = readOf (planOf w s) i in
-    let x = and-eq-true-iff (eqb (beginIn w a i) (r .begun)) _ .0 e in
-    let y = and-eq-true-iff (eqb (readerIn w a i) (r .reader)) _ .0 (x .1) in
-    record { begin = eqb-true _ _ (x .0); reader = eqb-true _ _ (y .0); zero-bit = eqb-true _ _ (y .1) }
 
 -- one answer more lies among the answers
 answer-inside : (size i m n : ℕ) → n ≡ size * m → i < m → size * i + size ≤ n

@@ -31,18 +31,18 @@ unfolding heading inCells right
 heading-length = refl
 
 -- the columns of a value fit its cell, and a dash stands for each
-by-form : (Q : ℕ → Type 0) → Q 5 → Q 8 → (w : ℕ) → Q (valueColumns w)
-by-form Q five eight w = go (leb w (widthOf formOne))
+by-columns : (Q : ℕ → Type 0) → Q 5 → Q 8 → (w : ℕ) → Q (valueColumns w)
+by-columns Q five eight w = go (leb w (widthOf formOne))
   where
     go : (t : Bool) → Q (cond t 5 8)
     go true = five
     go false = eight
 
 pub few-columns : (w : ℕ) → valueColumns w ≤ 8
-few-columns = by-form (λ k. k ≤ 8) (lit≤ tt) (lit≤ tt)
+few-columns = by-columns (λ k. k ≤ 8) (lit≤ tt) (lit≤ tt)
 
 pub dashes-are : (w : ℕ) → take (valueColumns w) (replicate 8 dash) ≡ replicate (valueColumns w) dash
-dashes-are = by-form (λ k. take k (replicate 8 dash) ≡ replicate k dash) refl refl
+dashes-are = by-columns (λ k. take k (replicate 8 dash) ≡ replicate k dash) refl refl
 
 pub rule-length : (w : ℕ) → length (rule w) ≡ lineColumns
 unfolding rule

@@ -1,5 +1,4 @@
 -- The answers read back from a page alone (document 02, 'Two': 'From the sheet alone each answer can be recovered').
-use mathlib.Core.Path.{_≡_}
 use mathlib.Core.Bool.{cond}
 use mathlib.Core.List.{List, [], _∷_, _++_}
 use Prim.Native.Nat.{ℕ, zero, suc, _+_, _*_, _-_, _/_}
@@ -8,9 +7,7 @@ use lib.ListN.{length, getD, take, drop}
 use Rattle.decimal.specs.Decimal.{readFrom}
 use Rattle.bits.specs.Layout.{total, packedBits, inBytes}
 use Rattle.plan.specs.Form.{formOne, formTwo, widthOf}
-use Rattle.plan.specs.Packed.{planOf}
-use Rattle.answers.specs.Answers.{answerWidths, beginIn, readerIn, zeroIn}
-use Rattle.simulator.specs.Judge.{readOf}
+use Rattle.answers.specs.Answers.{answerWidths}
 use Rattle.page.specs.Page.{lineColumns, lineSize, valueColumns, cells, dash}
 
 -- the characters of line i
@@ -40,9 +37,3 @@ formOn page = cond (eqb (getD (lineIn page 1) (total (take 4 cells) - valueColum
 -- all answers: heading, rule and closing line are no reads
 unfoldable pub answersOn : List ℕ → List ℕ
 answersOn page = answersFrom (widthOf (formOn page)) page (length page / lineSize - 3)
-
--- answer i is one to read i of a plan, and ends with a zero bit
-pub record IsTo (w : ℕ) (s a : List ℕ) (i : ℕ) : Type 0 where
-  pub begin : beginIn w a i ≡ readOf (planOf w s) i .begun
-  pub reader : readerIn w a i ≡ readOf (planOf w s) i .reader
-  pub zero-bit : zeroIn w a i ≡ 0

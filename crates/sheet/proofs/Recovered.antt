@@ -10,12 +10,11 @@ use lib.ListN.{length, take, drop}
 use lib.Seq.{take-at}
 use Rattle.bits.specs.Field.{Bytes}
 use Rattle.plan.specs.{Form.widthOf, Packed.planOf, Check.Outcome, Check.refused, Check.result, Buffer.intoBuffer}
-use Rattle.plan.proofs.{Accept.reads-counted, Buffer.into-outcome, Laws.all-at, Tests.passed}
-use Rattle.simulator.specs.Judge.{answerFits}
+use Rattle.plan.proofs.{Accept.reads-counted, Buffer.into-outcome, Tests.passed}
 use Rattle.fitting.specs.Answered.{answeredIn}
-use Rattle.fitting.proofs.Passed.{form-answered}
+use Rattle.fitting.proofs.Passed.{is-to, form-answered}
 use Rattle.page.specs.{Page.pageOf, Recovered.answersOn}
-use Rattle.page.proofs.Recovered.{fits-to, recovered}
+use Rattle.page.proofs.Recovered.{recovered}
 use Rattle.sheet.specs.Sheet.{sheetAfter, sheetIn}
 
 -- where bytes are written, the answers are to the plan's reads, and all of the page is written
@@ -38,4 +37,4 @@ sheet-recovered form s a page m bytes e =
     let (known, A) = form-answered form s a k passed in
     let reads : k ≡ length (planOf w s .reads) = reads-counted w s k (A .checked) in
     rw (after, take-at text (drop m page) m long)
-    (recovered form known s a bytes (rw reads at (A .size)) (λ i l. fits-to w s a i (all-at (answerFits w s a) k i (rw (← reads) at l) (A .fit))))
+    (recovered form known s a bytes (rw reads at (A .size)) (λ i l. is-to w s a k A i (rw (← reads) at l)))

@@ -14,7 +14,7 @@ use Rattle.answers.specs.Parts.{IsAnswer}
 use Rattle.answers.specs.declared.Answer.{Answer}
 use Rattle.simulator.specs.Judge.{readOf}
 use Rattle.fitting.specs.Answered.{Answered}
-use Rattle.fitting.proofs.Passed.{begin-fits, reader-fits}
+use Rattle.fitting.proofs.Passed.{is-to}
 use Rattle.page.specs.Page.{isMarked, rowOf, readLine}
 
 module _ {w : ℕ} {a : List ℕ} {i : ℕ} {r : Answer} (X : IsAnswer w a i r) where
@@ -34,9 +34,9 @@ module _ {w : ℕ} {a : List ℕ} {i : ℕ} {r : Answer} (X : IsAnswer w a i r) 
 
   module _ {s : List ℕ} {count : ℕ} (A : Answered w s a count) (l : i < count) where
     pub begun-is : readOf (planOf w s) i .begun ≡ r .begin
-    begun-is = sym (X .begin ∙ begin-fits w s a count A i l)
+    begun-is = sym (X .begin ∙ is-to w s a count A i l .begin)
 
     pub line-is : (delta : ℕ) (marked : Bool) → planOf w s .delta ≡ delta → marked ≡ isMarked (planOf w s) (readOf (planOf w s) i)
         → rowOf w (r .begin ∷ r .reader ∷ (r .begin + 2 * delta) ∷ r .value ∷ r .number ∷ r .count ∷ []) marked ≡ readLine w s a i
     unfolding readLine
-    line-is delta marked d e = rw (← begun-is, X .reader, reader-fits w s a count A i l, ← d, value-is, number-is, X .count, e)
+    line-is delta marked d e = rw (← begun-is, X .reader, is-to w s a count A i l .reader, ← d, value-is, number-is, X .count, e)

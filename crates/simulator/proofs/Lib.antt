@@ -6,3 +6,4 @@ pub mod PointThree
 pub mod Promised
 pub mod Keeps
 pub mod ShownPlaces
+pub mod Fits

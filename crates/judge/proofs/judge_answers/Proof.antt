@@ -9,7 +9,7 @@ use Rattle.register.specs.Lists.{allUpTo}
 use Rattle.plan.specs.{Packed.planOf, Check.result}
 use Rattle.plan.proofs.Accept.{playable}
 use Rattle.simulator.specs.Judge.{answerAllowed}
-use Rattle.fitting.proofs.{Passed.begin-fits, Decoded.few-answers}
+use Rattle.fitting.proofs.{Passed.is-to, Decoded.few-answers}
 use Rattle.judge.proofs.judge_answers.Statement.{statement}
 use Rattle.judge.proofs.judge_answers.Tie as tie
 
@@ -30,7 +30,7 @@ allows c =
     let width = x .args .width in
     let s = now (x .args .plan) in
     sym (c .all-allowed .ensures (planOf width s) (t .of-plan .ensures .tables) (t .of-plan .ensures .delta-is)
-    (λ i l. sym (begin-fits width s (now (x .args .answers)) (x .args .count) (x .pre .0) i l)))
+    (λ i l. sym (is-to width s (now (x .args .answers)) (x .args .count) (x .pre .0) i l .begin)))
 
 of-plan-requires : tie.Need-of-plan-requires
 of-plan-requires c κs = let x = c .before .before in (playable (x .args .width) _ (x .args .count) (x .pre .0 .checked), x .pre .1)
