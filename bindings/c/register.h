@@ -17,7 +17,7 @@
  * is a refusal: REGISTER_REFUSED plus its number.  A refusal leaves all lent bytes as they were.
  *
  * Stack: play takes under 32 KB, look and pack under 38 KB, the other functions under 4 KB (measured
- * with the longest plan of each form, on x86-64).  Nothing is allocated.  (TODO-LANDING: sheet too?)
+ * with the longest plan of each form, on x86-64).  Nothing is allocated.
  * Threads: there is no global state and nothing is kept between calls.  Calls may run at once if
  * none writes to bytes that another one uses.
  */

@@ -27,7 +27,7 @@
 //! Every function takes any bytes and numbers of any length and never panics. A refused call changes
 //! no lent byte. The library keeps nothing between calls and allocates nothing; calls may run at once
 //! on several threads. [`play`] takes under 32 KB of stack, [`look`] and [`pack`] under 38 KB, the
-//! other functions under 4 KB. (TODO-LANDING: `sheet` too?)
+//! other functions under 4 KB.
 
 #![warn(missing_docs)]
 
