@@ -2,3 +2,4 @@ pub mod Cells
 pub mod Rows
 pub mod Lines
 pub mod Recovered
+pub mod Printed

@@ -1,3 +1,4 @@
 pub mod Page
 pub mod Words
 pub mod Recovered
+pub mod Printable
