@@ -2,13 +2,17 @@
 use mathlib.Core.Path.{_≡_, _∙_, refl, ap, sym}
 use mathlib.Core.Bool.{_&&_, and-assoc}
 use mathlib.Core.List.{List, [], _∷_, _++_, append-assoc, append-nil}
-use Prim.Native.Nat.{ℕ, zero, suc, _+_, _*_, _<_}
-use native.Mathlib.Nat.{add-zero, add-assoc}
+use Prim.Native.Nat.{ℕ, zero, suc, _+_, _*_, _≤_, _<_}
+use native.Mathlib.Nat.{add-zero, add-assoc, mul-le-mul-left}
 use native.Mathlib.Omega.{arith}
 use lib.ListN.{length, take, drop, length-append}
 use lib.Seq.{take-at, drop-append-add}
 use Rattle.bits.specs.Layout.{total, records, numbersAt, fits, packedBits}
 use Rattle.bits.proofs.Numbers.{numbers-length}
+
+-- of so many records, each as long as the others, the i-th ends by the end of the last
+pub record-inside : (size i count : ℕ) → i < count → size * i + size ≤ size * count
+record-inside size i count l = omega (arith, mul-le-mul-left size l)
 
 pub total-append : (a b : List ℕ) → total (a ++ b) ≡ total a + total b
 total-append [] b = omega arith

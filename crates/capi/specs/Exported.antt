@@ -10,17 +10,17 @@ use Rattle.answers.specs.Answers.{answerSize}
 use Rattle.simulator.specs.Play.{Played, playIn}
 use Rattle.codes.specs.Codes.{codeOf}
 
-pub record Answered : Type 0 where
+pub record Handed : Type 0 where
   pub code : ℕ
   pub answers : List ℕ
   pub workspace : List ℕ
 
-abbrev pub answeredBy : Played → Answered
-answeredBy x = record { code = codeOf (x .outcome); answers = x .answers; workspace = x .workspace }
+abbrev pub handedBy : Played → Handed
+handedBy x = record { code = codeOf (x .outcome); answers = x .answers; workspace = x .workspace }
 
 -- Play in a form
-abbrev pub playExported : ℕ → List ℕ → List ℕ → List ℕ → Answered
-playExported form plan answers workspace = answeredBy (playIn form plan answers workspace)
+abbrev pub playExported : ℕ → List ℕ → List ℕ → List ℕ → Handed
+playExported form plan answers workspace = handedBy (playIn form plan answers workspace)
 
 pub record Written : Type 0 where
   pub code : ℕ

@@ -1,11 +1,11 @@
--- A turn of a loop over fields or records: its field is narrow, its numbers are there, and it lies inside. Assumes nothing.
+-- A turn of a loop over fields or records: its field is narrow, and its numbers are there.
 use mathlib.Core.Path.{_≡_}
 use mathlib.Core.List.{List, [], _∷_}
-use Prim.Native.Nat.{ℕ, zero, suc, _+_, _*_, _≤_, _<_}
-use native.Mathlib.Nat.{mul-le-mul-left}
+use Prim.Native.Nat.{ℕ, zero, suc, _*_, _≤_, _<_}
 use native.Mathlib.Omega.{arith}
 use lib.Dec.{T, leb, leb→le}
 use lib.ListN.{length, getD, drop, length-drop}
+use Rattle.bits.proofs.Records.{record-inside}
 use Rattle.register.proofs.Logic.{and-l, and-r}
 use Rattle.records.specs.Records.{noWider}
 
@@ -16,10 +16,6 @@ narrow-at most [] j h l = absurd (omega arith)
 narrow-at most (v ∷ vs) zero h l = leb→le v most (and-l (leb v most) (noWider most vs) h)
 narrow-at most (v ∷ vs) (suc j) h l = narrow-at most vs j (and-r (leb v most) (noWider most vs) h) (omega arith)
 
--- of so many turns, each as long as the others, the i-th ends inside
-pub turn-inside : (size i count : ℕ) → i < count → size * i + size ≤ size * count
-turn-inside size i count l = omega (arith, mul-le-mul-left size l)
-
 -- so many records: the numbers of the i-th are there
 pub numbers-there : (vs xs : List ℕ) (count : ℕ) → length xs ≡ length vs * count → (i : ℕ) → i < count → length vs ≤ length (drop (length vs * i) xs)
-numbers-there vs xs count size i l = rw length-drop (omega (arith, turn-inside (length vs) i count l))
+numbers-there vs xs count size i l = rw length-drop (omega (arith, record-inside (length vs) i count l))

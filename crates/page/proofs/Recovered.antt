@@ -4,13 +4,13 @@ use mathlib.Core.Path.{_≡_, refl, sym, ap, _∙_}
 use mathlib.Core.Bool.{Bool, true, false}
 use mathlib.Core.List.{List, [], _∷_, map}
 use Prim.Native.Nat.{ℕ, zero, suc, _+_, _*_, _-_, _/_, _≤_, _<_}
-use native.Mathlib.{Nat.mul-zero, Nat.mul-suc, Nat.mul-assoc, Nat.mul-le-mul-left, Nat.le-refl, Nat.le-of-eq, Decide.decLt, Omega.arith}
+use native.Mathlib.{Nat.mul-zero, Nat.mul-suc, Nat.mul-assoc, Nat.le-refl, Nat.le-of-eq, Decide.decLt, Omega.arith}
 use lib.Dec.{lit<, lit≤}
 use lib.ListN.{length, take, drop, length-drop, take-append-drop, List·getD-eq-default}
 use lib.Seq.{take-at, drop-at, take-add, take-all, length-take-le, getD-take, getD-drop}
 use Rattle.decimal.{specs.Decimal.readFrom, specs.Aligned.right, proofs.Laws.decimal-spells, proofs.Aligning.right-length, proofs.Aligning.read-word}
 use Rattle.bits.specs.{Field.fieldOf, Field.Bytes, Fill.fill, Fill.bytesFor, Layout.total, Layout.numbersAt, Layout.packedBits, Layout.inBytes}
-use Rattle.bits.proofs.{Laws.field-zero, Filling.fill-units, Joined.numbers-left, Numbers.numbers-part, Packing.packed-numbers, Packing.in-back}
+use Rattle.bits.proofs.{Laws.field-zero, Filling.fill-units, Joined.numbers-left, Numbers.numbers-part, Records.record-inside, Packing.packed-numbers, Packing.in-back}
 use Rattle.register.specs.Plan.{valueOf, numberOf}
 use Rattle.plan.{specs.Form.formOne, specs.Form.formTwo, specs.Form.isForm, specs.Form.widthOf, specs.Form.mostWidth, specs.Packed.planOf, proofs.Forms.by-form, proofs.Forms.form-narrow}
 use Rattle.answers.specs.Answers.{answerWidths, answerBits, answerSize, answerNumbers, beginIn, readerIn, pairIn, countIn, zeroIn}
@@ -78,10 +78,6 @@ module _ (vs a : List ℕ) (k : ℕ) (bytes : Bytes a) (whole : fill 8 (total vs
       ∙ ap inBytes (packed-numbers vs part 0)
       ∙ in-back part (total vs) part-bytes part-length (ap (fieldOf part (total vs)) whole ∙ field-zero part (total vs))
 
--- one answer more lies among the answers
-answer-inside : (size i m n : ℕ) → n ≡ size * m → i < m → size * i + size ≤ n
-answer-inside size i m n e l = omega (arith, mul-le-mul-left size l)
-
 -- The answers to the reads of a plan, at every width that fills whole bytes.
 module _ (w : ℕ) (s a : List ℕ) (narrow : w ≤ mostWidth) (whole : fill 8 (answerBits w) ≡ 0) (bytes : Bytes a)
     (long : length a ≡ answerSize w * length (planOf w s .reads)) (to : (i : ℕ) → i < length (planOf w s .reads) → IsTo w s a i) where
@@ -97,7 +93,7 @@ module _ (w : ℕ) (s a : List ℕ) (narrow : w ≤ mostWidth) (whole : fill 8 (
   answer-back i l =
       row-answer (read-fits w s a narrow i) (isMarked (planOf w s) (readOf (planOf w s) i))
       ∙ ap (λ (xs : List ℕ). inBytes (packedBits (answerWidths w) xs)) (numbers-are i l ∙ ap (numbersAt (answerWidths w) a) (mul-assoc 8 (answerSize w) i))
-      ∙ record-back (answerWidths w) a (answerSize w * i) bytes whole (answer-inside (answerSize w) i (length (planOf w s .reads)) (length a) long l)
+      ∙ record-back (answerWidths w) a (answerSize w * i) bytes whole (rw long (record-inside (answerSize w) i (length (planOf w s .reads)) l))
 
   first-answers : (i : ℕ) → i ≤ length (planOf w s .reads) → answersFrom w (pageOf w s a) i ≡ take (answerSize w * i) a
   unfolding answersFrom

@@ -1,5 +1,4 @@
 pub mod Tables
-pub mod Records
 pub mod Storing
 pub mod Entries
 pub mod Placing

@@ -18,7 +18,7 @@ const NUMBER_BITS: usize = 32;
 const SHORT_BITS: usize = 16;
 
 // Of the index of a replaced answer; its bytes stand behind that.
-const INDEX_AT: usize = 40;
+const INDEX_AT: usize = LETTER_BITS + NUMBER_BITS;
 
 const INDEX_BITS: usize = 16;
 

@@ -1,6 +1,6 @@
 -- `register_play` meets its contract: the code of what Play returns, and the bytes that it leaves.
 use mathlib.Core.Path.{ap}
-use Rattle.capi.specs.Exported.{answeredBy}
+use Rattle.capi.specs.Exported.{handedBy}
 use borrow.Author.Needs.{needs}
 use Rattle.capi.proofs.register_play.Statement.{statement}
 use Rattle.capi.proofs.register_play.Tie as tie
@@ -18,7 +18,7 @@ same-length-2 : tie.Need-same-length-2
 same-length-2 c = search needs
 
 returns : tie.Need-returns
-returns c = rw (c .of-play .ensures) (ap answeredBy (c .before .before .before .before .before .play .ensures .0))
+returns c = rw (c .of-play .ensures) (ap handedBy (c .before .before .before .before .before .play .ensures .0))
 
 pub register-play-spec : {M : Type 1} → statement M
 register-play-spec =

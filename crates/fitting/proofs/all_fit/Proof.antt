@@ -10,7 +10,7 @@ use lib.ListN.{getD}
 use denote.Ref.{now}
 use Rattle.register.specs.Lists.{allUpTo}
 use Rattle.plan.proofs.Laws.{all-none, all-more, all-stop, all-end}
-use Rattle.script.proofs.Records.{times-more}
+use Rattle.bits.proofs.Records.{record-inside}
 use Rattle.answers.specs.Answers.{answerSize}
 use Rattle.fitting.specs.Fitting.{fitsRead}
 use Rattle.fitting.proofs.all_fit.Statement.{statement}
@@ -40,7 +40,7 @@ is-fitting-requires c κs =
     let s = c .before .before .before .before .before in
     let i = c .before .before .before .loop .i in
     let l = c .before .before .loop-test .taken in
-    (omega (arith, s .pre .2, times-more (answerSize (s .args .width)) i (s .args .count) l), omega (arith, s .pre .0), s .pre .1)
+    (omega (arith, s .pre .2, record-inside (answerSize (s .args .width)) i (s .args .count) l), omega (arith, s .pre .0), s .pre .1)
 
 returns : tie.Need-returns Inv-loop μ-loop
 returns c =

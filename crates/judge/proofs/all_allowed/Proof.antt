@@ -12,7 +12,7 @@ use Rattle.register.specs.Lists.{allUpTo}
 use Rattle.register.specs.Plan.{Plan}
 use Rattle.register.specs.Regular.{allowed}
 use Rattle.plan.proofs.Laws.{all-none, all-more, all-stop, all-end}
-use Rattle.script.proofs.Records.{times-more}
+use Rattle.bits.proofs.Records.{record-inside}
 use Rattle.answers.specs.Answers.{answerSize, beginIn, pairIn}
 use Rattle.simulator.specs.Judge.{readOf}
 use Rattle.regular.specs.Tables.{Tables}
@@ -58,7 +58,7 @@ inside : (c : tie.In-loop Inv-loop μ-loop) → let a = c .before .before .befor
     answerSize (a .width) * c .before .loop .i + answerSize (a .width) ≤ length (now (a .answers))
 inside c =
     let s = c .before .before .before in
-    omega (arith, s .pre .4, times-more (answerSize (s .args .width)) (c .before .loop .i) (s .args .count) (c .loop-test .taken))
+    omega (arith, s .pre .4, record-inside (answerSize (s .args .width)) (c .before .loop .i) (s .args .count) (c .loop-test .taken))
 
 read-requires : tie.Need-read-requires Inv-loop μ-loop
 read-requires c κs =

@@ -5,7 +5,7 @@ use native.Mathlib.Omega.{arith}
 use denote.Ref.{now}
 use borrow.Author.Needs.{needs}
 use Rattle.bits.specs.Layout.{total}
-use Rattle.packing.proofs.Turns.{turn-inside}
+use Rattle.bits.proofs.Records.{record-inside}
 use Rattle.moving.proofs.Moving.{Following, follow-none, follow-more, follow-all}
 use Rattle.moving.proofs.records.Statement.{statement}
 use Rattle.moving.proofs.records.Tie as tie
@@ -24,8 +24,8 @@ record-requires c κs =
     let s = c .before .before .before .before .before .before .before in
     let a = s .args in
     let l = c .before .before .loop in
-    let read = turn-inside (total (now (a .had))) (l .i) (a .count) (omega arith) in
-    let written = turn-inside (total (now (a .wanted))) (l .i) (a .count) (omega arith) in (
+    let read = record-inside (total (now (a .had))) (l .i) (a .count) (omega arith) in
+    let written = record-inside (total (now (a .wanted))) (l .i) (a .count) (omega arith) in (
       record { inside = omega (arith, l .inv); near = omega (arith, l .inv); narrow = s .pre .0 },
       record { inside = omega (arith, l .inv); near = omega (arith, l .inv); narrow = s .pre .1 },
       s .pre .2,

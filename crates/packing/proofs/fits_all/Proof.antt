@@ -10,7 +10,8 @@ use borrow.Author.Needs.{needs}
 use borrow.Author.Tests.{not-true, not-false}
 use Rattle.bits.specs.Layout.{records, fits}
 use Rattle.register.proofs.Lists.{part-from}
-use Rattle.packing.proofs.Turns.{turn-inside, numbers-there}
+use Rattle.bits.proofs.Records.{record-inside}
+use Rattle.packing.proofs.Turns.{numbers-there}
 use Rattle.packing.proofs.Fitting as fitting
 use Rattle.packing.proofs.fits_all.Statement.{statement}
 use Rattle.packing.proofs.fits_all.Tie as tie
@@ -31,25 +32,25 @@ loop-holds c =
 mul-from : tie.Need-mul-from Inv-loop μ-loop
 mul-from c =
     let a = c .before .before .before .before .args in
-    let m = turn-inside (length (now (a .widths))) (c .before .loop .i) (a .count) (omega arith) in
+    let m = record-inside (length (now (a .widths))) (c .before .loop .i) (a .count) (omega arith) in
     omega arith
 
 mul-fits-one : tie.Need-mul-fits-one Inv-loop μ-loop
 mul-fits-one c =
     let a = c .before .before .before .before .args in
-    let m = turn-inside (length (now (a .widths))) (c .before .loop .i) (a .count) (omega arith) in
+    let m = record-inside (length (now (a .widths))) (c .before .loop .i) (a .count) (omega arith) in
     omega arith
 
 sub-fits-one : tie.Need-sub-fits-one Inv-loop μ-loop
 sub-fits-one c =
     let a = c .before .before .before .before .args in
-    let m = turn-inside (length (now (a .widths))) (c .before .loop .i) (a .count) (omega arith) in
+    let m = record-inside (length (now (a .widths))) (c .before .loop .i) (a .count) (omega arith) in
     omega arith
 
 part-fits-one-start : tie.Need-part-fits-one-start Inv-loop μ-loop
 part-fits-one-start c =
     let a = c .before .before .before .before .args in
-    let m = turn-inside (length (now (a .widths))) (c .before .loop .i) (a .count) (omega arith) in
+    let m = record-inside (length (now (a .widths))) (c .before .loop .i) (a .count) (omega arith) in
     omega arith
 
 part-fits-one-end : tie.Need-part-fits-one-end Inv-loop μ-loop

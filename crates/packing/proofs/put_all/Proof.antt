@@ -7,7 +7,8 @@ use lib.ListN.{length}
 use borrow.Author.Needs.{needs}
 use Rattle.bits.specs.Layout.{total}
 use Rattle.register.proofs.Lists.{part-from}
-use Rattle.packing.proofs.Turns.{turn-inside, numbers-there}
+use Rattle.bits.proofs.Records.{record-inside}
+use Rattle.packing.proofs.Turns.{numbers-there}
 use Rattle.packing.proofs.Writing.{Repeating, repeat-none, repeat-more, repeat-all}
 use Rattle.packing.proofs.put_all.Statement.{statement}
 use Rattle.packing.proofs.put_all.Tie as tie
@@ -27,32 +28,32 @@ loop-holds c = repeat-none _ _ _ _ _
 mul-from : tie.Need-mul-from Inv-loop μ-loop
 mul-from c =
     let a = c .before .before .before .before .before .before .args in
-    omega (arith, turn-inside (length (now (a .widths))) (c .before .loop .i) (a .count) (omega arith))
+    omega (arith, record-inside (length (now (a .widths))) (c .before .loop .i) (a .count) (omega arith))
 
 mul-put : tie.Need-mul-put Inv-loop μ-loop
 mul-put c =
     let a = c .before .before .before .before .before .before .before .args in
-    rw (c .before .before .before .total .ensures) (omega (arith, turn-inside (total (now (a .widths))) (c .before .before .loop .i) (a .count) (omega arith)))
+    rw (c .before .before .before .total .ensures) (omega (arith, record-inside (total (now (a .widths))) (c .before .before .loop .i) (a .count) (omega arith)))
 
 add-put : tie.Need-add-put Inv-loop μ-loop
 add-put c =
     let a = c .before .before .before .before .before .before .before .args in
-    rw (c .before .before .before .total .ensures) (omega (arith, turn-inside (total (now (a .widths))) (c .before .before .loop .i) (a .count) (omega arith)))
+    rw (c .before .before .before .total .ensures) (omega (arith, record-inside (total (now (a .widths))) (c .before .before .loop .i) (a .count) (omega arith)))
 
 mul-joined : tie.Need-mul-joined Inv-loop μ-loop
 mul-joined c =
     let a = c .before .before .before .before .before .before .before .args in
-    omega (arith, turn-inside (length (now (a .widths))) (c .before .before .loop .i) (a .count) (omega arith))
+    omega (arith, record-inside (length (now (a .widths))) (c .before .before .loop .i) (a .count) (omega arith))
 
 sub-joined : tie.Need-sub-joined Inv-loop μ-loop
 sub-joined c =
     let a = c .before .before .before .before .before .before .before .args in
-    omega (arith, turn-inside (length (now (a .widths))) (c .before .before .loop .i) (a .count) (omega arith))
+    omega (arith, record-inside (length (now (a .widths))) (c .before .before .loop .i) (a .count) (omega arith))
 
 part-joined-start : tie.Need-part-joined-start Inv-loop μ-loop
 part-joined-start c =
     let a = c .before .before .before .before .before .before .before .args in
-    omega (arith, turn-inside (length (now (a .widths))) (c .before .before .loop .i) (a .count) (omega arith))
+    omega (arith, record-inside (length (now (a .widths))) (c .before .before .loop .i) (a .count) (omega arith))
 
 part-joined-end : tie.Need-part-joined-end Inv-loop μ-loop
 part-joined-end c = search needs
@@ -68,7 +69,7 @@ put-requires : tie.Need-put-requires Inv-loop μ-loop
 put-requires c κs =
     let a = c .before .before .before .before .before .before .before .before .before .args in
     let l = c .before .before .before .before .loop in
-    rw (c .before .before .before .before .before .total .ensures) (omega (arith, turn-inside (total (now (a .widths))) (l .i) (a .count) (omega arith)))
+    rw (c .before .before .before .before .before .total .ensures) (omega (arith, record-inside (total (now (a .widths))) (l .i) (a .count) (omega arith)))
 
 add-i : tie.Need-add-i Inv-loop μ-loop
 add-i c = search needs

@@ -9,7 +9,7 @@ use borrow.Author.Needs.{needs}
 use Rattle.decimal.specs.Stored.{Stored}
 use Rattle.decimal.proofs.Stores.{stored-none, stored-then}
 use Rattle.plan.proofs.Accept.{playable}
-use Rattle.script.proofs.Records.{times-more}
+use Rattle.bits.proofs.Records.{record-inside}
 use Rattle.answers.specs.Answers.{answerSize}
 use Rattle.fitting.proofs.Decoded.{few-answers}
 use Rattle.page.specs.Page.{readLines}
@@ -37,7 +37,7 @@ line-of-requires c κs =
     let W = c .before .before .before .before .before .of-plan .ensures .tables .written in
     let l = c .before .before .loop-test .taken in
     let few = few-answers (x .args .width) _ (x .args .count) (x .pre .2 .checked) in (
-      omega (arith, x .pre .2 .size, times-more (answerSize (x .args .width)) (c .before .before .before .loop .i) (x .args .count) l),
+      omega (arith, x .pre .2 .size, record-inside (answerSize (x .args .width)) (c .before .before .before .loop .i) (x .args .count) l),
       omega (arith, few),
       x .pre .1,
       omega (arith, W .count),

@@ -9,7 +9,7 @@ use Rattle.register.proofs.Stamped.{value-stamped, number-stamped}
 use Rattle.plan.specs.Header.{forgeryBits}
 use Rattle.script.specs.Forged.{numberIn, Filled, forgedAt, delayOf, knownNumber}
 use Rattle.plan.proofs.Sizes.{forgeries-few}
-use Rattle.script.proofs.Records.{times-more}
+use Rattle.bits.proofs.Records.{record-inside}
 use Rattle.script.proofs.Entries.{filled-none, filled-more}
 use Rattle.script.proofs.forged.fill.Statement.{statement}
 use Rattle.script.proofs.forged.fill.Tie as tie
@@ -49,7 +49,7 @@ message-at-requires c κs =
     let bits = c .before .before .bits in
     let w = s .args .width in
     let l : h .e < s .args .count = c .loop-test .taken in (
-      rw (bits .ensures) (omega (arith, s .pre .inside, times-more (forgeryBits w) (h .e) (s .args .count) l)),
+      rw (bits .ensures) (omega (arith, s .pre .inside, record-inside (forgeryBits w) (h .e) (s .args .count) l)),
       omega (arith, s .pre .start, forgeries-few (bits .result) (h .e) (omega (arith, s .pre .narrow, bits .ensures)) (omega (arith, s .pre .few))),
       s .pre .narrow,
     )

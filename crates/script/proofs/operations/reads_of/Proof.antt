@@ -11,7 +11,7 @@ use Rattle.plan.specs.Header.{operationBits}
 use Rattle.plan.specs.Parts.{Operation, operationIn, readsFrom}
 use Rattle.script.specs.Operations.{opAt, ReadIn}
 use Rattle.plan.proofs.Sizes.{operations-few}
-use Rattle.script.proofs.Records.{times-more}
+use Rattle.bits.proofs.Records.{record-inside}
 use Rattle.script.proofs.Storing.{read-stored, read-left, read-in-none}
 use Rattle.script.proofs.operations.reads_of.Statement.{statement}
 use Rattle.script.proofs.operations.reads_of.Tie as tie
@@ -65,7 +65,7 @@ read-requires c κs =
     let bits = c .before .before .bits in
     let l : h .i < s .args .count = c .loop-test .taken in
     let w = s .args .width in (
-      rw (bits .ensures) (omega (arith, s .pre .inside, times-more (operationBits w) (h .i) (s .args .count) l)),
+      rw (bits .ensures) (omega (arith, s .pre .inside, record-inside (operationBits w) (h .i) (s .args .count) l)),
       omega (arith, s .pre .start, operations-few (bits .result) (h .i) (omega (arith, s .pre .narrow, bits .ensures)) (omega (arith, s .pre .few))),
       s .pre .narrow,
     )

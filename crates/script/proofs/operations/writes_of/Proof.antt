@@ -14,7 +14,7 @@ use Rattle.plan.specs.Parts.{Operation, operationIn, writesFrom}
 use Rattle.script.specs.Operations.{opAt, Written}
 use Rattle.script.proofs.Tables.{each-stored}
 use Rattle.plan.proofs.Sizes.{operations-few}
-use Rattle.script.proofs.Records.{times-more}
+use Rattle.bits.proofs.Records.{record-inside}
 use Rattle.script.proofs.Storing.{number-left, write-stored, write-left, written-none}
 use Rattle.script.proofs.operations.writes_of.Statement.{statement}
 use Rattle.script.proofs.operations.writes_of.Tie as tie
@@ -91,7 +91,7 @@ read-requires c κs =
     let bits = c .before .before .bits in
     let l : h .i < s .args .count = c .loop-test .taken in
     let w = s .args .width in (
-      rw (bits .ensures) (omega (arith, s .pre .0 .inside, times-more (operationBits w) (h .i) (s .args .count) l)),
+      rw (bits .ensures) (omega (arith, s .pre .0 .inside, record-inside (operationBits w) (h .i) (s .args .count) l)),
       omega (arith, s .pre .0 .start, operations-few (bits .result) (h .i) (omega (arith, s .pre .0 .narrow, bits .ensures)) (omega (arith, s .pre .0 .few))),
       s .pre .0 .narrow,
     )
