@@ -1,5 +1,4 @@
 pub mod Tests
 pub mod Inverted
-pub mod Copied
 pub mod Writes
 pub mod Ready

@@ -78,6 +78,12 @@ unfolding count
 count-cong P Q zero h = refl
 count-cong P Q (suc n) h = rw (h n (omega arith), count-cong P Q n (λ i l. h i (omega arith)))
 
+-- the first index apart from the others
+pub count-low : (P : ℕ → Bool) (n : ℕ) → count P (suc n) ≡ one-if (P 0) + count (λ i. P (suc i)) n
+unfolding count
+count-low P zero = refl
+count-low P (suc n) = omega (arith, count-low P n)
+
 -- one passes where the count is not 0
 pub count-some : (P : ℕ → Bool) (n : ℕ) → 1 ≤ count P n → (i : ℕ) × (i < n) × T (P i)
 count-some P n h = let r = count-pick P (λ i. false) n (omega (arith, count-none n)) in (r .0, r .1, r .2)

@@ -9,8 +9,8 @@ use native.Mathlib.Nat.{add-zero}
 use native.Mathlib.Omega.{arith}
 use native.Mathlib.Decide.{ℕ-discrete}
 use lib.Dec.{T, eqb, eqb→eq, T-not}
-use lib.ListN.{getD, take, drop, length, length-drop, replicate}
-use lib.Seq.{take-all}
+use lib.ListN.{getD, set, take, drop, length, length-drop, replicate}
+use lib.Seq.{take-all, drop-cons, set-at, take-suc, append-snoc, length-take-le}
 use Rattle.register.specs.Lists.{tabFrom, tab, flat, any, filter, In, member, distinct, highest, sameList}
 use Rattle.register.proofs.Logic.{and-l, and-r, or-e, or-l, or-r, cond-e, max-cases}
 
@@ -18,6 +18,14 @@ module _ {A : Type 0} where
   -- the part of a list from a place on, cut to its length: how a callee has it
   pub part-from : (a : ℕ) (s : List A) → take (length s - a) (drop a s) ≡ drop a s
   part-from a s = take-all (length s - a) (drop a s) (rw length-drop (omega arith))
+
+  -- a turn of a loop that copies a list over the start of another
+  pub copy-more : (s d : List A) (i : ℕ) (x : A) → i < length s → i < length d → set (take i s ++ drop i d) i (getD s i x) ≡ take (suc i) s ++ drop (suc i) d
+  copy-more s d i x h k =
+      rw (drop-cons d i x k)
+      (set-at (take i s) (getD d i x) (drop (suc i) d) (getD s i x) i (length-take-le i s (omega arith))
+      ∙ sym (append-snoc (take i s) (getD s i x) (drop (suc i) d))
+      ∙ ap (λ (r : List A). r ++ drop (suc i) d) (sym (take-suc s i x h)))
 
   pub in-append : (x : A) (l m : List A) → In x (l ++ m) → In x l ⊎ In x m
   in-append x [] m i = inr i

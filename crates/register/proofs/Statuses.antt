@@ -1,6 +1,6 @@
 -- Status: which servers are faulty, cured or correct follows from the placements alone. A server is faulty as placed, cured for delta ticks
 -- after a placement it has left, and otherwise correct. It stands on Stages and Placements.
-use mathlib.Core.Path.{_≡_, refl}
+use mathlib.Core.Path.{_≡_, refl, sym}
 use mathlib.Core.Bool.{Bool, true, false, not, cond}
 use mathlib.Core.Logic.{_≢_}
 use Prim.Native.Nat.{ℕ, zero, suc, _+_, _*_, _-_, _/_, _≤_, _<_}
@@ -9,7 +9,7 @@ use native.Mathlib.Omega.{arith}
 use lib.Dec.{T, eqb, eqb→eq, eqb-refl, T-not}
 use Rattle.register.specs.Plan.{Plan, isMove}
 use Rattle.register.specs.Server.{Status, faulty, cured, correct, isFaulty, isCorrect, curedAt, Server}
-use Rattle.register.proofs.Logic.{cond-e}
+use Rattle.register.proofs.Logic.{T-eq, F-eq, cond-e}
 use Rattle.register.proofs.Good.{Good}
 use Rattle.register.proofs.Placements.{not-moving, moving, period-suc}
 use Rattle.register.proofs.Trace.{before, mid, before-zero, before-suc}
@@ -74,15 +74,18 @@ module _ (P : Plan) (G : Good P) where
       (mid-suc t b (status-is t b l))))
       (λ h. rw (period-suc P G t .0 (not-moving P (suc t) h)) (mid-suc t b (status-is t b l))))
 
-  -- what follows: a server that is not placed is not faulty
-  pub not-faulty : (t b : ℕ) → b < P .n → T (not (P .placed (t / P .period) b)) → T (not (isFaulty (before P (suc t) b .status)))
+  -- what follows: a server is faulty as placed, and one that is not placed is not
+  pub faulty-placed : (t b : ℕ) → b < P .n → isFaulty (before P (suc t) b .status) ≡ P .placed (t / P .period) b
   unfolding StatusIs
-  not-faulty t b l h = go (before P (suc t) b .status) (status-is t b l)
+  faulty-placed t b l = go (before P (suc t) b .status) (status-is t b l)
     where
-      go : (s : Status) → StatusIs P (t / P .period) t b s → T (not (isFaulty s))
-      go faulty k = absurd (T-not (P .placed (t / P .period) b) h k)
-      go (cured m) k = tt
-      go correct k = tt
+      go : (s : Status) → StatusIs P (t / P .period) t b s → isFaulty s ≡ P .placed (t / P .period) b
+      go faulty k = sym (T-eq (P .placed (t / P .period) b) k)
+      go (cured m) k = sym (F-eq (P .placed (t / P .period) b) (k .0))
+      go correct k = sym (F-eq (P .placed (t / P .period) b) (k .0))
+
+  pub not-faulty : (t b : ℕ) → b < P .n → T (not (P .placed (t / P .period) b)) → T (not (isFaulty (before P (suc t) b .status)))
+  not-faulty t b l h = rw (faulty-placed t b l) h
 
   -- a server that neither this placement nor the one before makes faulty is correct
   pub steady-correct : (t b : ℕ) → b < P .n → T (not (P .placed (t / P .period) b)) → T (not (P .placed (t / P .period - 1) b))

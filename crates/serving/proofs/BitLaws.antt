@@ -9,7 +9,7 @@ use lib.ListN.{getD, replicate}
 use lib.Bits.{bitOr, bitAnd, or-lt, and-shr, and-mod}
 use lib.Count.{ones, ones-step}
 use Rattle.register.specs.Lists.{count, one-if}
-use Rattle.register.proofs.Counting.{digit-one}
+use Rattle.register.proofs.Counting.{digit-one, count-low}
 use Rattle.register.proofs.Lists.{getD-replicate-same}
 use Rattle.calendar.specs.Bits.{bit}
 use Rattle.calendar.proofs.Laws.{by-digits, bit-or, bit-zero}
@@ -32,11 +32,6 @@ bit-shift k (suc i) m =
 pub bit-test : (x m : ℕ) → eqb (m / 2 ^ x % 2) 1 ≡ bit x m
 unfolding bit
 bit-test x m = bit-shift 0 x m ∙ ap (λ (k : ℕ). bit k m) (add-zero x)
-
-count-low : (p : ℕ → Bool) (k : ℕ) → count p (suc k) ≡ one-if (p 0) + count (λ i. p (suc i)) k
-unfolding count
-count-low p zero = refl
-count-low p (suc k) = omega (arith, count-low p k)
 
 -- the machine's count of ones is the size of the set
 pub ones-count : (k m : ℕ) → m < 2 ^ k → ones m ≡ count (λ i. bit i m) k

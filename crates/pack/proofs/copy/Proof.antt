@@ -8,7 +8,7 @@ use native.Mathlib.Omega.{arith}
 use lib.ListN.{length, take, drop}
 use lib.Seq.{take-all}
 use borrow.Author.Needs.{needs}
-use Rattle.pack.proofs.Copied.{copy-more}
+use Rattle.register.proofs.Lists.{copy-more}
 use Rattle.pack.proofs.copy.Statement.{statement}
 use Rattle.pack.proofs.copy.Tie as tie
 
@@ -39,7 +39,7 @@ loop-again c =
     let l = c .before .before .loop in (
       omega arith,
       search needs,
-      rw (l .inv .2, add-one (l .i)) (copy-more (now (a .plan)) (now (a .out)) (l .i) (omega arith) (omega arith)),
+      rw (l .inv .2, add-one (l .i)) (copy-more (now (a .plan)) (now (a .out)) (l .i) 0 (omega arith) (omega arith)),
     )
 
 same-length : tie.Need-same-length Inv-loop μ-loop
