@@ -1,0 +1,5 @@
+pub mod Sums
+pub mod Moves
+pub mod Sent
+pub mod Votes
+pub mod Forged

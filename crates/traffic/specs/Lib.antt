@@ -1,0 +1,2 @@
+pub mod Traffic
+pub mod Alone
