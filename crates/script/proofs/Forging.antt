@@ -14,7 +14,7 @@ use Rattle.plan.specs.Header.{Header, headerOf, operationAt}
 use Rattle.plan.proofs.Accept.{in-range}
 use Rattle.serving.specs as serving-specs
 use Rattle.calendar.specs.Layout.{places}
-use Rattle.script.specs.Forged.{entriesEnd, forgedAt, delayOf, knownNumber, Fillable, Filled, Starts}
+use Rattle.script.specs.Forged.{entriesEnd, forgedAt, delayOf, knownNumber, Legible, Fillable, Filled, Starts}
 use Rattle.script.specs.Script.{LinksOf, messageOf, messageDelay, Entered}
 use Rattle.script.proofs as script-laws
 use Rattle.script.proofs.Messages.{sent-below, sender-below, on-link, message-reach}
@@ -31,7 +31,7 @@ module _ (w : ℕ) (s : List ℕ) (A : plan-specs.Playable.Playable w s) (x : pl
   first-bit : at ≡ operationAt w (headerOf w s) (headerOf w s .operations)
   first-bit = starts-at ∙ ap (λ (h : Header). operationAt w h (h .operations)) same
 
-  counted : x .forgeries ≡ headerOf w s .forgeries
+  pub counted : x .forgeries ≡ headerOf w s .forgeries
   counted = ap (λ (h : Header). h .forgeries) same
 
   pub part-starts : at / 8 ≤ length s
@@ -41,7 +41,7 @@ module _ (w : ℕ) (s : List ℕ) (A : plan-specs.Playable.Playable w s) (x : pl
   part-whole = part-from (at / 8) s
 
   -- the part has the messages, from the byte that holds its first bit on, at an offset under eight
-  message : (e : ℕ) → forgedAt w part (at % 8) e ≡ messageOf w s e
+  pub message : (e : ℕ) → forgedAt w part (at % 8) e ≡ messageOf w s e
   unfolding plan-specs.Parts.forgeryOf
   message e =
       let z : 8 * (at / 8) + at % 8 ≡ at = omega arith in
@@ -52,19 +52,20 @@ module _ (w : ℕ) (s : List ℕ) (A : plan-specs.Playable.Playable w s) (x : pl
     L : LinksOf w (headerOf w s) links
     L = rw same at linked
 
-    pub fillable : w ≤ plan-specs.Form.mostWidth → (work : List ℕ) (m : ℕ) → entriesEnd ≤ length work → m ≤ places → Fillable w work part (at % 8) (x .forgeries) s links (x .n) m
-    fillable narrow work m room pairs = record {
+    pub legible : w ≤ plan-specs.Form.mostWidth → Legible w part (at % 8) (x .forgeries) s links (x .n)
+    legible narrow = record {
       narrow = narrow;
-      room = room;
       start = omega arith;
       few = omega (arith, counted, in-range w s A .forgeries-hi);
       inside = rw (part-whole, length-drop, counted) (omega (arith, first-bit, counted, script-laws.Placing.bits-inside w s A, part-starts));
-      pairs = pairs;
       reach = λ e l. rw (ap (λ (h : Header). h .n) same)
           (subst (λ (g : Forgery). serving-specs.Links.Reach s links (headerOf w s .n) (g .at) (g .from) (g .to)) (sym (message e)) (message-reach w s A e (omega (arith, counted)) narrow links L));
     }
 
-    delay-same : (e : ℕ) → e < headerOf w s .forgeries → delayOf s links (forgedAt w part (at % 8) e) ≡ messageDelay w s e
+    pub fillable : w ≤ plan-specs.Form.mostWidth → (work : List ℕ) (m : ℕ) → entriesEnd ≤ length work → m ≤ places → Fillable w work part (at % 8) (x .forgeries) s links (x .n) m
+    fillable narrow work m room pairs = record { messages = legible narrow; room = room; pairs = pairs }
+
+    pub delay-same : (e : ℕ) → e < headerOf w s .forgeries → delayOf s links (forgedAt w part (at % 8) e) ≡ messageDelay w s e
     delay-same e h =
         ap (delayOf s links) (message e)
         ∙ script-laws.Placing.link-delay w s A links L (messageOf w s e .at) (messageOf w s e .from) (messageOf w s e .to)

@@ -49,15 +49,19 @@ knownNumber w values m g = numberIn values m (valueOf w (g .pair)) (numberOf w (
 unfoldable pub entryBytes : List ℕ → ℕ → ℕ → ℕ → ℕ → ℕ → ℕ → List ℕ
 entryBytes work at a b c d e = set (set (set (set (set work at a) (at + 1) b) (at + 2) c) (at + 3) d) (at + 4) e
 
--- so many forged messages stand there, their delays lie in the plan, and there is room for the entries
-pub record Fillable (w : ℕ) (work part : List ℕ) (offset count : ℕ) (plan : List ℕ) (links : Links) (n m : ℕ) : Type 0 where
+-- so many forged messages stand there, and their delays lie in the plan
+pub record Legible (w : ℕ) (part : List ℕ) (offset count : ℕ) (plan : List ℕ) (links : Links) (n : ℕ) : Type 0 where
   pub narrow : w ≤ mostWidth
-  pub room : entriesEnd ≤ length work
   pub start : offset < 8
   pub few : count ≤ mostEntries
   pub inside : offset + forgeryBits w * count ≤ 8 * length part
-  pub pairs : m ≤ places
   pub reach : (e : ℕ) → e < count → let g : Forgery = forgedAt w part offset e in Reach plan links n (g .at) (g .from) (g .to)
+
+-- and there is room for the entries
+pub record Fillable (w : ℕ) (work part : List ℕ) (offset count : ℕ) (plan : List ℕ) (links : Links) (n m : ℕ) : Type 0 where
+  pub messages : Legible w part offset count plan links n
+  pub room : entriesEnd ≤ length work
+  pub pairs : m ≤ places
 
 -- entry e is the forged message g, with this delay and number
 pub record Entry (work : List ℕ) (e : ℕ) (g : Forgery) (delay number : ℕ) : Type 0 where

@@ -8,6 +8,7 @@ ghost use Rattle.plan.specs.Parts.{forgeryIn};
 ghost use Rattle.plan.specs.Steps.{forgery};
 ghost use Rattle.script.specs.Forged.{numberIn, entryBytes, Fillable, Filled, forgedAt, delayOf, knownNumber, Start, Starts, entriesEnd, mostEntries};
 ghost use Rattle.calendar.specs.Layout.{places};
+ghost use Rattle.serving.specs.Links.{delayAt, Reach};
 use calendar::NO_PAIR;
 use calendar::PLACES;
 use plan::forgeries::Forged;
@@ -24,11 +25,26 @@ pub const ENTRY: usize = 8;
 pub const STARTS: usize = 129;
 
 // The forged message that stands from bit `at` on.
-fn message_at(part: &[u8], at: usize, width: u8) -> Forged
+pub fn message_at(part: &[u8], at: usize, width: u8) -> Forged
     requires { ⌜ (at + forgeryBits width ≤ 8 * length (now part)) × (at < 2 ^ 50) × (width ≤ mostWidth) ⌝ }
     ensures { λ r. ⌜ (forgery width r ≡ forgeryIn width (now (part .entry)) at) × (r .at < 128) × (r .value < 2 ^ width) ⌝ }
 {
     Forged::of(bits::field(part, at, Forged::bits(width)), width)
+}
+
+// How long it takes.
+pub fn delay_of(plan: &[u8], links: Links, n: usize, g: Forged) -> usize
+    requires { ⌜ Reach (now plan) links n (g .at) (g .from) (g .to) ⌝ }
+    ensures { λ r. ⌜ (r ≡ delayAt (now (plan .entry)) links (g .at) (g .from) (g .to)) × (r < 16) ⌝ }
+{
+    delays::delay(
+        plan,
+        links,
+        n,
+        g.at as usize,
+        g.from as usize,
+        g.to as usize,
+    )
 }
 
 // The number, if it is that of a known pair with this value; else NO_PAIR.
@@ -88,14 +104,7 @@ pub fn fill(
     while e < count {
         let g = message_at(part, offset + bits * e, width);
         let number = known_number(values, m, g.value, g.number);
-        let delay = delays::delay(
-            plan,
-            links,
-            n,
-            g.at as usize,
-            g.from as usize,
-            g.to as usize,
-        );
+        let delay = delay_of(plan, links, n, g);
         put_entry(
             work,
             ENTRIES + ENTRY * e,

@@ -42,7 +42,8 @@ fn rules_of(header: Shape) -> Rules
     }
 }
 
-fn links_of(header: Shape) -> Links
+// Where the delays stand.
+pub fn links_of(header: Shape) -> Links
     requires { ⌜ Ranged (shape header) × (header .width ≤ mostWidth) ⌝ }
     ensures { λ r. ⌜ LinksOf (header .width) (shape header) r ⌝ }
 {
