@@ -1,0 +1,4 @@
+pub mod Tables
+pub mod Reached
+pub mod Arriving
+pub mod Counted
