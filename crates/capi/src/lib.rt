@@ -10,6 +10,7 @@ ghost use Rattle.pack.specs.Numbered.{listsFrom};
 ghost use Rattle.plan.specs.Form.{formOne, formTwo, widthOf};
 ghost use Rattle.carrying.specs.Carrying.{carryOf};
 ghost use Rattle.sheet.specs.Sheet.{sheetIn};
+ghost use Rattle.figures.specs.Figures.{forecastCoded};
 ghost use Rattle.capi.specs.Exported.{playExported, packExported, writtenBy, answerBytesIn};
 use plan::form;
 use plan::header::Shape;
@@ -64,6 +65,15 @@ pub extern "C" fn register_sheet(form: usize, plan: &[u8], answers: &[u8], page:
     ensures { λ r. ⌜ record { code = r; out = now (page .exit) } ≡ writtenBy (sheetIn form (now (plan .entry)) (now (answers .entry)) (now (page .entry))) ⌝ }
 {
     codes::of_output(sheet::sheet(form, plan, answers, page))
+}
+
+// How many numbers there are. As many of them as fit stand at the start of `numbers`: 0 bytes of answers, 1 movements, 2 WRITEs and 3 READs sent, 4 votes sent on
+// receipt of a WRITE, 5 the most forged messages that arrive in one tick.
+#[no_mangle]
+pub extern "C" fn register_forecast(form: usize, plan: &[u8], numbers: &mut [u32]) -> usize
+    ensures { λ r. ⌜ record { code = r; numbers = now (numbers .exit) } ≡ forecastCoded form (now (plan .entry)) (now (numbers .entry)) ⌝ }
+{
+    figures::forecast(form, plan, numbers)
 }
 
 // The number of bytes of the plan that is packed from the lists, at the start of `out`.

@@ -46,7 +46,8 @@ fn number(why: Refusal) -> usize
     }
 }
 
-fn refusal(why: Refusal) -> usize
+// Of a refusal.
+pub fn refusal(why: Refusal) -> usize
     ensures { λ r. ⌜ r ≡ refusalCode (refusalNumber why) ⌝ }
 {
     REFUSED + number(why)
