@@ -5,3 +5,4 @@ pub mod JustSet
 pub mod Depth
 pub mod Packed
 pub mod Sheets
+pub mod Forecasts
