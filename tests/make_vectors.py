@@ -16,11 +16,13 @@ program of other authorship in the folder ORACLE says it:
                           replaced (2), its bytes (6)
                      Lent bytes hold 165; answers beyond Play's are zeros.
   FOLDER/stdout      for each plan a line `plan I in form N` (I counted from 0); a line `check reads N` or
-                     `check refused N`; in form one the program's text; for an accepted plan the line
-                     `answers` with each answer as a number, and if it has at most 120 servers times ticks a
-                     line `look` for each tick and server: tick, server, condition (0 faulty, 1 cured,
-                     2 correct), then value and number of each stamped value kept, highest first.  Then a
-                     line for each request:
+                     `check refused N`; a line `forecast` with six numbers, bytes of answers, moves, WRITE
+                     messages, READ messages, votes on receipt of a WRITE, the most forgeries that arrive in
+                     one tick, or `forecast refused N`; in form one the program's text; for an accepted plan
+                     the line `answers` with each answer as a number, and if it has at most 120 servers times
+                     ticks a line `look` for each tick and server: tick, server, condition (0 faulty,
+                     1 cured, 2 correct), then value and number of each stamped value kept, highest first.
+                     Then a line for each request:
                        play   `reads N` or `refused N`; `kept` or `changed` for answers and workspace
                        look   what is seen or `refused N`; `kept` or `changed` for workspace and pairs
                        judge  `yes`, `no` or `refused N`
@@ -146,6 +148,34 @@ def of_many_writes(oracle):
             yield oracle.built(n=n, f=f, delta=delta, Delta=period, H=ticks, start=start, delay=delta,
                                held=[[i % n] if f else [] for i in range(ticks)], ops=operations,
                                forge=[(tick, sender, (sender + 1) % n, start + step, 1) for tick, sender in forgers.items()])
+
+
+def just_counted(oracle):
+    """Around the ticks that decide what a forecast counts."""
+    start, value, *_ = VALUES[oracle.number]
+
+    def five(held, writes=(), reads=(), forge=(), slow=()):
+        """With five servers, and movements in ticks 0, 4 and 8 of 10.  A forgery, and a message that takes two
+        ticks and not one, is said by tick, sender and receiver."""
+        return oracle.built(n=5, f=1, delta=2, Delta=4, H=10, start=start, held=held,
+                            ops=[*((tick, 0, value) for tick in writes), *((tick, 1, 0) for tick in reads)],
+                            forge=[(*link, value, 9) for link in forge], special={link: 2 for link in slow})
+
+    for ticks in (63, 64):
+        yield oracle.built(Delta=63, H=ticks, start=start)
+    # A WRITE arrives at server 0 in the tick of a movement, and in the tick behind it.
+    for held in ([[0], [], []], [[], [0], []]):
+        yield five(held, writes=[3])
+        yield five(held, writes=[3], slow=[(3, 5, 0)])
+    # A forgery arrives in the last tick; two arrive too late.
+    yield five([[0]], forge=[(8, 0, 1)])
+    yield five([[0]], forge=[(8, 0, 1), (9, 0, 1)], slow=[(8, 0, 1)])
+    # A forgery arrives at a server that is faulty by then; at a reader whose read has ended.
+    yield five([[0], [1], []], forge=[(3, 0, 1)], slow=[(3, 0, 1)])
+    yield five([[0], [], []], reads=[0], forge=[(3, 0, 6)], slow=[(3, 0, 6)])
+    # Votes and a reply arrive together, one more in the tick before and one in the tick behind.
+    yield five([[0], [], []], reads=[0], forge=[(1, 0, 2), (2, 0, 2), (3, 0, 3), (3, 0, 4), (3, 0, 6)],
+               slow=[(1, 0, 2), (2, 0, 2), (3, 0, 4)])
 
 
 def with_one_value(one, two):
@@ -405,7 +435,9 @@ def about_accepted(oracle, plan, rng, each_pair):
 def about(oracle, index, plan, rng, each_pair):
     """The requests about a plan, and what the program has to print of it."""
     reads = oracle.check(plan)
-    first = [f"plan {index} in form {oracle.number}", f"check {oracle.said(reads, lambda count: f'reads {count}')}"]
+    forecast = oracle.said(oracle.forecast(plan), lambda numbers: " ".join(map(str, numbers)))
+    first = [f"plan {index} in form {oracle.number}", f"check {oracle.said(reads, lambda count: f'reads {count}')}",
+             f"forecast {forecast}"]
     if oracle.number == FORM_ONE:
         first += oracle.text(plan).splitlines()
     refused = oracle.is_refused(reads)
@@ -429,6 +461,8 @@ def all_plans(folder):
     yield from ((two, plan, False) for plan in of_many_writes(two))
     for oracle, plan in itertools.chain(in_the_wrong_form(one, two), in_no_form(folder, one)):
         yield oracle, plan, False
+    for oracle in (one, two):
+        yield from ((oracle, plan, False) for plan in just_counted(oracle))
 
 
 def kind(line):
@@ -449,7 +483,7 @@ def main(argv):
         packed += [oracle.number.to_bytes(6, "big"), struct.pack(">IH", len(plan), len(asked.requests)), plan, *asked.requests]
         printed += lines
         form = oracle.form.name if oracle.form else "other"
-        counts[form].update(["plans", *map(kind, [lines[1], *asked.lines])])
+        counts[form].update(["plans", *map(kind, [*lines[1:3], *asked.lines])])
     os.makedirs(os.path.join(folder, "data"), exist_ok=True)
     write(b"".join(packed), folder, "data", "plans")
     write(("\n".join(printed) + "\n").encode(), folder, "stdout")

@@ -166,6 +166,10 @@ class Oracle:
         plan = self.forms.check(self.form, plan)
         return plan if self.is_refused(plan) else len(plan.reads)
 
+    def forecast(self, plan):
+        """The six numbers of what playing the plan takes."""
+        return self.operations.takes(self.form, plan)
+
     @functools.lru_cache(1)
     def facts(self, plan):
         """For each read of an accepted plan begin, screen, end, cue, number, count and mark."""

@@ -63,17 +63,21 @@ fn look(form: usize, plan: &[u8], tick: usize, server: usize) {
     word(b"\n");
 }
 
-// What Check says of a plan; in form one also the program's text.
+// What Check says of a plan, and Forecast; in form one also the program's text.
 fn check(form: usize, plan: &[u8]) {
     word(b"check ");
     shown::outcome(codes::of_check(checks::check(form, plan)));
+    let mut numbers = [0u32; figures::FIGURES];
+    let code = figures::forecast(form, plan, &mut numbers);
+    word(b"\nforecast");
+    shown::forecast(code, &numbers);
     word(b"\n");
     if form == form::ONE {
         console::print_text(STDOUT_FILENO, plan);
     }
 }
 
-// Check, Play's answers and Look of a plan; what Play answered.
+// Check, Forecast, Play's answers and Look of a plan; what Play answered.
 fn run(form: usize, plan: &[u8], index: u64) -> [u8; sizes::ANSWERS] {
     word(b"plan ");
     number(index, b" in form ");

@@ -25,6 +25,26 @@ pub fn outcome(code: usize) {
     number(code as u64, b"");
 }
 
+// One number of a forecast.
+fn figure(x: u32) {
+    word(b" ");
+    number(x as u64, b"");
+}
+
+// The numbers of a forecast, or the refusal.
+pub fn forecast(code: usize, numbers: &[u32; figures::FIGURES]) {
+    if codes::REFUSED <= code {
+        word(b" ");
+        refusal(code);
+        return;
+    }
+    let mut i: usize = 0;
+    while i < figures::FIGURES {
+        figure(numbers[i]);
+        i += 1;
+    }
+}
+
 // Judge's yes or no, or the refusal.
 pub fn verdict(code: usize) {
     if codes::REFUSED <= code {
