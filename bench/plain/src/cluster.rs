@@ -1,5 +1,6 @@
 //! The cluster carried through its ticks, in the five stages of docs/RULES.md.
 
+use crate::forecast::Forecast;
 use crate::plan::{Plan, Stamped, MOST_READERS};
 use crate::server::{Server, Store};
 use crate::Condition;
@@ -11,6 +12,13 @@ struct Message {
     sender: u8,
     receiver: u8,
     content: Content,
+    forged: bool,
+}
+
+impl Message {
+    fn new(sender: usize, receiver: usize, content: Content) -> Self {
+        Message { sender: sender as u8, receiver: receiver as u8, content, forged: false }
+    }
 }
 
 #[derive(Clone, Copy)]
@@ -50,22 +58,26 @@ struct Network<'a> {
 }
 
 impl Network<'_> {
-    fn send(&mut self, tick: usize, sender: usize, receiver: usize, content: Content) {
+    fn send(&mut self, tick: usize, message: Message) {
+        let (sender, receiver) = (message.sender.into(), message.receiver.into());
         let arrival = tick + self.plan.delay(tick, sender, receiver);
-        let message = Message { sender: sender as u8, receiver: receiver as u8, content };
         self.under_way[arrival % ARRIVAL_TICKS].push(message);
     }
 
-    fn send_to_servers(&mut self, tick: usize, sender: usize, content: Content) {
+    /// Sends to every server but the sender; how many messages these are.
+    fn send_to_servers(&mut self, tick: usize, sender: usize, content: Content) -> usize {
+        let mut messages = 0;
         for receiver in (0..self.plan.header.servers).filter(|&receiver| receiver != sender) {
-            self.send(tick, sender, receiver, content);
+            self.send(tick, Message::new(sender, receiver, content));
+            messages += 1;
         }
+        messages
     }
 
     fn send_replies(&mut self, tick: usize, sender: usize, store: Store, reads: &[u8]) {
         for &read in reads {
             let receiver = self.plan.header.writer() + self.plan.reads[usize::from(read)].reader;
-            self.send(tick, sender, receiver, Content::Reply { read, store });
+            self.send(tick, Message::new(sender, receiver, Content::Reply { read, store }));
         }
     }
 }
@@ -77,13 +89,24 @@ pub struct Cluster<'a> {
     open: [Option<OpenRead>; MOST_READERS + 1],
     /// For each read that ended its stamped value and count.
     pub answers: Vec<(Stamped, u32)>,
+    /// What was sent and has arrived so far.
+    pub counted: Forecast,
     next_write: usize,
     next_read: usize,
     next_forgery: usize,
 }
 
 impl<'a> Cluster<'a> {
-    pub fn new(plan: &'a Plan<'a>) -> Self {
+    /// The cluster after the first so many ticks.
+    pub fn after(plan: &'a Plan<'a>, ticks: usize) -> Self {
+        let mut cluster = Cluster::new(plan);
+        for tick in 0..ticks {
+            cluster.tick(tick);
+        }
+        cluster
+    }
+
+    fn new(plan: &'a Plan<'a>) -> Self {
         let initial = Stamped::new(plan.header.initial, 0);
         Cluster {
             plan,
@@ -91,13 +114,14 @@ impl<'a> Cluster<'a> {
             network: Network { plan, under_way: Default::default() },
             open: Default::default(),
             answers: vec![Default::default(); plan.reads.len()],
+            counted: Forecast::default(),
             next_write: 0,
             next_read: 0,
             next_forgery: 0,
         }
     }
 
-    pub fn tick(&mut self, tick: usize) {
+    fn tick(&mut self, tick: usize) {
         self.deliver(tick);
         self.end_cures(tick);
         if tick % self.plan.header.period == 0 {
@@ -121,7 +145,9 @@ impl<'a> Cluster<'a> {
     fn deliver(&mut self, tick: usize) {
         let slot = tick % ARRIVAL_TICKS;
         let mut arriving = std::mem::take(&mut self.network.under_way[slot]);
+        let mut forged = 0;
         for message in arriving.drain(..) {
+            forged += usize::from(message.forged);
             if usize::from(message.receiver) < self.servers.len() {
                 self.deliver_to_server(tick, message);
             } else {
@@ -130,6 +156,7 @@ impl<'a> Cluster<'a> {
         }
         // Nothing sent in a tick arrives in it, so the emptied list can be used again.
         self.network.under_way[slot] = arriving;
+        self.counted.most_forgeries = self.counted.most_forgeries.max(forged);
         for (i, server) in self.servers.iter_mut().enumerate() {
             if server.condition == Condition::Correct {
                 let reads = if server.store_changed { &server.pending } else { &server.new_reads };
@@ -151,7 +178,7 @@ impl<'a> Cluster<'a> {
             Content::Write(stamped) => {
                 server.take_in(stamped);
                 let vote = Content::Votes(Store::of(stamped));
-                self.network.send_to_servers(tick, receiver, vote);
+                self.counted.votes += self.network.send_to_servers(tick, receiver, vote);
             }
             Content::Read(read) => {
                 server.pending.push(read);
@@ -192,6 +219,7 @@ impl<'a> Cluster<'a> {
     fn move_agents(&mut self, tick: usize) {
         let faulty = self.plan.placements[tick / self.plan.header.period];
         let k = self.plan.header.k();
+        self.counted.moves += 1;
         for (i, server) in self.servers.iter_mut().enumerate() {
             if faulty >> i & 1 == 1 {
                 server.condition = Condition::Faulty;
@@ -217,6 +245,7 @@ impl<'a> Cluster<'a> {
             if let Some(ended) = ended {
                 self.answers[usize::from(ended.read)] =
                     ended.answer(self.plan.header.reply_quorum());
+                self.counted.answer_bytes += self.plan.header.form.answer_bytes();
                 for server in &mut self.servers {
                     server.pending.retain(|&read| read != ended.read);
                 }
@@ -228,14 +257,16 @@ impl<'a> Cluster<'a> {
         let plan = self.plan;
         let writer = plan.header.writer();
         if let Some(write) = plan.writes.get(self.next_write).filter(|write| write.begin == tick) {
-            self.network.send_to_servers(tick, writer, Content::Write(write.stamped));
+            let content = Content::Write(write.stamped);
+            self.counted.write_messages += self.network.send_to_servers(tick, writer, content);
             self.next_write += 1;
         }
         while let Some(read) = plan.reads.get(self.next_read).filter(|read| read.begin == tick) {
             // A plan has at most 255 operations.
             let index = self.next_read as u8;
             self.open[read.reader] = Some(OpenRead { read: index, named: Vec::new() });
-            self.network.send_to_servers(tick, writer + read.reader, Content::Read(index));
+            let (reader, content) = (writer + read.reader, Content::Read(index));
+            self.counted.read_messages += self.network.send_to_servers(tick, reader, content);
             self.next_read += 1;
         }
     }
@@ -256,7 +287,8 @@ impl<'a> Cluster<'a> {
                 let read = open.as_ref().expect("the read forged for is open").read;
                 Content::Reply { read, store }
             };
-            self.network.send(tick, forgery.sender, forgery.receiver, content);
+            let message = Message::new(forgery.sender, forgery.receiver, content);
+            self.network.send(tick, Message { forged: true, ..message });
         }
     }
 }

@@ -1,7 +1,7 @@
-//! Check, Play, Look and Judge of docs/RULES.md, Pack and carrying of docs/FORMATS.md, and the sheet of
-//! docs/SHEET.md, as an ordinary program: the yardstick for the proved library's speed, and the other
-//! side of its differential tests. It shares no code with the library and makes no use of facts proved
-//! there.
+//! Check, Forecast, Play, Look and Judge of docs/RULES.md, Pack and carrying of docs/FORMATS.md, and the
+//! sheet of docs/SHEET.md, as an ordinary program: the yardstick for the proved library's speed, and the
+//! other side of its differential tests. It shares no code with the library and makes no use of facts
+//! proved there.
 //!
 //! A form is named by its number, 1 or 2; another one is refused.
 
@@ -10,6 +10,7 @@
 pub mod bits;
 mod carry;
 mod cluster;
+mod forecast;
 pub mod form;
 pub mod judge;
 mod pack;
@@ -17,6 +18,7 @@ pub mod plan;
 mod server;
 mod sheet;
 
+pub use forecast::Forecast;
 pub use form::Form;
 pub use pack::Lists;
 pub use plan::Stamped;
@@ -56,6 +58,17 @@ pub fn check(form: usize, plan: &[u8]) -> Outcome<usize> {
     Ok(Plan::unpack(Form::of(form)?, plan)?.reads.len())
 }
 
+/// What playing the plan takes, without playing it.
+pub fn forecast(form: usize, plan: &[u8]) -> Outcome<Forecast> {
+    Ok(forecast::of(&Plan::unpack(Form::of(form)?, plan)?))
+}
+
+/// The same, counted while playing it.
+pub fn forecast_by_playing(form: usize, plan: &[u8]) -> Outcome<Forecast> {
+    let plan = Plan::unpack(Form::of(form)?, plan)?;
+    Ok(Cluster::after(&plan, plan.header.ticks).counted)
+}
+
 /// The number of reads; the answers stand at the start of the buffer.
 pub fn play(form: usize, plan: &[u8], answers: &mut [u8], workspace: &mut [u8]) -> Outcome<usize> {
     let form = Form::of(form)?;
@@ -64,10 +77,7 @@ pub fn play(form: usize, plan: &[u8], answers: &mut [u8], workspace: &mut [u8]) 
         return Err(Refused(9));
     }
     let workspace = workspace.get_mut(..WORKSPACE_BYTES).ok_or(Refused(10))?;
-    let mut cluster = Cluster::new(&plan);
-    for tick in 0..plan.header.ticks {
-        cluster.tick(tick);
-    }
+    let cluster = Cluster::after(&plan, plan.header.ticks);
     let places = answers.chunks_exact_mut(form.answer_bytes());
     for ((read, place), &(stamped, count)) in plan.reads.iter().zip(places).zip(&cluster.answers) {
         judge::put(form, judge::answer(read, stamped, count), place);
@@ -89,11 +99,7 @@ pub fn look(
     if server >= plan.header.servers || tick >= plan.header.ticks {
         return Err(Refused(11));
     }
-    let mut cluster = Cluster::new(&plan);
-    for tick in 0..=tick {
-        cluster.tick(tick);
-    }
-    let (condition, store) = cluster.look(server);
+    let (condition, store) = Cluster::after(&plan, tick + 1).look(server);
     let mut seen = Seen { condition, count: store.kept().len(), kept: Default::default() };
     seen.kept[..seen.count].copy_from_slice(store.kept());
     workspace.fill(0);

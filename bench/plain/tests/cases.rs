@@ -3,7 +3,7 @@
 use plain::{check, judge, look, play, Condition, Outcome, Refused, WORKSPACE_BYTES};
 use plans::{Form, Operation, Parts};
 
-/// A plan in which every delay is 1; server, period and tick counts are given.
+/// A plan with one reader in which every delay is 1.
 fn parts(
     form: Form,
     servers: usize,
@@ -12,27 +12,7 @@ fn parts(
     period: usize,
     ticks: usize,
 ) -> Parts {
-    let mut parts = Parts {
-        form,
-        servers,
-        faulty,
-        delta,
-        period,
-        readers: 1,
-        ticks,
-        initial: 7,
-        zero: 0,
-        placements: vec![0; ticks.div_ceil(period)],
-        operations: Vec::new(),
-        forgeries: Vec::new(),
-        delays: Vec::new(),
-    };
-    let parties = parts.parties();
-    let links =
-        (0..ticks * parties * parties).map(|place| (place / parties % parties, place % parties));
-    parts.delays =
-        links.map(|(sender, receiver)| u8::from(parts.has_link(sender, receiver))).collect();
-    parts
+    Parts::quiet(form, servers, faulty, (delta, period), 1, ticks)
 }
 
 fn write(tick: usize, value: u32) -> Operation {

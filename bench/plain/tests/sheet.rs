@@ -29,27 +29,7 @@ fn written(form: Form, plan: &[u8], answers: &[u8], length: usize) -> (Outcome<u
 
 /// One server that is never faulty, two readers, δ = 2, every delay 1.
 fn parts(form: Form, operations: Vec<Operation>) -> Parts {
-    let mut parts = Parts {
-        form,
-        servers: 1,
-        faulty: 0,
-        delta: 2,
-        period: 63,
-        readers: 2,
-        ticks: 128,
-        initial: 7,
-        zero: 0,
-        placements: vec![0; 3],
-        operations,
-        forgeries: Vec::new(),
-        delays: Vec::new(),
-    };
-    let parties = parts.parties();
-    let links = (0..parts.ticks * parties * parties)
-        .map(|place| (place / parties % parties, place % parties));
-    parts.delays =
-        links.map(|(sender, receiver)| u8::from(parts.has_link(sender, receiver))).collect();
-    parts
+    Parts { operations, ..Parts::quiet(form, 1, 0, (2, 63), 2, 128) }
 }
 
 fn operation(tick: usize, party: usize, value: u32) -> Operation {

@@ -1,7 +1,7 @@
 //! The plans that are measured: busy ones, in which nobody rests.
 
 use plans::{Forgery, Operation, Parts, Random};
-use register::{Form, Lists, MOST_SHEET_BYTES};
+use register::{Form, Lists, FORECAST_NUMBERS, MOST_SHEET_BYTES};
 
 /// The place of the number of ticks in a header.
 const TICKS: usize = 5;
@@ -49,6 +49,7 @@ pub struct Case {
     pub plan: Vec<u8>,
     pub lists: Lists,
     pub reads: usize,
+    pub forecast: [u32; FORECAST_NUMBERS],
     pub answers: Vec<u8>,
     pub sheet: Vec<u8>,
     pub last_tick: usize,
@@ -73,6 +74,7 @@ impl Case {
         let number = form.number();
         let plan = lists.pack(for_plans(form));
         let reads = plain::check(number, &plan).unwrap();
+        let forecast = plain::forecast(number, &plan).unwrap().numbers();
         let mut workspace = vec![0; plain::WORKSPACE_BYTES];
         let mut answers = vec![0; form.answer_bytes() * reads];
         plain::play(number, &plan, &mut answers, &mut workspace).unwrap();
@@ -84,7 +86,7 @@ impl Case {
         let kept = plain::look(number, &plan, &mut workspace, 0, last_tick).unwrap().count;
         let carried = carried(form, &plan);
         let lists = Lists { header, placements, operations, forgeries, delays };
-        Case { form, plan, lists, reads, answers, sheet, last_tick, kept, carried }
+        Case { form, plan, lists, reads, forecast, answers, sheet, last_tick, kept, carried }
     }
 }
 

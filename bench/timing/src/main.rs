@@ -1,7 +1,7 @@
-//! timing [ROUNDS]: prints, as tables, the times of Check, Play, Look, Judge, Sheet and Pack of the
-//! library, of the plain one and of the rival, in one run and on the same plans of form one, how they
-//! grow, Sheet beside Judge and Pack beside Check; form two beside form one; carrying beside Check; and
-//! the stack of Play, Sheet, Pack and carrying.
+//! timing [ROUNDS]: prints, as tables, the times of Check, Forecast, Play, Look, Judge, Sheet and Pack of
+//! the library, of the plain one and of the rival, in one run and on the same plans of form one, how they
+//! grow, Sheet beside Judge and Pack beside Check; form two beside form one; Forecast and carrying beside
+//! Check; and the stack of Forecast, Play, Sheet, Pack and carrying.
 
 mod cases;
 mod measure;
@@ -63,11 +63,19 @@ impl Shaped {
         Row::new(self.name, turns.into())
     }
 
-    /// Carrying, with Check in turn.
+    fn forecasting(&self) -> Row<'_> {
+        self.beside_check(Operation::Forecast, [&self.one, &self.two])
+    }
+
     fn carrying(&self) -> Row<'_> {
-        let turns = [&self.one, &self.carried].map(|case| {
+        self.beside_check(Operation::Carry, [&self.one, &self.carried])
+    }
+
+    /// An operation on a plan of each form, with Check in turn.
+    fn beside_check<'a>(&'a self, operation: Operation, cases: [&'a Case; 2]) -> Row<'a> {
+        let turns = cases.map(|case| {
             let check = Turns::new(Operation::Check, &IN_BOTH_FORMS, &[case]);
-            Turns::new(Operation::Carry, &IN_BOTH_FORMS, &[case]).and(check)
+            Turns::new(operation, &IN_BOTH_FORMS, &[case]).and(check)
         });
         Row::new(self.name, turns.into())
     }
@@ -85,10 +93,11 @@ fn run(rounds: usize) {
         named.iter().map(|shaped| in_form_one(shaped.name, &shaped.one)).collect();
     let mut growth: Vec<Row> = growing.iter().map(|(name, case)| in_form_one(name, case)).collect();
     let mut both_forms: Vec<Row> = named.iter().map(Shaped::in_both_forms).collect();
+    let mut forecasting: Vec<Row> = named.iter().map(Shaped::forecasting).collect();
     let mut carrying: Vec<Row> = named.iter().map(Shaped::carrying).collect();
     for taken in (0..rounds).step_by(AT_ONCE) {
-        let rows = operations.iter_mut().chain(&mut growth);
-        let rows = rows.chain(&mut both_forms).chain(&mut carrying);
+        let rows = operations.iter_mut().chain(&mut growth).chain(&mut both_forms);
+        let rows = rows.chain(&mut forecasting).chain(&mut carrying);
         rows.for_each(|row| row.add(AT_ONCE.min(rounds - taken)));
     }
     tables::print_operations(&operations, rounds);
@@ -96,6 +105,7 @@ fn run(rounds: usize) {
     tables::print_sheet(&operations);
     tables::print_pack(&operations);
     tables::print_form_two(&both_forms);
+    tables::print_forecast(&forecasting);
     tables::print_carry(&carrying);
     stack::print();
 }

@@ -1,6 +1,6 @@
 //! The operations of the three programs as calls, each with lent bytes of its own.
 
-use register::Form;
+use register::{Form, FORECAST_NUMBERS};
 
 use crate::cases::Case;
 use crate::measure::Call;
@@ -8,6 +8,8 @@ use crate::measure::Call;
 #[derive(Clone, Copy, Debug, PartialEq, Eq)]
 pub enum Operation {
     Check,
+    /// With room for all numbers.
+    Forecast,
     Play,
     /// At server 0 after the last tick.
     Look,
@@ -22,8 +24,9 @@ pub enum Operation {
 }
 
 /// The operations that name a form.
-pub const IN_A_FORM: [Operation; 6] = [
+pub const IN_A_FORM: [Operation; 7] = [
     Operation::Check,
+    Operation::Forecast,
     Operation::Play,
     Operation::Look,
     Operation::Judge,
@@ -70,6 +73,7 @@ impl<'a> Work<'a> {
         let case = self.case;
         match self.operation {
             Operation::Check => (case.reads, &[]),
+            Operation::Forecast => (sum(case.forecast), &[]),
             Operation::Play => (case.reads, &case.answers),
             Operation::Look => (case.kept, &[]),
             Operation::Judge => (1, &[]),
@@ -96,12 +100,22 @@ impl<'a> Work<'a> {
     }
 }
 
+/// All numbers of a forecast as one, so that none of them can be left out.
+fn sum(forecast: [u32; FORECAST_NUMBERS]) -> usize {
+    forecast.iter().sum::<u32>() as usize
+}
+
 fn library<'a>(operation: Operation, case: &'a Case, lent: &'a mut Lent) -> Call<'a> {
     let Case { form, plan, lists, answers, last_tick, .. } = case;
     let (form, last_tick) = (*form, *last_tick);
     let Lent { out, workspace } = lent;
     match operation {
         Operation::Check => Box::new(move || register::check(form, plan).unwrap()),
+        Operation::Forecast => Box::new(move || {
+            let mut numbers = [0; FORECAST_NUMBERS];
+            register::forecast_into(form, plan, &mut numbers).unwrap();
+            sum(numbers)
+        }),
         Operation::Play => Box::new(move || register::play(form, plan, out, workspace).unwrap()),
         Operation::Look => Box::new(move || {
             register::look(form, plan, workspace, 0, last_tick).unwrap().kept().len()
@@ -124,6 +138,9 @@ fn plain<'a>(operation: Operation, case: &'a Case, lent: &'a mut Lent) -> Call<'
     let Lent { out, workspace } = lent;
     match operation {
         Operation::Check => Box::new(move || plain::check(number, plan).unwrap()),
+        Operation::Forecast => {
+            Box::new(move || sum(plain::forecast(number, plan).unwrap().numbers()))
+        }
         Operation::Play => Box::new(move || plain::play(number, plan, out, workspace).unwrap()),
         Operation::Look => {
             Box::new(move || plain::look(number, plan, workspace, 0, last_tick).unwrap().count)

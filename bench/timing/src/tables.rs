@@ -118,21 +118,31 @@ pub fn print_form_two(rows: &[Row]) {
     }
 }
 
+pub fn print_forecast(rows: &[Row]) {
+    println!("\nForecast beside the library's Check of the same plan, in microseconds, both in turn. Forecast makes the tests of Check too.\n");
+    print_beside_check(rows, Operation::Forecast, ("form", ["one", "two"]));
+}
+
 pub fn print_carry(rows: &[Row]) {
     println!("\nA plan carried to form two, and back from there, beside the library's Check of the same plan, in microseconds. To carry makes the tests of Check too.\n");
-    println!("| plan | bytes | to | library | plain | library/plain | Check | carry/Check |");
+    print_beside_check(rows, Operation::Carry, ("to", ["two", "one"]));
+}
+
+/// Two lines for each row, a plan of each form; the column says which is which.
+fn print_beside_check(rows: &[Row], operation: Operation, (column, said): (&str, [&str; 2])) {
+    println!("| plan | bytes | {column} | library | plain | library/plain | Check | {operation:?}/Check |");
     println!("|---|---:|---|---:|---:|---:|---:|---:|");
     for row in rows {
-        for (form, to) in [(Form::One, "two"), (Form::Two, "one")] {
-            let [carry, check] = [Operation::Carry, Operation::Check]
+        for (form, said) in Form::ALL.into_iter().zip(said) {
+            let [time, check] = [operation, Operation::Check]
                 .map(|operation| row.taken(Program::Library, operation, form));
             println!(
-                "| {} | {} | {to} | {} | {} | {} |",
+                "| {} | {} | {said} | {} | {} | {} |",
                 row.name,
                 row.bytes(form),
-                row.beside_plain(Operation::Carry, form).join(" | "),
+                row.beside_plain(operation, form).join(" | "),
                 microseconds(check),
-                ratio(carry, check),
+                ratio(time, check),
             );
         }
     }

@@ -39,6 +39,39 @@ pub struct Parts {
 }
 
 impl Parts {
+    /// A plan in which nobody is faulty and nothing is read, written or forged; every delay is 1. The
+    /// bounds are δ and Δ.
+    pub fn quiet(
+        form: Form,
+        servers: usize,
+        faulty: usize,
+        bounds: (usize, usize),
+        readers: usize,
+        ticks: usize,
+    ) -> Self {
+        let mut parts = Parts {
+            form,
+            servers,
+            faulty,
+            delta: bounds.0,
+            period: bounds.1,
+            readers,
+            ticks,
+            initial: 7,
+            zero: 0,
+            placements: vec![0; ticks.div_ceil(bounds.1)],
+            operations: Vec::new(),
+            forgeries: Vec::new(),
+            delays: Vec::new(),
+        };
+        let parties = parts.parties();
+        let links = (0..ticks * parties * parties)
+            .map(|place| (place / parties % parties, place % parties));
+        parts.delays =
+            links.map(|(sender, receiver)| u8::from(parts.has_link(sender, receiver))).collect();
+        parts
+    }
+
     pub fn parties(&self) -> usize {
         self.servers + 1 + self.readers
     }
