@@ -1,5 +1,6 @@
 /* A replicated register under mobile Byzantine faults, rehearsed from a packed plan; the packing, the
- * carrying of a plan from one form to the other, and a sheet of the answers.
+ * carrying of a plan from one form to the other, a forecast of what playing it takes, and a sheet of the
+ * answers.
  *
  * Link with target/staticlib/libcapi.a, which `rt staticlib capi` writes.  docs/FORMATS.md has the
  * bytes of plans and answers, the lists that a plan is packed from and the numbers of the refusals,
@@ -13,8 +14,8 @@
  * and not null, also where the length is 0; lent bytes that are written must overlap nothing else in
  * the same call.
  *
- * Of check, play, look, judge, sheet, pack, carry and carry_back a result of REGISTER_REFUSED or more
- * is a refusal: REGISTER_REFUSED plus its number.  A refusal leaves all lent bytes as they were.
+ * Of check, forecast, play, look, judge, sheet, pack, carry and carry_back a result of REGISTER_REFUSED
+ * or more is a refusal: REGISTER_REFUSED plus its number.  A refusal leaves all lent bytes as they were.
  *
  * Stack: play takes under 32 KB, look and pack under 38 KB, the other functions under 4 KB (measured
  * with the longest plan of each form, on x86-64).  Nothing is allocated.
@@ -50,6 +51,9 @@ extern "C" {
 /* The most reads of a plan that check accepts, in either form: that many times the bytes of one answer
  * hold the answers of any plan. */
 #define REGISTER_MOST_READS 168
+
+/* How many numbers a forecast has. */
+#define REGISTER_FORECAST 6
 
 /* Bytes of workspace that play and look ask for.  They are zero after a call that was not refused,
  * and later ones unchanged. */
@@ -95,6 +99,25 @@ enum register_refusal {
 
 /* Checks a plan.  Returns its number of reads. */
 size_t register_check(size_t form, const uint8_t *plan, size_t plan_length);
+
+/* The numbers of a forecast, by their place. */
+enum register_forecast_number {
+    REGISTER_ANSWER_BYTES = 0,      /* bytes of the answers that play writes */
+    REGISTER_MOVES = 1,             /* movements of the faults, the one in tick 0 among them */
+    REGISTER_WRITE_MESSAGES = 2,    /* WRITE messages sent: for each write one to each server */
+    REGISTER_READ_MESSAGES = 3,     /* READ messages sent: for each read one to each server */
+    REGISTER_VOTES = 4,             /* votes sent on receipt of a WRITE: to each other server, by every
+                                     * server that is not faulty when the WRITE arrives */
+    REGISTER_MOST_FORGERIES = 5     /* the most forged messages, votes and replies, that arrive in one
+                                     * tick, also at a faulty server or after the read's end */
+};
+
+/* Forecasts what playing a plan takes, without playing it.  Each number is exactly what playing the plan
+ * counts; only ticks below H count.  As many of the six as fit stand at the start of numbers, and later
+ * ones stay.  numbers_length counts numbers, not bytes, and may be anything; REGISTER_FORECAST has room
+ * for all.  Returns REGISTER_FORECAST, however many fit; refuses what check refuses and nothing else. */
+size_t register_forecast(size_t form, const uint8_t *plan, size_t plan_length,
+                         uint32_t *numbers, size_t numbers_length);
 
 /* Plays a plan and writes the answer to read i into the five bytes from 5 * i on, in form two into the
  * six bytes from 6 * i on; later bytes of the buffer stay.  Returns the number of reads. */

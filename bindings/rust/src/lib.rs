@@ -1,7 +1,7 @@
 //! A replicated register under mobile Byzantine faults, rehearsed from a packed plan: a safe
 //! wrapper of the proved library. `docs/FORMATS.md` has the bytes of plans and answers, and the
-//! lists that [`pack`] takes; a [`Draft`] makes a plan from typed parts. `docs/SHEET.md` has the columns
-//! of a [`sheet`].
+//! lists that [`pack`] takes; a [`Draft`] makes a plan from typed parts. A [`Forecast`] says what
+//! playing a plan takes. `docs/SHEET.md` has the columns of a [`sheet`].
 //!
 //! ```
 //! use register::{answers, check, judge, play, Form, Plan, WORKSPACE_BYTES};
@@ -33,6 +33,7 @@
 
 mod answer;
 mod draft;
+mod forecast;
 mod form;
 mod limits;
 mod lists;
@@ -43,10 +44,11 @@ mod seen;
 
 pub use answer::{answers, Answer};
 pub use draft::{Draft, Forgery, Operation, Party};
+pub use forecast::Forecast;
 pub use form::Form;
 pub use limits::{
-    DEPTH, LINE_BYTES, LONGEST_INPUT, MOST_READS, MOST_SHEET_BYTES, PAIRS_BYTES, PAIR_BYTES,
-    WORKSPACE_BYTES,
+    DEPTH, FORECAST_NUMBERS, LINE_BYTES, LONGEST_INPUT, MOST_READS, MOST_SHEET_BYTES, PAIRS_BYTES,
+    PAIR_BYTES, WORKSPACE_BYTES,
 };
 pub use lists::Lists;
 pub use plan::Plan;
@@ -56,6 +58,40 @@ pub use seen::{Condition, Seen, Stamped};
 /// Checks a plan: the number of its reads.
 pub fn check(form: Form, plan: &[u8]) -> Result<usize, Refusal> {
     refusal::number_or_refusal(raw::check(form.number(), plan))
+}
+
+/// Forecasts what playing a plan takes, without playing it. It refuses what [`check`] refuses and
+/// nothing else.
+///
+/// ```
+/// use register::{forecast, play, Forecast, Form, WORKSPACE_BYTES};
+///
+/// let plan = include_bytes!("../../../examples/takeover.plan");
+/// let wanted = Forecast {
+///     answer_bytes: 5,
+///     moves: 5,
+///     write_messages: 10,
+///     read_messages: 5,
+///     votes: 32,
+///     most_forgeries: 5,
+/// };
+/// assert_eq!(forecast(Form::One, plan), Ok(wanted));
+///
+/// // So many bytes have room for the answers.
+/// let mut answers = vec![0; wanted.answer_bytes as usize];
+/// assert_eq!(play(Form::One, plan, &mut answers, &mut vec![0; WORKSPACE_BYTES]), Ok(1));
+/// ```
+pub fn forecast(form: Form, plan: &[u8]) -> Result<Forecast, Refusal> {
+    let mut numbers = [0; FORECAST_NUMBERS];
+    forecast_into(form, plan, &mut numbers)?;
+    Ok(Forecast::of(numbers))
+}
+
+/// Forecasts what playing a plan takes, with a buffer of the caller's for the numbers: how many there
+/// are, which is always [`FORECAST_NUMBERS`]. As many of them as fit stand at the start of `numbers`, in
+/// the order of the fields of a [`Forecast`]. Later numbers are unchanged.
+pub fn forecast_into(form: Form, plan: &[u8], numbers: &mut [u32]) -> Result<usize, Refusal> {
+    refusal::number_or_refusal(raw::forecast(form.number(), plan, numbers))
 }
 
 /// Plays a plan: the number of its reads. With `size` for [`Form::answer_bytes`], the answer to read

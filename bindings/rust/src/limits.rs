@@ -20,6 +20,9 @@ pub const LONGEST_INPUT: usize = 35_718;
 /// The most reads of an accepted plan, in either form.
 pub const MOST_READS: usize = 168;
 
+/// How many numbers a forecast has: those that [`forecast_into`](crate::forecast_into) writes.
+pub const FORECAST_NUMBERS: usize = 6;
+
 /// Bytes of one line of a sheet, its line feed among them.
 pub const LINE_BYTES: usize = 81;
 
@@ -84,6 +87,7 @@ mod tests {
         assert_eq!(DEPTH, defined("REGISTER_DEPTH"));
         assert_eq!(PAIR_BYTES, defined("REGISTER_PAIR"));
         assert_eq!(PAIRS_BYTES, defined("REGISTER_PAIRS"));
+        assert_eq!(FORECAST_NUMBERS, defined("REGISTER_FORECAST"));
         assert_eq!(LINE_BYTES, defined("REGISTER_LINE"));
         assert_eq!(MOST_SHEET_BYTES, defined("REGISTER_MOST_SHEET"));
     }

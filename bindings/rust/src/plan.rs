@@ -2,7 +2,7 @@
 
 use crate::limits::OTHER_LINES;
 use crate::raw::{self, HeaderField};
-use crate::{check, sheet, Form, Refusal, LINE_BYTES};
+use crate::{check, sheet, Forecast, Form, Refusal, FORECAST_NUMBERS, LINE_BYTES};
 
 /// A view of an accepted plan's bytes: the numbers of its header, read by the library.
 #[derive(Clone, Copy, Debug, PartialEq, Eq, Hash)]
@@ -76,6 +76,14 @@ impl<'a> Plan<'a> {
     /// The number of forged messages.
     pub fn forgeries(&self) -> usize {
         self.field(HeaderField::Forgeries)
+    }
+
+    /// What playing this plan takes, without playing it.
+    pub fn forecast(&self) -> Forecast {
+        let mut numbers = [0; FORECAST_NUMBERS];
+        // It refuses only what check refuses, and this plan is accepted.
+        raw::forecast(self.form.number(), self.bytes, &mut numbers);
+        Forecast::of(numbers)
     }
 
     /// Bytes of a sheet of this plan's answers.

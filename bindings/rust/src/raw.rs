@@ -29,6 +29,13 @@ pub enum HeaderField {
 mod library {
     extern "C" {
         pub fn register_check(form: usize, plan: *const u8, plan_length: usize) -> usize;
+        pub fn register_forecast(
+            form: usize,
+            plan: *const u8,
+            plan_length: usize,
+            numbers: *mut u32,
+            numbers_length: usize,
+        ) -> usize;
         pub fn register_play(
             form: usize,
             plan: *const u8,
@@ -111,6 +118,12 @@ mod library {
 pub fn check(form: usize, plan: &[u8]) -> usize {
     // SAFETY: the pointer and length are a slice's.
     unsafe { library::register_check(form, plan.as_ptr(), plan.len()) }
+}
+
+pub fn forecast(form: usize, plan: &[u8], numbers: &mut [u32]) -> usize {
+    let (numbers, numbers_length) = (numbers.as_mut_ptr(), numbers.len());
+    // SAFETY: the pointers and lengths are slices', and the one to write to is exclusive.
+    unsafe { library::register_forecast(form, plan.as_ptr(), plan.len(), numbers, numbers_length) }
 }
 
 pub fn play(form: usize, plan: &[u8], answers: &mut [u8], workspace: &mut [u8]) -> usize {
@@ -233,7 +246,7 @@ pub fn carry_back(plan: &[u8], out: &mut [u8]) -> usize {
 mod tests {
     use super::*;
     use crate::refusal::{Refusal, REFUSED};
-    use crate::WORKSPACE_BYTES;
+    use crate::{FORECAST_NUMBERS, WORKSPACE_BYTES};
 
     const PLAN: &[u8] = include_bytes!("../../../examples/takeover.plan");
 
@@ -250,8 +263,10 @@ mod tests {
     fn operations_in_no_form() {
         for form in UNKNOWN {
             let (mut lent, mut workspace) = ([BEFORE; 100], vec![BEFORE; WORKSPACE_BYTES]);
+            let mut numbers = [u32::MAX; FORECAST_NUMBERS];
             for plan in [PLAN, &[]] {
                 assert_eq!(check(form, plan), NO_SUCH_FORM);
+                assert_eq!(forecast(form, plan, &mut numbers), NO_SUCH_FORM);
                 assert_eq!(play(form, plan, &mut lent, &mut workspace), NO_SUCH_FORM);
                 assert_eq!(look(form, plan, &mut workspace, 0, 0, &mut lent), NO_SUCH_FORM);
                 assert_eq!(judge(form, plan, &lent), NO_SUCH_FORM);
@@ -263,6 +278,7 @@ mod tests {
             assert_eq!(refused, NO_SUCH_FORM);
             assert_eq!(pack(form, &[], &[], &[], &[], &[], &mut lent), NO_SUCH_FORM);
             assert!(lent.iter().chain(&workspace).all(|&byte| byte == BEFORE));
+            assert_eq!(numbers, [u32::MAX; FORECAST_NUMBERS]);
         }
     }
 

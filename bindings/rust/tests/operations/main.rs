@@ -3,6 +3,7 @@
 
 mod carry;
 mod examples;
+mod forecast;
 mod pack;
 mod plans;
 mod sheet;
