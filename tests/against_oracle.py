@@ -8,17 +8,18 @@ are small or not, damaged or not, and two have reads that begin around the ends 
 three have values of up to 24 bits and such reads, two are damaged, and one has the fields of a plan of
 form one, as the vectors have there.
 
-For each plan: Check and the header's numbers; the text that the program prints (of form one), also as the
-wrapper decodes the answers; Play with lent bytes of several lengths; Looks in and out of range, with pair
-buffers of every length, one of them after the last tick, and of a small plan every Look; Judge and Sheet
-of right, altered and malformed answers, the sheets on pages of several lengths, where the other program
-says the refusals and the facts of each read, sheet.py makes the page of them, and the answers have to be
-read back from it; Pack of the plan's lists, right and bent, into buffers of several lengths, where the
-lists of an accepted plan have to give its bytes and these the lists again; the plan carried to the other
-form, into buffers of several lengths, and with a value that form one has no room for.  A carried plan has
-to be accepted with the same numbers and get the same answers, and carried back it has to be the same
-bytes.  Every plan is also handed in under the other form, as it is and with the length that its header
-implies there, and its lists are packed there.  Results and every lent byte are compared.
+For each plan: Check and the header's numbers; Forecast, with room for all its numbers, for fewer and for
+more; the text that the program prints (of form one), also as the wrapper decodes the answers; Play with
+lent bytes of several lengths; Looks in and out of range, with pair buffers of every length, one of them
+after the last tick, and of a small plan every Look; Judge and Sheet of right, altered and malformed
+answers, the sheets on pages of several lengths, where the other program says the refusals and the facts
+of each read, sheet.py makes the page of them, and the answers have to be read back from it; Pack of the
+plan's lists, right and bent, into buffers of several lengths, where the lists of an accepted plan have to
+give its bytes and these the lists again; the plan carried to the other form, into buffers of several
+lengths, and with a value that form one has no room for.  A carried plan has to be accepted with the same
+numbers and get the same answers, and carried back it has to be the same bytes.  Every plan is also handed
+in under the other form, as it is and with the length that its header implies there, and its lists are
+packed there.  Results and every lent byte are compared.
 
 Builds what it needs with `rt` and `cargo`; LIB_DIR names a folder with another libcapi.a to compare.
 Prints what differs, then a line with the counts for each form; the exit status is 1 if anything differs.
@@ -44,11 +45,12 @@ KINDS = 6
 ANSWER_SIZES = 5, 6
 PAIR_BUFFERS = range(DEPTH * PAIR + 3)
 FAR = (2 ** 32, 2 ** 64 - 1)
+FORECAST_NUMBERS = 6
 # The highest value that a plan can be carried back with.
 NARROW = 2 ** 16 - 1
 # Servers times ticks of a plan that is looked at everywhere, at most: all that are generated small.
 LOOKED_AT = 16 * 24
-COMPARED = "Check", "Play", "Look", "Judge", "Sheet", "text printed", "text decoded", "Pack", "Carry", "there and back"
+COMPARED = "Check", "Forecast", "Play", "Look", "Judge", "Sheet", "text printed", "text decoded", "Pack", "Carry", "there and back"
 
 
 class Comparison(Asked):
@@ -76,6 +78,8 @@ class Comparison(Asked):
     def about(self, name, plan):
         """Whether the plan is accepted."""
         self.check(name, plan)
+        fewer, more = self.rng.randrange(FORECAST_NUMBERS), self.rng.randrange(FORECAST_NUMBERS + 1, 20)
+        self.forecast(name, plan, [FORECAST_NUMBERS, fewer, more])
         reads = self.oracle.check(plan)
         refused = self.oracle.is_refused(reads)
         if refused:
@@ -208,6 +212,8 @@ class Comparison(Asked):
                 f"{count['of the other form accepted']} accepted; compared: {asked}; "
                 f"every Look of {count['looked at everywhere']} plans, pairs shown {self.pairs_shown()}; Judge yes {count['Judge yes']}, no {count['Judge no']}; "
                 f"refusals {self.refused('Check', 'Play', 'Look', 'Judge')}; "
+                f"Forecast done {count['Forecast done']}, of {count['forecasts']} plans, {count['with a WRITE lost']} of them with a WRITE that is lost "
+                f"and {count['with forgeries that arrive']} with forgeries that arrive, refusals {self.refused('Forecast')}; "
                 f"Sheet done {count['Sheet done']}, with {count['lines']} reads, {count['marks']} of them marked, all read back, "
                 f"refusals {self.refused('Sheet')}; "
                 f"lists of {count['packed again']} accepted plans packed to their bytes and read again, {count['bent']} bent lists, "

@@ -17,7 +17,7 @@ PRINTED_FORM = 1
 
 WORKSPACE = 60_000
 WORKSPACES = (0, WORKSPACE - 1, WORKSPACE, WORKSPACE + 9)
-PAIR = 4
+PAIR = NUMBER = 4           # bytes
 # Bytes of requests and wanted answers that one run of the library is for, about.
 TOGETHER = 50_000_000
 MOST_SHOWN = 20
@@ -55,12 +55,17 @@ def numbers(*values):
     return struct.pack(f">{len(values)}Q", *values)
 
 
+def packed_numbers(values):
+    """Numbers of a list, or lent ones."""
+    return struct.pack(f">{len(values)}I", *values)
+
+
 def listed(values):
-    return string(struct.pack(f">{len(values)}I", *values))
+    return string(packed_numbers(values))
 
 
 def packed_pairs(kept):
-    return b"".join(struct.pack(">I", value << 8 | number) for value, number in kept)
+    return packed_numbers([value << 8 | number for value, number in kept])
 
 
 class Asked:
@@ -88,6 +93,23 @@ class Asked:
 
     def check(self, name, plan):
         self.ask(name, "Check", b"c", string(plan), self.checked(plan))
+
+    def forecast(self, name, plan, lengths):
+        """As many of its numbers as fit stand at the start of lent ones; all else of these is as before."""
+        result = self.oracle.forecast(plan)
+        said = self.oracle.said(result, lambda six: " ".join(map(str, ["takes", *six])))
+        count = self.oracle.said(result, lambda six: f"numbers {len(six)}")
+        written = b"" if self.oracle.is_refused(result) else packed_numbers(result)
+        for length in lengths:
+            fit = written[:NUMBER * length]
+            now = fit + lent(NUMBER * length)[len(fit):]
+            self.ask(name, "Forecast", b"f", string(plan) + numbers(length), f"{said} {count} {hexed(now)}")
+        if written:
+            _, _, write_messages, _, votes, most_forgeries = result
+            self.counts["forecasts"] += 1
+            self.counts["Forecast done"] += len(lengths)
+            self.counts["with a WRITE lost"] += votes < write_messages * (self.oracle.header(plan).n - 1)
+            self.counts["with forgeries that arrive"] += most_forgeries > 0
 
     def text(self, name, plan):
         """The lines as the wrapper decodes the answers, and what the program prints where it reads the form."""

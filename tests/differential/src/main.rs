@@ -4,12 +4,14 @@
 //! lent bytes too short and too long, looks in and out of range, answers true, changed and malformed to
 //! judge and to make sheets of, and now and then under the other form's name; and on as many random
 //! lists of numbers to pack, right and bent. Plans are also carried to the other form. There the library
-//! must give the same answers, and back from there the same bytes.
+//! must give the same answers, and back from there the same bytes. A forecast must also be what the plain
+//! program counts while it plays.
 //! What shows a difference is kept under target/differ/ of this package.
 
 mod answers;
 mod asked;
 mod carrying;
+mod forecasts;
 mod lent;
 mod packing;
 mod results;
@@ -96,6 +98,7 @@ impl Comparison {
         let compared = self.bench.compare(random, asked, &mut self.tally);
         let compared =
             compared.and_then(|()| self.carrying.compare(random, asked, &mut self.tally));
+        let compared = compared.and_then(|()| forecasts::compare(random, asked, &mut self.tally));
         if let Err(difference) = compared {
             let difference = format!("{}, {difference}", asked.form);
             self.differs(seed, &difference, &format!("{seed}.plan"), asked.plan);

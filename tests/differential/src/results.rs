@@ -32,6 +32,11 @@ pub fn written<R: Numbered>(result: Result<usize, R>) -> String {
     result.map_or_else(refused, |bytes| format!("bytes {bytes}"))
 }
 
+/// The numbers of a forecast, or how many they are.
+pub fn foretold<T: Debug, R: Numbered>(result: Result<T, R>) -> String {
+    result.map_or_else(refused, |numbers| format!("numbers {numbers:?}"))
+}
+
 pub fn judged<R: Numbered>(result: Result<bool, R>) -> String {
     result.map_or_else(refused, |yes| if yes { "yes" } else { "no" }.to_string())
 }

@@ -9,8 +9,9 @@ use plans::Form;
 pub struct Tally(BTreeMap<(&'static str, Form), BTreeMap<String, u64>>);
 
 /// The refusals that must come up.
-const IN_BOTH_FORMS: [(&str, &[u32]); 6] = [
+const IN_BOTH_FORMS: [(&str, &[u32]); 7] = [
     ("check", &[1, 2, 3, 4, 5, 6, 7, 8]),
+    ("forecast", &[1, 2, 3, 4, 5, 6, 7, 8]),
     ("play", &[1, 2, 3, 4, 5, 6, 7, 8, 9, 10]),
     ("look", &[1, 2, 3, 4, 5, 6, 7, 8, 10, 11]),
     ("judge", &[1, 2, 3, 4, 5, 6, 7, 8, 12, 13]),
@@ -21,9 +22,10 @@ const IN_FORM_ONE: (&str, &[u32]) = ("carry", &[1, 2, 3, 4, 5, 6, 7, 8, 20]);
 const IN_FORM_TWO: (&str, &[u32]) = ("carry back", &[1, 2, 3, 4, 5, 6, 7, 8, 19, 20]);
 
 impl Tally {
-    /// Counts a result; all numbers of reads are one kind, and all numbers of bytes.
+    /// Counts a result; all numbers of reads are one kind, all numbers of bytes, and all forecasts.
     pub fn count(&mut self, operation: &'static str, form: Form, result: &str) {
-        let counted = ["reads", "bytes"].into_iter().find(|kind| result.starts_with(kind));
+        let kinds = ["reads", "bytes", "numbers"];
+        let counted = kinds.into_iter().find(|kind| result.starts_with(kind));
         let kind = counted.unwrap_or(result);
         let kinds = self.0.entry((operation, form)).or_default();
         match kinds.get_mut(kind) {

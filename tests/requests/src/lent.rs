@@ -7,6 +7,13 @@ pub fn lent(length: usize) -> Vec<u8> {
     (0..length).map(|i| (i % 251 + 1) as u8).collect()
 }
 
+/// Numbers to lend: each of them four bytes to lend, big-endian.
+pub fn lent_numbers(length: usize) -> Vec<u32> {
+    let bytes = lent(4 * length);
+    let number = |four: &[u8]| four.iter().fold(0, |number, &byte| number << 8 | u32::from(byte));
+    bytes.chunks_exact(4).map(number).collect()
+}
+
 /// `x` and the bytes as hexadecimal digits.
 pub fn hex(bytes: &[u8]) -> String {
     let digits = bytes.iter().flat_map(|byte| [byte >> 4, byte & 15]);

@@ -5,6 +5,7 @@
 //! 8 bytes, big-endian, and byte strings have their length before them. A list is a byte string with 4
 //! bytes for each of its numbers, big-endian.
 //!   c plan                   Check, and the numbers of the header
+//!   f plan numbers           Forecast, and what comes of it in so many lent numbers
 //!   p plan                   the lines that the program prints for a plan of form one, for either form:
 //!                            `reads`, then a line for each read; joined by `|`
 //!   b plan buffer workspace  Play into lent bytes of those lengths
@@ -19,11 +20,12 @@
 //!                            length
 //!   r plan                   there and back: what `c` and `p` say of the carried plan in its form, and
 //!                            the plan carried from there
-//! Lent bytes start as 1, 2, 3 .. modulo 251. Those of answers, pairs, sheets, packed and carried plans
-//! are printed in hex, a workspace as `kept` if no byte has changed, `cleared` if the first 60,000 are
-//! zero and the rest unchanged.
+//! Lent bytes start as 1, 2, 3 .. modulo 251; a lent number is four of them, big-endian. Those of numbers,
+//! answers, pairs, sheets, packed and carried plans are printed in hex, a workspace as `kept` if no byte
+//! has changed, `cleared` if the first 60,000 are zero and the rest unchanged.
 
 mod carrying;
+mod forecasts;
 mod lent;
 mod records;
 
@@ -35,6 +37,7 @@ use register::{
 };
 
 use carrying::{carried, carry_into, other};
+use forecasts::foretold;
 use lent::{hex, lent, state};
 use records::Records;
 
@@ -165,6 +168,7 @@ fn about_a_plan(letter: u8, form: Form, records: &mut Records) -> Option<String>
     let plan = records.string()?;
     let result = match letter {
         b'c' => checked(form, plan),
+        b'f' => Ok(foretold(form, plan, records.number()?)),
         b'p' => printed(form, plan),
         b'b' => Ok(played(form, plan, records.number()?, records.number()?)),
         b'l' => Ok(looked(form, plan, place(records)?)),
