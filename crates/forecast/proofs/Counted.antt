@@ -72,16 +72,17 @@ module _ (w : ℕ) (s : List ℕ) (A : Playable w s) where
       )
 
   -- the numbers as the code finds them
-  pub found : (m size moved n operations receipts forged : ℕ) → m ≡ length (planOf w s .reads) → size ≡ answerSize w → moved ≡ moves (headerOf w s) → n ≡ headerOf w s .n
-      → operations ≡ headerOf w s .operations → receipts ≡ allReceipts (planOf w s) → forged ≡ largest (forgeriesIn (planOf w s)) (headerOf w s .ticks)
+  pub found : (m size moved n written others receipts forged : ℕ) → m ≡ length (planOf w s .reads) → size ≡ answerSize w → moved ≡ moves (headerOf w s) → n ≡ headerOf w s .n
+      → written ≡ headerOf w s .operations - length (planOf w s .reads) → others ≡ headerOf w s .n - 1 → receipts ≡ allReceipts (planOf w s)
+      → forged ≡ largest (forgeriesIn (planOf w s)) (headerOf w s .ticks)
       → record {
         answer-bytes = size * m;
         moves = moved;
-        write-messages = n * (operations - m);
+        write-messages = n * written;
         read-messages = n * m;
-        votes = (n - 1) * receipts;
+        votes = others * receipts;
         most-forgeries = forged;
       } ≡ countsOf w s
-  found m size moved n operations receipts forged e₁ e₂ e₃ e₄ e₅ e₆ e₇ =
-      let written : headerOf w s .operations - length (planOf w s .reads) ≡ length (planOf w s .writes) = omega (arith, operations-are) in
-      rw (e₁, e₂, e₃, e₄, e₅, e₆, e₇, written) counts-are
+  found m size moved n written others receipts forged e₁ e₂ e₃ e₄ e₅ e₆ e₇ e₈ =
+      let writes : headerOf w s .operations - length (planOf w s .reads) ≡ length (planOf w s .writes) = omega (arith, operations-are) in
+      rw (e₁, e₂, e₃, e₄, e₅ ∙ writes, e₆, e₇, e₈) counts-are

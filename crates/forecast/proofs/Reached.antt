@@ -53,7 +53,7 @@ module _ (w : ℕ) (s : List ℕ) (A : Playable w s) (links : Links) (L : LinksO
     within b = let d = delay-range w s A u (planOf w s .n) b in (omega (arith, d), omega (arith, d))
 
     -- a WRITE arrives in a tick of the plan, behind the first
-    pub sent-within : (i : ℕ) (x : Sending) → Sent s (linkBit links u n 0) n u i x → (b : ℕ) → b < x .n → (1 ≤ arrivalOf x b) × (arrivalOf x b ≤ mostTicks)
+    pub sent-within : (i : ℕ) (x : Sending) → Sent s (linkBit links u n 0) n u i x → (b : ℕ) → b < x .n → (1 ≤ arrivalOf x b) × (arrivalOf x b < mostTicks)
     sent-within i x S b l =
         let k : b < n = omega (arith, S .servers) in
         let e = S .arrives b k ∙ ap (λ at. u + fieldOf s at delayBits) (link-at links u n b) ∙ arrives b k in

@@ -45,7 +45,7 @@ fn free(placement: u16, b: usize) -> u32
 // How many servers are not faulty when they are reached: a movement comes after the deliveries of its tick, so the tick before tells.
 fn receipts(sending: Sending, placements: &[u16; TICKS]) -> u32
     requires { ⌜ Sendable sending × (length (now placements) ≡ mostTicks)
-        × ((b : ℕ) → b < sending .n → (1 ≤ arrivalOf sending b) × (arrivalOf sending b ≤ mostTicks)) ⌝ }
+        × ((b : ℕ) → b < sending .n → (1 ≤ arrivalOf sending b) × (arrivalOf sending b < mostTicks)) ⌝ }
     ensures { λ r. ⌜ (r ≡ count (λ b. not (bit (mostServers - 1 - b) (getD (now (placements .entry)) (arrivalOf sending b - 1) 0))) (sending .n)) × (r ≤ mostServers) ⌝ }
 {
     let n = sending.n;

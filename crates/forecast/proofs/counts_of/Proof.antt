@@ -2,7 +2,7 @@
 -- It stands on Counted.
 use mathlib.Core.Path.{_≡_, ap}
 use mathlib.Core.List.{List}
-use Prim.Native.Nat.{ℕ, _*_, _-_, _≤_}
+use Prim.Native.Nat.{ℕ, _*_, _^_, _≤_, _<_}
 use native.Mathlib.Nat.{mul-le-mul}
 use native.Mathlib.Omega.{arith}
 use lib.ListN.{length}
@@ -31,6 +31,10 @@ same c = c .read .ensures .0
 ranged : (c : tie.After-read) → Ranged (shape (c .read .result))
 ranged c = shape-ranged (start c .args .width) (now (start c .args .plan)) (plays (start c)) (c .read .result) (same c)
 
+-- a number for each server
+small : (n m : ℕ) → n ≤ 16 → m ≤ mostReceipts → n * m < 2 ^ 32
+small n m h l = omega (arith, mul-le-mul {n₂ = 16} {m₂ = mostReceipts} h l)
+
 at-width : (w v : ℕ) (s : List ℕ) (x : Shape) → v ≡ w → Playable w s → w ≤ mostWidth → shape x ≡ headerOf w s → Playable v s × (v ≤ mostWidth) × (shape x ≡ headerOf v s)
 at-width w v s x e A narrow q = rw e (A, narrow, q)
 
@@ -55,7 +59,7 @@ cast-writes : tie.Need-cast-writes
 cast-writes c = search needs
 
 sub-writes : tie.Need-sub-writes
-sub-writes c = few (c .before .before)
+sub-writes c = omega (arith, few (c .before .before))
 
 size-requires : tie.Need-size-requires
 size-requires c κs = search needs
@@ -84,7 +88,7 @@ cast-t12 c = search needs
 mul-t13 : tie.Need-mul-t13
 mul-t13 c =
     let r = c .before .before .before .before in
-    omega (arith, mul-le-mul {m₁ = r .read .result .operations - start r .args .reads} {n₂ = 16} {m₂ = 255} (ranged r .n-hi) (omega (arith, ranged r .operations-hi)))
+    record { fits = small _ _ (ranged r .n-hi) (omega (arith, ranged r .operations-hi)) }
 
 cast-t14 : tie.Need-cast-t14
 cast-t14 c = let r = c .before .before .before .before in omega (arith, few r, ranged r .operations-hi)
@@ -92,10 +96,10 @@ cast-t14 c = let r = c .before .before .before .before in omega (arith, few r, r
 mul-t15 : tie.Need-mul-t15
 mul-t15 c =
     let r = c .before .before .before .before in
-    omega (arith, mul-le-mul {m₁ = start r .args .reads} {n₂ = 16} {m₂ = 255} (ranged r .n-hi) (omega (arith, few r, ranged r .operations-hi)))
+    record { fits = small _ _ (ranged r .n-hi) (omega (arith, few r, ranged r .operations-hi)) }
 
 sub-t16 : tie.Need-sub-t16
-sub-t16 c = ranged (c .before .before .before .before) .n-lo
+sub-t16 c = omega (arith, ranged (c .before .before .before .before) .n-lo)
 
 all-requires : tie.Need-all-requires
 all-requires c κs = asked (c .before .before .before .before)
@@ -103,7 +107,7 @@ all-requires c κs = asked (c .before .before .before .before)
 mul-t18 : tie.Need-mul-t18
 mul-t18 c =
     let r = c .before .before .before .before .before in
-    omega (arith, mul-le-mul {n₁ = r .read .result .n - 1} {n₂ = 15} {m₂ = mostReceipts} (omega (arith, ranged r .n-hi)) (c .all .ensures .1))
+    record { fits = small _ _ (omega (arith, ranged r .n-hi)) (c .all .ensures .1) }
 
 most-requires : tie.Need-most-requires
 most-requires c κs = asked (c .before .before .before .before .before)
@@ -113,12 +117,15 @@ returns c =
     let r = c .before .before .before .before .before .before in
     let s = start r in
     let w = r .read .ensures .1 in
-    found (s .args .width) (now (s .args .plan)) (plays s) (s .args .reads) _ _ _ _ _ _
-    (reads-counted (s .args .width) _ (s .args .reads) (s .pre .0))
+    let m = reads-counted (s .args .width) _ (s .args .reads) (s .pre .0) in
+    let n = ap (λ (h : Header). h .n) (same r) in
+    found (s .args .width) (now (s .args .plan)) (plays s) (s .args .reads) _ _ _ _ _ _ _
+    m
     (c .before .before .before .size .ensures)
     (rw (same r) at (c .before .before .moves .ensures .0))
-    (ap (λ (h : Header). h .n) (same r))
-    (ap (λ (h : Header). h .operations) (same r))
+    n
+    (omega (arith, m, ap (λ (h : Header). h .operations) (same r)))
+    (omega (arith, n))
     (rw w at (c .before .all .ensures .0))
     (rw (w, ap (λ (h : Header). h .ticks) (same r)) at (c .most .ensures))
 
