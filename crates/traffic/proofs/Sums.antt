@@ -4,7 +4,7 @@ use mathlib.Core.Path.{_≡_, refl, sym, ap, _∙_}
 use mathlib.Core.Bool.{Bool, true, false, not, _&&_, cond, and-true}
 use mathlib.Core.List.{List, [], _∷_}
 use Prim.Native.Nat.{ℕ, zero, suc, _+_, _*_, _-_, _≤_, _<_}
-use native.Mathlib.Nat.{mul-zero, mul-add}
+use native.Mathlib.Nat.{mul-zero, zero-mul, mul-one, suc-mul, mul-add}
 use native.Mathlib.Omega.{arith}
 use native.Mathlib.Decide.{ℕ-discrete}
 use lib.Dec.{eqb}
@@ -30,10 +30,10 @@ unfolding sum
 sum-none zero = refl
 sum-none (suc n) = omega (arith, sum-none n)
 
-pub sum-ones : (n : ℕ) → sum (λ i. 1) n ≡ n
+pub sum-same : (m n : ℕ) → sum (λ i. m) n ≡ n * m
 unfolding sum
-sum-ones zero = refl
-sum-ones (suc n) = omega (arith, sum-ones n)
+sum-same m zero = sym (zero-mul m)
+sum-same m (suc n) = rw (sum-same m n, suc-mul n m)
 
 sum-add : (f g : ℕ → ℕ) (n : ℕ) → sum (λ i. f i + g i) n ≡ sum f n + sum g n
 unfolding sum
@@ -106,4 +106,5 @@ module _ {A : Type 0} where
       sum-cong _ _ H (λ t l. length-filter (λ x. eqb (when x) t) xs d)
       ∙ count-swap (λ t j. eqb (when (getD xs j d)) t) H (length xs)
       ∙ sum-cong _ _ (length xs) (λ j l. count-once (when (getD xs j d)) H (below j l))
-      ∙ sum-ones (length xs)
+      ∙ sum-same 1 (length xs)
+      ∙ mul-one (length xs)
