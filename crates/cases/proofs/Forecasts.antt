@@ -1,6 +1,5 @@
 -- Forecasts computed from the definitions, which count in the run of the step rules; and plans that are refused.
 use mathlib.Core.Path.{_≡_, refl}
-use mathlib.Core.List.{List}
 use Prim.Native.Nat.{ℕ}
 use Rattle.traffic.specs.Traffic as traffic
 use Rattle.plan.specs.Check.{Outcome, refused, result, checkIn}

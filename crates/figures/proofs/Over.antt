@@ -1,6 +1,6 @@
 -- As many figures as fit, at the start of a list: where the list ends first, and where the figures do; and that a caller can tell them from a refusal.
 -- It stands on the definitions alone.
-use mathlib.Core.Path.{_≡_, refl, sym}
+use mathlib.Core.Path.{_≡_}
 use mathlib.Core.List.{List, [], _++_}
 use Prim.Native.Nat.{ℕ, _≤_, _<_}
 use native.Mathlib.Omega.{arith}

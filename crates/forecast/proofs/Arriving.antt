@@ -17,7 +17,7 @@ use Rattle.plan.specs.{declared.header.Shape.Shape, Header.headerOf, Header.ope
 use Rattle.serving.specs.declared.Links.{Links}
 use Rattle.script.specs.{Forged.forgedAt, Script.LinksOf, Script.messageOf, Script.messageDelay}
 use Rattle.script.proofs.Forging.{counted, message, delay-same}
-use Rattle.forecast.specs.Steps.{mostTicks, mostArrivals, arrivalAt, Arrived}
+use Rattle.forecast.specs.Steps.{mostTicks, arrivalAt, Arrived}
 
 -- the plan's forged messages by index
 module _ (w : ℕ) (s : List ℕ) where

@@ -1,28 +1,24 @@
 -- What the code returns are the counts of the run: each number by the law of its own.
 -- It stands on what Check accepts, and on the laws of what is sent and what arrives.
-use mathlib.Core.Path.{_≡_, refl, sym, ap, _∙_}
+use mathlib.Core.Path.{_≡_, refl, _∙_}
 use mathlib.Core.Bool.{Bool, true, false, not, cond}
 use mathlib.Core.List.{List, [], _∷_, map}
-use Prim.Native.Nat.{ℕ, suc, _+_, _*_, _-_, _/_, _≤_, _<_}
+use Prim.Native.Nat.{ℕ, suc, _+_, _*_, _-_, _<_}
 use native.Mathlib.Omega.{arith}
 use lib.Dec.{eqb}
-use lib.ListN.{length, getD, length-map}
-use Rattle.register.specs.Lists.{count, filter}
-use Rattle.register.specs.Plan.{Write, Read, stamped, isMove}
+use lib.ListN.{length, getD}
+use Rattle.register.specs.{Lists.filter, Plan.Write, Plan.Read, Plan.stamped}
 use Rattle.register.proofs.Lists.{length-tabFrom}
-use Rattle.traffic.specs.Traffic.{sum, largest, writesSent, readsSent, votesSent, forgeriesIn}
+use Rattle.traffic.specs.Traffic.{largest, forgeriesIn}
 use Rattle.traffic.proofs.{Moves.moves-counted, Sent.writes-sent, Sent.reads-sent, Votes.votes-sent}
 use Rattle.plan.specs.Header.{headerOf, moves}
 use Rattle.plan.specs.Parts.{Operation, operationOf, operationsOf, writesFrom, readsFrom}
-use Rattle.plan.specs.Packed.{planOf}
-use Rattle.plan.specs.Check.{checkOf, result}
-use Rattle.plan.specs.Playable.{Playable}
+use Rattle.plan.specs.{Packed.planOf, Playable.Playable}
 use Rattle.plan.proofs as plan-laws
-use Rattle.answers.specs.Answers.{answerSize, answersOf}
+use Rattle.answers.specs.Answers.{answerSize}
 use Rattle.script.specs.Operations.{noWrite, noRead}
 use Rattle.simulator.proofs.AnswerBytes.{answersOf-length}
-use Rattle.forecast.specs.Forecast.{Counts, countsOf}
-use Rattle.forecast.specs.Steps.{allReceipts}
+use Rattle.forecast.specs.{Forecast.countsOf, Steps.allReceipts}
 
 -- an operation is a write or a read
 both-kinds : (w k : ℕ) (os : List Operation) → length (writesFrom w k os) + length (readsFrom os) ≡ length os

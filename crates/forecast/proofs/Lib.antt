@@ -1,4 +1,5 @@
 pub mod Tables
 pub mod Reached
+pub mod Written
 pub mod Arriving
 pub mod Counted

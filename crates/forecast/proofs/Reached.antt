@@ -1,30 +1,25 @@
--- The receipts that the code counts are those of the plan: the delays and the placements that it reads are the plan's.
+-- The receipts that the code counts for a WRITE are those of the plan: the delays and the placements that it reads are the plan's.
 -- It stands on where the parts stand in the plan's bits, and on what Check accepts.
-use mathlib.Core.Path.{_≡_, refl, sym, ap, _∙_}
+use mathlib.Core.Path.{_≡_, ap, _∙_}
 use mathlib.Core.Bool.{not}
 use mathlib.Core.List.{List}
-use Prim.Native.Nat.{ℕ, _+_, _-_, _/_, _≤_, _<_}
-use native.Mathlib.Numerals.{add-one}
+use Prim.Native.Nat.{ℕ, _+_, _-_, _≤_, _<_}
 use native.Mathlib.Omega.{arith}
 use lib.Dec.{T}
-use lib.ListN.{length, getD}
+use lib.ListN.{getD}
 use borrow.Author.Tests.{lt-ltb, le-ltb}
 use Rattle.bits.specs.Field.{fieldOf}
 use Rattle.register.specs.Lists.{count}
-use Rattle.register.specs.Plan.{Write}
 use Rattle.register.proofs.Counting.{count-cong}
-use Rattle.traffic.specs.Traffic.{sum}
 use Rattle.traffic.specs.Alone.{reachedIn, receiptsOf}
-use Rattle.traffic.proofs.Sums.{sum-cong}
 use Rattle.plan.specs.{Form.mostWidth, Header.headerOf, Header.delayBits, Parts.isLink, Packed.planOf, Playable.Playable}
-use Rattle.plan.proofs.{Accept.in-range, AcceptGood.delay-range, AcceptWrites.write-ends}
+use Rattle.plan.proofs.{Accept.in-range, AcceptGood.delay-range}
 use Rattle.calendar.specs.{declared.Sending.Sending, Layout.mostServers, Bits.bit, Posts.arrivalOf, Posts.Sent}
 use Rattle.serving.specs.{declared.Links.Links, Links.linkBit, Links.delayAt, Links.Linked}
 use Rattle.serving.proofs.SendLaws.{link-at}
-use Rattle.script.specs.{Operations.noWrite, Script.LinksOf}
+use Rattle.script.specs.Script.{LinksOf}
 use Rattle.script.proofs.Placing.{table, link-delay, placed-bit}
-use Rattle.regular.specs.Tables.{Tables}
-use Rattle.forecast.specs.Steps.{mostTicks, InForce, receiptsBy, allReceipts}
+use Rattle.forecast.specs.Steps.{mostTicks, InForce, receiptsBy}
 
 -- what one party sends reaches a server when its delay is over
 pub sent-receipts : (plan : List ℕ) (links : Links) (n t i : ℕ) (x : Sending) (placements : List ℕ) → Sent plan (linkBit links t n 0) n t i x
@@ -59,7 +54,7 @@ module _ (w : ℕ) (s : List ℕ) (A : Playable w s) (links : Links) (L : LinksO
         let e = S .arrives b k ∙ ap (λ at. u + fieldOf s at delayBits) (link-at links u n b) ∙ arrives b k in
         (omega (arith, e, within b), omega (arith, e, within b, in-range w s A .ticks-hi))
 
-    receipts-are : (placements : List ℕ) → InForce w s (headerOf w s) (headerOf w s .ticks) placements → receiptsBy s links n placements u ≡ receiptsOf (planOf w s) u
+    pub receipts-are : (placements : List ℕ) → InForce w s (headerOf w s) (headerOf w s .ticks) placements → receiptsBy s links n placements u ≡ receiptsOf (planOf w s) u
     unfolding receiptsBy receiptsOf planOf
     receipts-are placements F =
         count-cong _ _ n (λ b l.
@@ -67,23 +62,3 @@ module _ (w : ℕ) (s : List ℕ) (A : Playable w s) (links : Links) (L : LinksO
         rw (arrives b l, F .each (reachedIn (planOf w s) u b - 1) before)
         (ap not (placed-bit w s A (reachedIn (planOf w s) u b - 1) b before (omega arith))))
         ∙ ap (count _) servers
-
-module _ (w : ℕ) (s : List ℕ) (A : Playable w s) (values begun : List ℕ) (m : ℕ) (B : Tables w (planOf w s) values begun m) where
-  -- the table has the ticks in which the writes begin
-  begun-is : (j : ℕ) → j < length (planOf w s .writes) → getD (planOf w s .writes) j noWrite .begun ≡ getD begun (j + 1) 0
-  begun-is j l = rw (add-one j) (ap (λ (x : Write). x .begun) (B .written .each j l))
-
-  pub writes-counted : m - 1 ≡ length (planOf w s .writes)
-  writes-counted = omega (arith, B .written .count)
-
-  pub begun-ends : (j : ℕ) → j < m - 1 → getD begun (j + 1) 0 + headerOf w s .delta < headerOf w s .ticks
-  begun-ends j l = let k : j < length (planOf w s .writes) = omega (arith, writes-counted) in rw (begun-is j k) at (write-ends w s A noWrite j k)
-
-  pub all-receipts : (links : Links) → LinksOf w (headerOf w s) links → (n : ℕ) → n ≡ headerOf w s .n → (placements : List ℕ)
-      → InForce w s (headerOf w s) (headerOf w s .ticks) placements → sum (λ j. receiptsBy s links n placements (getD begun (j + 1) 0)) (m - 1) ≡ allReceipts (planOf w s)
-  unfolding allReceipts
-  all-receipts links L n servers placements F =
-      sum-cong _ _ (m - 1) (λ j l.
-      let k : j < length (planOf w s .writes) = omega (arith, writes-counted) in
-      rw (begun-is j k) (receipts-are w s A links L n servers (getD begun (j + 1) 0) (begun-ends j l) placements F))
-      ∙ ap (sum _) writes-counted

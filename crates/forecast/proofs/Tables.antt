@@ -1,6 +1,6 @@
 -- The tables that the loops fill, one entry more: the placement of each tick, and the arrivals counted by tick.
 -- It stands on the library's laws of stores, and on the register's laws of counting.
-use mathlib.Core.Path.{_≡_, refl, sym, ap, _∙_}
+use mathlib.Core.Path.{_≡_, refl, sym, _∙_}
 use mathlib.Core.List.{List}
 use Prim.Native.Nat.{ℕ, _+_, _/_, _≤_, _<_}
 use native.Mathlib.Numerals.{add-one}

@@ -8,7 +8,7 @@ use lib.Dec.{eqb}
 use lib.ListN.{getD, replicate}
 use lib.Bits.{bitOr, bitAnd, or-lt, and-shr, and-mod}
 use lib.Count.{ones, ones-step}
-use Rattle.register.specs.Lists.{count, one-if}
+use Rattle.register.specs.Lists.{count}
 use Rattle.register.proofs.Counting.{digit-one, count-low}
 use Rattle.register.proofs.Lists.{getD-replicate-same}
 use Rattle.calendar.specs.Bits.{bit}

@@ -1,6 +1,6 @@
 -- The votes that are sent on receipt of a WRITE: one to every other server for each receipt by a server that is not faulty then, which the placements
 -- tell. It stands on Sums, and on the register's law of who is faulty.
-use mathlib.Core.Path.{_≡_, refl, sym, ap, _∙_}
+use mathlib.Core.Path.{_≡_, sym, ap, _∙_}
 use mathlib.Core.Bool.{Bool, true, false, not, _&&_, cond, and-true, and-false}
 use mathlib.Core.List.{List, [], map}
 use Prim.Native.Nat.{ℕ, suc, _+_, _*_, _-_, _/_, _<_}

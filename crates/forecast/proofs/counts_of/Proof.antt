@@ -5,9 +5,8 @@ use mathlib.Core.List.{List}
 use Prim.Native.Nat.{ℕ, _*_, _^_, _≤_, _<_}
 use native.Mathlib.Nat.{mul-le-mul}
 use native.Mathlib.Omega.{arith}
-use lib.ListN.{length}
 use denote.Ref.{now}
-use Rattle.plan.specs.{declared.header.Shape.Shape, Form.mostWidth, Header.Header, Header.headerOf, Header.moves, Packed.planOf, Playable.Playable, Shape.Ranged, Shape.shape}
+use Rattle.plan.specs.{declared.header.Shape.Shape, Form.mostWidth, Header.Header, Header.headerOf, Header.moves, Playable.Playable, Shape.Ranged, Shape.shape}
 use Rattle.plan.proofs.Accept.{playable, header-there, reads-counted}
 use Rattle.answers.proofs.Lengths.{answer-few}
 use Rattle.script.proofs.Forging.{shape-ranged}

@@ -1,23 +1,22 @@
 -- `of_writes` meets its contract: after j turns the receipts of the first j writes are counted.
 use mathlib.Core.Path.{_≡_, refl, ap, subst, _∙_}
-use Prim.Native.Nat.{ℕ, _+_, _*_, _-_, _≤_, _<_}
+use Prim.Native.Nat.{_+_, _*_, _-_, _≤_, _<_}
 use native.Mathlib.Numerals.{add-one}
 use native.Mathlib.Omega.{arith}
 use lib.ListN.{getD}
 use borrow.Author.Needs.{needs}
 use denote.Ref.{now}
 use Rattle.traffic.specs.Traffic.{sum}
-use Rattle.plan.specs.{Header.Header, Header.headerOf, Shape.shape}
+use Rattle.plan.specs.Header.{Header, headerOf}
 use Rattle.plan.proofs.Sizes.{playable-sizes}
-use Rattle.calendar.specs.Layout.{mostServers}
-use Rattle.calendar.specs.Posts.{Sent}
+use Rattle.calendar.specs.{Layout.mostServers, Posts.Sent}
 use Rattle.calendar.proofs.Sendings.{sent-sendable}
 use Rattle.serving.specs.Links.{linkBit, Linked}
 use Rattle.serving.proofs.SendLaws.{parties-few, link-inside, link-small}
 use Rattle.script.specs.Script.{LinksOf}
 use Rattle.script.proofs.Forging.{shape-ranged}
 use Rattle.forecast.specs.Steps.{InForce, receiptsBy}
-use Rattle.forecast.proofs.Reached.{sent-receipts, linked, sent-within, begun-ends, all-receipts}
+use Rattle.forecast.proofs.{Reached.sent-receipts, Reached.linked, Reached.sent-within, Written.begun-ends, Written.all-receipts}
 use Rattle.forecast.proofs.receipts.of_writes.Statement.{statement}
 use Rattle.forecast.proofs.receipts.of_writes.Tie as tie
 

@@ -1,5 +1,5 @@
 -- `receipts` meets its contract: after b turns the first b servers are counted.
-use mathlib.Core.Path.{_≡_, refl, _∙_}
+use mathlib.Core.Path.{_≡_, refl}
 use mathlib.Core.Bool.{Bool, not}
 use mathlib.Core.List.{List}
 use Prim.Native.Nat.{ℕ, _-_, _≤_}
@@ -7,7 +7,6 @@ use native.Mathlib.Numerals.{add-one}
 use native.Mathlib.Omega.{arith}
 use lib.ListN.{getD}
 use borrow.Author.Needs.{needs}
-use denote.Ref.{now}
 use Rattle.register.specs.Lists.{count}
 use Rattle.calendar.specs.{declared.Sending.Sending, Layout.mostServers, Bits.bit, Posts.arrivalOf}
 use Rattle.forecast.proofs.receipts.receipts.Statement.{statement}
