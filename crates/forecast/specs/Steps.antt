@@ -16,7 +16,7 @@ use Rattle.serving.specs.{declared.Links.Links, Links.delayAt}
 use Rattle.script.specs.Operations.{noWrite}
 use Rattle.script.specs.Forged.{forgedAt, delayOf}
 
--- the most ticks of a plan; the ticks in which what is sent in them can arrive
+-- the most ticks of a plan; those in which what is sent in them can arrive, since no delay is over 15
 abbrev pub mostTicks : ℕ
 mostTicks = 128
 

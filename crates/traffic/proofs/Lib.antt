@@ -2,4 +2,5 @@ pub mod Sums
 pub mod Moves
 pub mod Sent
 pub mod Votes
+pub mod Logged
 pub mod Forged

@@ -14,7 +14,7 @@ unfoldable pub sum : (ℕ → ℕ) → ℕ → ℕ
 sum g zero = 0
 sum g (suc n) = sum g n + g n
 
--- the largest of g 0 .. g (n - 1)
+-- the largest of g 0 .. g (n - 1), 0 where there is none
 unfoldable pub largest : (ℕ → ℕ) → ℕ → ℕ
 largest g zero = 0
 largest g (suc n) = max (largest g n) (g n)

@@ -6,7 +6,7 @@ use Prim.Native.Nat.{ℕ, _*_, _^_, _≤_, _<_}
 use native.Mathlib.Nat.{mul-le-mul}
 use native.Mathlib.Omega.{arith}
 use denote.Ref.{now}
-use Rattle.plan.specs.{declared.header.Shape.Shape, Form.mostWidth, Header.Header, Header.headerOf, Header.moves, Playable.Playable, Shape.Ranged, Shape.shape}
+use Rattle.plan.specs.{declared.header.Shape.Shape, Form.mostWidth, Header.Header, Header.headerOf, Playable.Playable, Shape.Ranged, Shape.shape}
 use Rattle.plan.proofs.Accept.{playable, header-there, reads-counted}
 use Rattle.answers.proofs.Lengths.{answer-few}
 use Rattle.script.proofs.Forging.{shape-ranged}
