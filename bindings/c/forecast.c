@@ -22,7 +22,7 @@ static int print_forecast(size_t length)
         printf("refused %d\n", (int)(result - REGISTER_REFUSED));
         return 1;
     }
-    printf("bytes of answers: %d\n", (int)numbers[REGISTER_ANSWER_BYTES]);
+    printf("bytes of answers: %d\n", (int)numbers[REGISTER_BYTES_OF_ANSWERS]);
     printf("moves: %d\n", (int)numbers[REGISTER_MOVES]);
     printf("WRITE messages: %d\n", (int)numbers[REGISTER_WRITE_MESSAGES]);
     printf("READ messages: %d\n", (int)numbers[REGISTER_READ_MESSAGES]);

@@ -4,7 +4,7 @@
  *
  * Link with target/staticlib/libcapi.a, which `rt staticlib capi` writes.  docs/FORMATS.md has the
  * bytes of plans and answers, the lists that a plan is packed from and the numbers of the refusals,
- * docs/SHEET.md the columns of a sheet.
+ * docs/SHEET.md the columns of a sheet, docs/RULES.md what the numbers of a forecast count.
  *
  * A plan and its answers are in one of two forms: a value has 16 bits in form one and 24 in form two.
  * Their bytes do not say which; the caller names the form by its number, REGISTER_FORM_ONE or
@@ -40,7 +40,7 @@ extern "C" {
 #define REGISTER_LONGEST_PLAN_ONE 34362
 #define REGISTER_LONGEST_PLAN_TWO 35619
 
-/* Bytes of a plan worth reading: one more than any header implies in either form.  What follows them
+/* Bytes of a plan worth reading: one more than any header in range implies in either form.  What follows them
  * changes nothing, as the plan is refused for its header or its length by then. */
 #define REGISTER_LONGEST_INPUT 35718
 
@@ -102,20 +102,22 @@ size_t register_check(size_t form, const uint8_t *plan, size_t plan_length);
 
 /* The numbers of a forecast, by their place. */
 enum register_forecast_number {
-    REGISTER_ANSWER_BYTES = 0,      /* bytes of the answers that play writes */
+    REGISTER_BYTES_OF_ANSWERS = 0,  /* bytes of the answers that play writes */
     REGISTER_MOVES = 1,             /* movements of the faults, the one in tick 0 among them */
     REGISTER_WRITE_MESSAGES = 2,    /* WRITE messages sent: for each write one to each server */
     REGISTER_READ_MESSAGES = 3,     /* READ messages sent: for each read one to each server */
     REGISTER_VOTES = 4,             /* votes sent on receipt of a WRITE: to each other server, by every
-                                     * server that is not faulty when the WRITE arrives */
+                                     * server that is not faulty when the WRITE arrives; a tick's
+                                     * deliveries come before its movement */
     REGISTER_MOST_FORGERIES = 5     /* the most forged messages, votes and replies, that arrive in one
                                      * tick, also at a faulty server or after the read's end */
 };
 
 /* Forecasts what playing a plan takes, without playing it.  Each number is exactly what playing the plan
- * counts; only ticks below H count.  As many of the six as fit stand at the start of numbers, and later
- * ones stay.  numbers_length counts numbers, not bytes, and may be anything; REGISTER_FORECAST has room
- * for all.  Returns REGISTER_FORECAST, however many fit; refuses what check refuses and nothing else. */
+ * counts; only ticks below H count (docs/RULES.md, 'What a play counts').  As many of the six as fit stand
+ * at the start of numbers, and later ones stay.  numbers_length counts numbers, not bytes; a list of any
+ * length may be lent, also of none, and REGISTER_FORECAST has room for all.  Returns REGISTER_FORECAST,
+ * however many fit; refuses what check refuses and nothing else. */
 size_t register_forecast(size_t form, const uint8_t *plan, size_t plan_length,
                          uint32_t *numbers, size_t numbers_length);
 

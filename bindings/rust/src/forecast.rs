@@ -3,7 +3,7 @@
 use crate::limits::FORECAST_NUMBERS;
 
 /// What playing an accepted plan takes. Each number is exactly what playing the plan counts; only ticks
-/// below H count.
+/// below H count (docs/RULES.md, 'What a play counts').
 #[derive(Clone, Copy, Debug, PartialEq, Eq, Hash)]
 pub struct Forecast {
     /// Bytes of the answers that [`play`](crate::play) writes.
@@ -15,7 +15,7 @@ pub struct Forecast {
     /// READ messages sent: for each read one to each server.
     pub read_messages: u32,
     /// Votes sent on receipt of a WRITE: to each other server, by every server that isn't faulty when
-    /// the WRITE arrives. A cured one votes.
+    /// the WRITE arrives. A cured one votes. A tick's deliveries come before its movement.
     pub votes: u32,
     /// The most forged messages, votes and replies, that arrive in one tick, also at a faulty server or
     /// after the read's end.

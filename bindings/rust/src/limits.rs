@@ -13,8 +13,8 @@ pub const PAIR_BYTES: usize = 4;
 /// Bytes of all stamped values that a server keeps, at most.
 pub const PAIRS_BYTES: usize = DEPTH * PAIR_BYTES;
 
-/// Bytes of a plan worth reading: one more than any header implies in either form. What follows them
-/// changes nothing, as the plan is refused for its header or its length by then.
+/// Bytes of a plan worth reading: one more than any header in range implies in either form. What
+/// follows them changes nothing, as the plan is refused for its header or its length by then.
 pub const LONGEST_INPUT: usize = 35_718;
 
 /// The most reads of an accepted plan, in either form.
