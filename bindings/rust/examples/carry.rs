@@ -4,12 +4,12 @@
 //!
 //! The exit status is 0 for an accepted plan, 1 for a refused one, 2 if reading or writing failed.
 
-use std::io::{self, Read, Write};
+mod given;
+
 use std::process::ExitCode;
 
 use register::{
-    answers, carry, carry_back, judge, play, Draft, Form, Operation, Plan, Refusal, LONGEST_INPUT,
-    WORKSPACE_BYTES,
+    answers, carry, carry_back, judge, play, Draft, Form, Operation, Plan, Refusal, WORKSPACE_BYTES,
 };
 
 /// Above 65,535.
@@ -74,24 +74,11 @@ fn rehearse_wide() -> Result<String, Refusal> {
     })
 }
 
-/// Whether the plan on standard input was accepted.
-fn run() -> io::Result<bool> {
-    let mut plan = Vec::new();
-    io::stdin().take(LONGEST_INPUT as u64).read_to_end(&mut plan)?;
-    let result = there_and_back(&plan).and_then(|text| Ok(text + &rehearse_wide()?));
-    let accepted = result.is_ok();
-    let text = result.unwrap_or_else(|refusal| format!("{refusal}\n"));
-    io::stdout().write_all(text.as_bytes())?;
-    Ok(accepted)
+/// All that there is to say: of the plan, and of the one with the wide value.
+fn all_of_it(plan: &[u8]) -> Result<String, Refusal> {
+    Ok(there_and_back(plan)? + &rehearse_wide()?)
 }
 
 fn main() -> ExitCode {
-    match run() {
-        Ok(true) => ExitCode::SUCCESS,
-        Ok(false) => ExitCode::from(1),
-        Err(error) => {
-            eprintln!("carry: {error}");
-            ExitCode::from(2)
-        }
-    }
+    given::answer("carry", all_of_it)
 }

@@ -3,10 +3,11 @@
 //!
 //! The exit status is 0 for an accepted plan, 1 for a refused one, 2 if reading or writing failed.
 
-use std::io::{self, Read, Write};
+mod given;
+
 use std::process::ExitCode;
 
-use register::{forecast, Form, Refusal, LONGEST_INPUT};
+use register::{forecast, Form, Refusal};
 
 /// The forecast of the plan in words.
 fn text_of(plan: &[u8]) -> Result<String, Refusal> {
@@ -19,24 +20,6 @@ fn text_of(plan: &[u8]) -> Result<String, Refusal> {
         + &format!("most forgeries arriving in one tick: {}\n", forecast.most_forgeries))
 }
 
-/// Whether the plan on standard input was accepted.
-fn run() -> io::Result<bool> {
-    let mut plan = Vec::new();
-    io::stdin().take(LONGEST_INPUT as u64).read_to_end(&mut plan)?;
-    let result = text_of(&plan);
-    let accepted = result.is_ok();
-    let text = result.unwrap_or_else(|refusal| format!("{refusal}\n"));
-    io::stdout().write_all(text.as_bytes())?;
-    Ok(accepted)
-}
-
 fn main() -> ExitCode {
-    match run() {
-        Ok(true) => ExitCode::SUCCESS,
-        Ok(false) => ExitCode::from(1),
-        Err(error) => {
-            eprintln!("forecast: {error}");
-            ExitCode::from(2)
-        }
-    }
+    given::answer("forecast", text_of)
 }
