@@ -1,7 +1,9 @@
 //! Carrying: the lists of a plan in the other form, each refusal, and every lent byte.
 
+mod refused;
+
 use plain::{carry, carry_back, check, Outcome, Refused};
-use plans::{accepted, damaged, Forgery, Form, Operation, Random, Size};
+use plans::{accepted, Forgery, Form, Operation, Random, Size};
 
 /// What lent bytes hold before a call.
 const BEFORE: u8 = 0xa5;
@@ -53,18 +55,11 @@ fn there_and_back() {
 /// Check's numbers come first, and nothing is written.
 #[test]
 fn what_check_refuses() {
-    for form in Form::ALL {
-        let mut came_up = [0; 9];
-        for seed in 0..2_000 {
-            let plan = damaged(&mut Random::new(seed), form, Size::Small);
-            if let Err(refused) = check(form.number(), &plan) {
-                came_up[usize::from(refused.0)] += 1;
-                let length = if seed % 2 == 0 { 0 } else { form.longest_plan() };
-                assert_eq!(carried(form, &plan, length), (Err(refused), vec![BEFORE; length]));
-            }
+    refused::every_refusal(|form, plan, number| {
+        for length in [0, form.longest_plan()] {
+            assert_eq!(carried(form, plan, length), (Err(number), vec![BEFORE; length]));
         }
-        assert!(came_up[1..].iter().all(|&times| times > 0), "{form}: {came_up:?}");
-    }
+    });
 }
 
 #[test]

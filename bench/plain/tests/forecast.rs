@@ -1,9 +1,9 @@
 //! Forecasts in both forms: by hand, as playing counts them, and refused where Check refuses.
 
-use plain::{
-    check, forecast, forecast_by_playing, look, play, Condition, Refused, WORKSPACE_BYTES,
-};
-use plans::{accepted, damaged, Forgery, Form, Operation, Parts, Random, Size};
+mod refused;
+
+use plain::{forecast, forecast_by_playing, look, play, Condition, Refused, WORKSPACE_BYTES};
+use plans::{accepted, Forgery, Form, Operation, Parts, Random, Size};
 
 /// The places of two numbers of a forecast.
 const VOTES: usize = 4;
@@ -154,18 +154,10 @@ fn forgeries_together() {
 
 #[test]
 fn what_check_refuses() {
-    for form in Form::ALL {
-        let mut came_up = [0; 9];
-        for seed in 0..2_000 {
-            let plan = damaged(&mut Random::new(seed), form, Size::Small);
-            if let Err(refused) = check(form.number(), &plan) {
-                came_up[usize::from(refused.0)] += 1;
-                assert_eq!(forecast(form.number(), &plan), Err(refused));
-                assert_eq!(forecast_by_playing(form.number(), &plan), Err(refused));
-            }
-        }
-        assert!(came_up[1..].iter().all(|&times| times > 0), "{came_up:?}");
-    }
+    refused::every_refusal(|form, plan, number| {
+        assert_eq!(forecast(form.number(), plan), Err(number));
+        assert_eq!(forecast_by_playing(form.number(), plan), Err(number));
+    });
 }
 
 #[test]
