@@ -29,7 +29,7 @@ module _ (w : ℕ) (s : List ℕ) where
   unfolding planOf
   listed-at e d l = getD-tab (headerOf w s .forgeries) (forgeryOf w s (headerOf w s)) e d l
 
-  arriving : (t : ℕ) → forgeriesIn (planOf w s) t ≡ count (λ e. eqb (arrivesIn (planOf w s) (messageOf w s e)) t) (headerOf w s .forgeries)
+  pub arriving : (t : ℕ) → forgeriesIn (planOf w s) t ≡ count (λ e. eqb (arrivesIn (planOf w s) (messageOf w s e)) t) (headerOf w s .forgeries)
   arriving t =
       let none : Forgery = record { at = 0; from = 0; to = 0; pair = 0 } in
       forgeries-counted (planOf w s) t none

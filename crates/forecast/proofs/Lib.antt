@@ -3,3 +3,4 @@ pub mod Reached
 pub mod Written
 pub mod Arriving
 pub mod Counted
+pub mod Limited

@@ -25,6 +25,16 @@ unfolding largest
 largest-cong f g zero e = refl
 largest-cong f g (suc n) e = rw (e n (omega arith), largest-cong f g n (λ i l. e i (omega arith)))
 
+pub sum-le : (f : ℕ → ℕ) (m n : ℕ) → ((i : ℕ) → i < n → f i ≤ m) → sum f n ≤ n * m
+unfolding sum
+sum-le f m zero l = omega arith
+sum-le f m (suc n) l = rw (suc-mul n m) (omega (arith, l n (omega arith), sum-le f m n (λ i k. l i (omega arith))))
+
+pub largest-le : (f : ℕ → ℕ) (m n : ℕ) → ((i : ℕ) → i < n → f i ≤ m) → largest f n ≤ m
+unfolding largest
+largest-le f m zero l = omega arith
+largest-le f m (suc n) l = omega (arith, l n (omega arith), largest-le f m n (λ i k. l i (omega arith)))
+
 sum-none : (n : ℕ) → sum (λ i. 0) n ≡ 0
 unfolding sum
 sum-none zero = refl
