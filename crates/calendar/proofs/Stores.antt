@@ -11,7 +11,7 @@ use lib.ListN.{length, getD}
 use borrow.Author.Tests.{le-ltb, eq-eqb, ne-eqb, eqb-true}
 use Rattle.calendar.specs.declared.Stamped.{Stamped}
 use Rattle.calendar.specs.declared.Sending.{Sending}
-use Rattle.calendar.specs.Layout.{rows, receivers, rowOf}
+use Rattle.calendar.specs.Layout.{rows, noPair, receivers, rowOf}
 use Rattle.calendar.specs.View.{Posted}
 use Rattle.calendar.specs.Posts.{inRow, amongFirst, vacant, dueIn, toFirst, arrivalOf}
 use Rattle.calendar.proofs.Laws.{eqb-both, under, never, ltb-more}
@@ -24,41 +24,41 @@ join a b c d = simp and-or-distrib-left
 
 -- the first n places of a store are not empty
 abbrev pub Full : ℕ → List Stamped → Type 0
-Full n ps = (q : ℕ) → q < n → getD ps q vacant .kept ≡ true
+Full n ps = (q : ℕ) → q < n → getD ps q vacant .number ≡ noPair → ⊥
 
-among-more : (n : ℕ) (ps : List Stamped) (j : ℕ) → Full n ps → n < length ps → getD ps n vacant .kept ≡ true → amongFirst (suc n) ps j ≡ amongFirst n ps j || eqb j (getD ps n vacant .number)
+among-more : (n : ℕ) (ps : List Stamped) (j : ℕ) → Full n ps → n < length ps → (getD ps n vacant .number ≡ noPair → ⊥) → amongFirst (suc n) ps j ≡ amongFirst n ps j || eqb j (getD ps n vacant .number)
 unfolding amongFirst
 among-more n [] j F l e = absurd (omega arith)
-among-more zero (p ∷ ps) j F l e = rw e (or-false (eqb j (p .number)))
+among-more zero (p ∷ ps) j F l e = rw (ne-eqb (p .number) noPair e) (or-false (eqb j (p .number)))
 among-more (suc n) (p ∷ ps) j F l e =
-    rw (F 0 (omega arith), among-more n ps j (λ q h. F (suc q) (omega arith)) (omega arith) e) (sym (or-assoc (eqb j (p .number)) (amongFirst n ps j) (eqb j (getD ps n vacant .number))))
+    rw (ne-eqb (p .number) noPair (F 0 (omega arith)), among-more n ps j (λ q h. F (suc q) (omega arith)) (omega arith) e) (sym (or-assoc (eqb j (p .number)) (amongFirst n ps j) (eqb j (getD ps n vacant .number))))
 
-among-stop : (n k : ℕ) (ps : List Stamped) (j : ℕ) → Full n ps → n ≤ k → getD ps n vacant .kept ≡ false → amongFirst k ps j ≡ amongFirst n ps j
+among-stop : (n k : ℕ) (ps : List Stamped) (j : ℕ) → Full n ps → n ≤ k → getD ps n vacant .number ≡ noPair → amongFirst k ps j ≡ amongFirst n ps j
 unfolding amongFirst
 among-stop zero zero ps j F l e = refl
 among-stop zero (suc k) [] j F l e = refl
-among-stop zero (suc k) (p ∷ ps) j F l e = rw e
+among-stop zero (suc k) (p ∷ ps) j F l e = rw (eq-eqb (p .number) noPair e)
 among-stop (suc n) zero ps j F l e = absurd (omega arith)
 among-stop (suc n) (suc k) [] j F l e = refl
-among-stop (suc n) (suc k) (p ∷ ps) j F l e = rw (F 0 (omega arith), among-stop n k ps j (λ q h. F (suc q) (omega arith)) (omega arith) e)
+among-stop (suc n) (suc k) (p ∷ ps) j F l e = rw (ne-eqb (p .number) noPair (F 0 (omega arith)), among-stop n k ps j (λ q h. F (suc q) (omega arith)) (omega arith) e)
 
 module _ (kept : List Stamped) (row i : ℕ) where
   pub kept-first : (a : List ℕ) → Posted a a (inRow row i (amongFirst 0 kept))
   unfolding amongFirst
   kept-first a = posted-none a _ (λ x j k l m. rw (and-false (eqb k i)) (and-false (eqb x row)))
 
-  pub kept-more : (a r s : List ℕ) (q : ℕ) → Full q kept → q < length kept → Posted a r (inRow row i (amongFirst q kept)) → getD kept q vacant .kept ≡ true
+  pub kept-more : (a r s : List ℕ) (q : ℕ) → Full q kept → q < length kept → Posted a r (inRow row i (amongFirst q kept)) → (getD kept q vacant .number ≡ noPair → ⊥)
       → Posted r s (inRow row i (λ y. eqb y (getD kept q vacant .number))) → Posted a s (inRow row i (amongFirst (q + 1) kept))
   kept-more a r s q F l A e B =
       posted-eq a s _ _ (posted-trans a r s _ _ A B)
       (λ x j k h m. rw (add-one q, among-more q kept j F l e) (join (eqb x row) (eqb k i) (amongFirst q kept j) (eqb j (getD kept q vacant .number))))
 
-  pub kept-stop : (a r : List ℕ) (q n : ℕ) → Full q kept → q ≤ n → Posted a r (inRow row i (amongFirst q kept)) → getD kept q vacant .kept ≡ false
+  pub kept-stop : (a r : List ℕ) (q n : ℕ) → Full q kept → q ≤ n → Posted a r (inRow row i (amongFirst q kept)) → getD kept q vacant .number ≡ noPair
       → Posted a r (inRow row i (amongFirst n kept))
   kept-stop a r q n F l A e = posted-eq a r _ _ A (λ x j k h m. rw (among-stop q n kept j F l e))
 
-pub full-more : (q : ℕ) (ps : List Stamped) → Full q ps → getD ps q vacant .kept ≡ true → Full (q + 1) ps
-full-more q ps F e y h = elim (ℕ-discrete y q) [ yes d ↦ rw d e | no d ↦ F y (omega arith) ]
+pub full-more : (q : ℕ) (ps : List Stamped) → Full q ps → (getD ps q vacant .number ≡ noPair → ⊥) → Full (q + 1) ps
+full-more q ps F e y h = elim (ℕ-discrete y q) [ yes d ↦ (λ k. e (rw d at k)) | no d ↦ F y (omega arith) ]
 
 -- ---- to all other servers
 

@@ -9,7 +9,7 @@ use Rattle.bits.specs.Field.{fieldOf}
 use Rattle.plan.specs.Header.{delayBits}
 use Rattle.calendar.specs.declared.Stamped.{Stamped}
 use Rattle.calendar.specs.declared.Sending.{Sending}
-use Rattle.calendar.specs.Layout.{receivers, lowOf, highOf}
+use Rattle.calendar.specs.Layout.{receivers, noPair, lowOf, highOf}
 
 abbrev pub Messages : Type 0
 Messages = ℕ → ℕ → ℕ → Bool
@@ -18,15 +18,15 @@ Messages = ℕ → ℕ → ℕ → Bool
 abbrev pub inRow : ℕ → ℕ → (ℕ → Bool) → Messages
 inRow row i P x j k = eqb x row && (eqb k i && P j)
 
--- an empty place of a store
+-- what is read past the end of a store
 abbrev pub vacant : Stamped
-vacant = record { kept = false; number = 0 }
+vacant = record { number = 0; value = 0 }
 
 -- of the first n places of the store, those before the first empty one hold pair j
 unfoldable pub amongFirst : ℕ → List Stamped → ℕ → Bool
 amongFirst zero ps j = false
 amongFirst (suc n) [] j = false
-amongFirst (suc n) (p ∷ ps) j = p .kept && (eqb j (p .number) || amongFirst n ps j)
+amongFirst (suc n) (p ∷ ps) j = not (eqb (p .number) noPair) && (eqb j (p .number) || amongFirst n ps j)
 
 -- the store keeps pair j
 abbrev pub among : List Stamped → ℕ → Bool

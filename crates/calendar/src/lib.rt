@@ -44,11 +44,10 @@ const CELLS: usize = ROWS;
 // How many bytes the calendar takes.
 pub const BYTES: usize = 2 * (CELLS + ROWS * PLACES);
 
-// A stamped value (document 01: a pair) by its place among the known pairs, which is its number; or an empty place of a store. Its value stands in the
-// table of the known pairs.
+// A stamped value (document 01: a pair); or, with NO_PAIR and 0, an empty place of a store. A known pair's place among the known pairs is its number.
 pub struct Stamped {
-    pub kept: bool,
     pub number: u8,
+    pub value: u32,
 }
 
 // What one party sends in a tick to the n servers: the delays as nibbles, the last server's lowest.
@@ -194,7 +193,7 @@ pub fn post_kept(work: &mut [u8], row: usize, kept: [Stamped; DEPTH], i: usize)
     let mut q: usize = 0;
     while q < DEPTH {
         let p = kept[q];
-        if !p.kept {
+        if p.number == NO_PAIR {
             return;
         }
         post(work, row, p.number, i);

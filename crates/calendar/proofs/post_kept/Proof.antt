@@ -4,7 +4,6 @@ use Prim.Native.Nat.{_-_, _≤_}
 use native.Mathlib.Omega.{arith}
 use lib.ListN.{length}
 use borrow.Author.Needs.{needs}
-use borrow.Author.Tests.{not-true, not-false}
 use Rattle.plan.specs.Packed.{storeDepth}
 use Rattle.calendar.specs.View.{Posted}
 use Rattle.calendar.specs.Posts.{inRow, amongFirst}
@@ -22,7 +21,7 @@ returns : tie.Need-returns Inv-loop μ-loop
 returns c =
     let a = c .before .before .before .before .before .before .args in
     let l = c .before .before .before .before .loop in
-    kept-stop (a .t3) (a .row) (a .i) _ _ (l .q) (length (a .t3)) (l .inv .2) (omega (arith, l .inv .0, l .inv .1)) (l .inv .3) (not-true _ (c .if1 .taken))
+    kept-stop (a .t3) (a .row) (a .i) _ _ (l .q) (length (a .t3)) (l .inv .2) (omega (arith, l .inv .0, l .inv .1)) (l .inv .3) (c .if1 .taken)
 
 post-requires : tie.Need-post-requires Inv-loop μ-loop
 post-requires c κs =
@@ -34,7 +33,7 @@ loop-again : tie.Need-loop-again Inv-loop μ-loop
 loop-again c =
     let a = c .before .before .before .before .before .before .before .before .before .before .args in
     let l = c .before .before .before .before .before .before .before .before .loop in
-    let k = not-false _ (c .before .before .before .before .if1 .left) in
+    let k = c .before .before .before .before .if1 .left in
     let h = c .before .before .before .before .before .before .before .loop-test .taken in (
       omega arith,
       l .inv .1,
