@@ -1,8 +1,8 @@
 -- What is left of a row's cells while they are emptied, and when the row is cleared; that nothing is left when all is zeroed.
-use mathlib.Core.Path.{_≡_, refl, _∙_}
+use mathlib.Core.Path.{_≡_, refl, ap, _∙_}
 use mathlib.Core.Bool.{Bool, true, false, not, _&&_, and-false, and-comm}
 use mathlib.Core.List.{List}
-use Prim.Native.Nat.{ℕ, _+_, _*_, _/_, _%_, _≤_, _<_, max}
+use Prim.Native.Nat.{ℕ, _+_, _*_, _-_, _/_, _%_, _≤_, _<_, max}
 use native.Mathlib.Omega.{arith}
 use native.Mathlib.Decide.{ℕ-discrete, decLe}
 use lib.Dec.{eqb, ltb, leb}
@@ -10,7 +10,7 @@ use lib.ListN.{length, getD}
 use borrow.Author.Tests.{lt-ltb, le-ltb, le-leb, leb-true, eq-eqb, ne-eqb}
 use Rattle.register.proofs.Logic.{eqb-comm}
 use Rattle.calendar.specs.Bits.{putWord}
-use Rattle.calendar.specs.Layout.{calendarSize, cellsAt, places, rows, cellWord, lowOf, highOf, sender, receivers, rowOf}
+use Rattle.calendar.specs.Layout.{calendarSize, cellsAt, places, noPair, rows, cellWord, lowOf, highOf, sender, receivers, rowOf}
 use Rattle.calendar.specs.View.{SamePast, Cleared, Empty, Zeroed}
 use Rattle.calendar.proofs.Laws.{under, never, bit-zero, put-length, put-byte, put-other, put-none, put-low, put-high, zeroed-word}
 use Rattle.calendar.proofs.Posting.{same-cell}
@@ -80,9 +80,9 @@ cleared a r row hr size E = record {
     past = λ k l. put-byte r row 0 k (λ e. omega arith) (λ e. omega arith) ∙ E .rest .past k l;
   };
   cells = λ x j i l m. rw (put-other r row 0 (cellWord x j) (λ e. omega arith)) (E .cells x j i l m ∙ rw (later (lowOf a row) (highOf a row) j));
-  lowHere = put-low r row 0 (omega arith);
+  lowHere = ap (λ (b : ℕ). noPair - b) (put-low r row 0 (omega arith));
   highHere = put-high r row 0 (omega arith);
-  low = λ x l d. put-byte r row 0 (2 * x) (λ e. d (omega arith)) (λ e. omega arith) ∙ E .front (2 * x) (omega arith);
+  low = λ x l d. ap (λ (b : ℕ). noPair - b) (put-byte r row 0 (2 * x) (λ e. d (omega arith)) (λ e. omega arith) ∙ E .front (2 * x) (omega arith));
   high = λ x l d. put-byte r row 0 (2 * x + 1) (λ e. omega arith) (λ e. d (omega arith)) ∙ E .front (2 * x + 1) (omega arith);
 }
 
@@ -90,7 +90,7 @@ pub started : (a r : List ℕ) → Zeroed a r 0 calendarSize → SamePast a r ×
 started a r Z = (
   record { size = Z .size; past = λ k l. Z .above k (omega arith) },
   record {
-    low = λ x l. Z .zero (2 * x) (omega arith) (omega arith);
+    low = λ x l. ap (λ (b : ℕ). noPair - b) (Z .zero (2 * x) (omega arith) (omega arith));
     high = λ x l. Z .zero (2 * x + 1) (omega arith) (omega arith);
     cells = λ x j i l n. rw (zeroed-word a r 0 calendarSize (cellWord x j) (omega arith) (omega arith) Z) (bit-zero i);
   },

@@ -1,20 +1,19 @@
--- What posting one message adds: to its cell, and to the span of its row.
+-- What posting adds: to the cells of a row, and to its span.
 use mathlib.Core.Path.{_≡_, refl, sym, ap, _∙_}
-use mathlib.Core.Bool.{Bool, true, false, _&&_, _||_, and-false, or-assoc, or-false, or-true, true≢false, false≢true}
+use mathlib.Core.Bool.{Bool, true, false, _&&_, _||_, and-false, and-true, or-assoc, or-false, or-true, false≢true}
 use mathlib.Core.List.{List}
-use Prim.Native.Nat.{ℕ, _+_, _*_, _^_, _≤_, _<_, max}
+use Prim.Native.Nat.{ℕ, _+_, _*_, _-_, _^_, _≤_, _<_, min, max}
 use native.Mathlib.Omega.{arith}
-use native.Mathlib.Decide.{ℕ-discrete, decLe}
+use native.Mathlib.Decide.{ℕ-discrete}
 use lib.Dec.{eqb}
-use lib.ListN.{length, getD, set, length-set}
-use lib.Seq.{getD-set-other, set-getD}
+use lib.ListN.{length, getD, length-set}
 use lib.Bits.{bitOr}
-use borrow.Author.Tests.{lt-ltb, le-ltb, eq-eqb, ne-eqb, eqb-true}
+use borrow.Author.Tests.{eq-eqb, eqb-true}
 use Rattle.register.proofs.Logic.{and-both, neither}
 use Rattle.calendar.specs.Bits.{wordOf, putWord}
-use Rattle.calendar.specs.Layout.{calendarSize, cellsAt, places, rows, cellWord, lowOf, highOf, sendersOf, sender}
-use Rattle.calendar.specs.View.{Inside, Posted}
-use Rattle.calendar.specs.Posts.{Messages, inRow, lowWith, highWith, widened}
+use Rattle.calendar.specs.Layout.{calendarSize, cellsAt, places, noPair, rows, cellWord, lowOf, highOf, sendersOf, sender}
+use Rattle.calendar.specs.View.{SamePast, Inside, Posted}
+use Rattle.calendar.specs.Posts.{Messages, inRow, SpanOf, widened}
 use Rattle.calendar.proofs.Laws.{or-either, eqb-both, two-other, two-first, two-second, word-same, put-length, put-byte, put-member}
 
 -- ---- the relation
@@ -51,147 +50,158 @@ posted-none a f e = record {
   wider = λ x j l i. i;
   grown = λ x j k l m q. absurd (false≢true (sym (e x j k l m) ∙ q));
   top = λ x m l u g. u;
-  bottom = λ x m l u g h. u h;
+  bottom = λ x m l u g. u;
   still = λ x l g. (refl, refl);
 }
 
--- ---- the span with one pair more
-
-high-with : (high j : ℕ) → highWith high j ≡ max high (j + 1)
-high-with high j = elim (decLe high j) [ yes l ↦ rw (le-ltb j high l) (omega arith) | no l ↦ rw (lt-ltb j high (omega arith)) (omega arith) ]
-
-low-with : (low high j : ℕ)
-    → (lowWith low high j ≤ j) × (0 < high → lowWith low high j ≤ low) × ((m : ℕ) → (0 < high → m ≤ low) → m ≤ j → m ≤ lowWith low high j)
-low-with low high j = elim (ℕ-discrete high 0) [
-  | yes e ↦ rw (eq-eqb high 0 e) (omega arith, λ h. absurd (omega arith), λ m f g. g)
-  | no d ↦ rw (ne-eqb high 0 d) (elim (decLe low j) [
-    | yes l ↦ rw (le-ltb j low l) (l, λ h. omega arith, λ m f g. f (omega arith))
-    | no l ↦ rw (lt-ltb j low (omega arith)) (omega arith, λ h. omega arith, λ m f g. g)
-  ])
-]
-
--- ---- one message
+-- ---- the cells
 
 pub same-cell : (x row y j : ℕ) → y < places → j < places → eqb (cellWord x y) (cellWord row j) ≡ eqb x row && eqb y j
 same-cell x row y j hy hj = eqb-both (cellWord x y) (cellWord row j) x row y j (λ e. (omega arith, omega arith)) (λ e d. omega arith)
 
-turn : (d a b c : Bool) → d || ((a && b) && c) ≡ d || (a && (c && b))
-turn d true true true = refl
-turn d true true false = refl
-turn d true false c = rw (and-false c)
-turn d false b c = refl
+-- the messages of f are in their cells, and the spans stay
+pub record Filled (a r : List ℕ) (f : Messages) : Type 0 where
+  pub rest : SamePast a r
+  pub front : (k : ℕ) → k < 2 * cellsAt → getD r k 0 ≡ getD a k 0
+  pub cells : (x j i : ℕ) → x < rows → j < places → sender r x j i ≡ (sender a x j i || f x j i)
 
-module _ (s : List ℕ) (row j : ℕ) where
-  widened-length : length (widened s row j) ≡ length s
-  unfolding widened
-  widened-length = simp length-set
+pub filled-eq : (a r : List ℕ) (f h : Messages) → Filled a r f → ((x j k : ℕ) → x < rows → j < places → f x j k ≡ h x j k) → Filled a r h
+filled-eq a r f h A e = record { rest = A .rest; front = A .front; cells = λ x j k l m. A .cells x j k l m ∙ rw (e x j k l m) }
 
-  widened-byte : (k : ℕ) → (k ≡ 2 * row → ⊥) → (k ≡ 2 * row + 1 → ⊥) → getD (widened s row j) k 0 ≡ getD s k 0
-  unfolding widened
-  widened-byte k = two-other s (2 * row) _ _ k
+pub filled-none : (a : List ℕ) (f : Messages) → ((x j k : ℕ) → x < rows → j < places → f x j k ≡ false) → Filled a a f
+filled-none a f e = record {
+  rest = record { size = refl; past = λ k l. refl };
+  front = λ k l. refl;
+  cells = λ x j k l m. rw (e x j k l m) (sym (or-false (sender a x j k)));
+}
 
-  widened-word : (v : ℕ) → (v ≡ row → ⊥) → wordOf (widened s row j) v ≡ wordOf s v
-  widened-word v h =
-      word-same s (widened s row j) v (widened-byte (2 * v) (λ e. h (omega arith)) (λ e. omega arith))
-      (widened-byte (2 * v + 1) (λ e. omega arith) (λ e. h (omega arith)))
+turn : (d f a b c : Bool) → (d || f) || ((a && b) && c) ≡ d || (f || (a && (c && b)))
+turn d f true true c = rw (or-assoc d f c, and-true c)
+turn d f true false c = rw (or-assoc d f false, and-false c)
+turn d f false b c = or-assoc d f false
 
--- the bytes with the lowest pair stored
-unfoldable pub lowered : List ℕ → ℕ → ℕ → List ℕ
-lowered s row j = set s (2 * row) (lowWith (lowOf s row) (highOf s row) j)
-
-module _ (s : List ℕ) (row j : ℕ) where
-  -- storing what is there changes nothing
-  pub lowered-length : length (lowered s row j) ≡ length s
-  unfolding lowered
-  lowered-length = length-set s (2 * row) _
-
-  pub lowered-yes : (highOf s row ≡ 0 → ⊥) → j < lowOf s row → set s (2 * row) j ≡ lowered s row j
-  unfolding lowered
-  lowered-yes d h = rw (ne-eqb (highOf s row) 0 d, lt-ltb j (lowOf s row) h)
-
-  pub lowered-no : (highOf s row ≡ 0 → ⊥) → lowOf s row ≤ j → s ≡ lowered s row j
-  unfolding lowered
-  lowered-no d h = rw (ne-eqb (highOf s row) 0 d, le-ltb j (lowOf s row) h) (sym (set-getD s (2 * row) 0))
-
-  pub widened-first : highOf s row ≡ 0 → set (set s (2 * row) j) (2 * row + 1) (j + 1) ≡ widened s row j
-  unfolding widened
-  widened-first e = rw (eq-eqb (highOf s row) 0 e, le-ltb j (highOf s row) (omega arith))
-
-  pub widened-yes : highOf s row ≤ j → set (lowered s row j) (2 * row + 1) (j + 1) ≡ widened s row j
-  unfolding widened lowered
-  widened-yes h = rw (le-ltb j (highOf s row) h)
-
-  pub widened-no : j < highOf s row → lowered s row j ≡ widened s row j
-  unfolding widened lowered
-  widened-no h =
-      let x = lowWith (lowOf s row) (highOf s row) j in
-      let e = getD-set-other s (2 * row) (2 * row + 1) x 0 (λ e. omega arith) in
-      sym (rw (lt-ltb j (highOf s row) h) (ap (set (set s (2 * row) x) (2 * row + 1)) (sym e) ∙ set-getD (set s (2 * row) x) (2 * row + 1) 0))
-
--- a cell with one sender more, not yet in the span
+-- a cell with one sender more
 unfoldable pub added : List ℕ → ℕ → ℕ → ℕ → List ℕ
 added a row j i = putWord a (cellWord row j) (bitOr (sendersOf a row j) (2 ^ i))
 
-module _ (a : List ℕ) (row j i : ℕ) (hr : row < rows) (hj : j < places) (size : calendarSize ≤ length a) where
-  added-byte : (k : ℕ) → k < 2 * cellsAt → getD (added a row j i) k 0 ≡ getD a k 0
-  unfolding added
-  added-byte k h = put-byte a (cellWord row j) _ k (λ e. omega arith) (λ e. omega arith)
+pub filled-more : (a r : List ℕ) (f : Messages) (row j i : ℕ) → row < rows → j < places → calendarSize ≤ length r → Filled a r f
+    → Filled a (added r row j i) (λ x y k. f x y k || inRow row i (λ z. eqb z j) x y k)
+unfolding added
+filled-more a r f row j i hr hj size F = record {
+  rest = record {
+    size = put-length r (cellWord row j) _ ∙ F .rest .size;
+    past = λ k l. put-byte r (cellWord row j) _ k (λ e. omega arith) (λ e. omega arith) ∙ F .rest .past k l;
+  };
+  front = λ k l. put-byte r (cellWord row j) _ k (λ e. omega arith) (λ e. omega arith) ∙ F .front k l;
+  cells = λ x y k l m. put-member r (cellWord row j) i (cellWord x y) k (omega arith)
+      ∙ rw (same-cell x row y j m hj, F .cells x y k l m) (turn (sender a x y k) (f x y k) (eqb x row) (eqb y j) (eqb k i));
+}
 
-  added-long : 2 * row + 1 < length (added a row j i)
-  unfolding added
-  added-long = rw (put-length a (cellWord row j) (bitOr (sendersOf a row j) (2 ^ i))) (omega arith)
+-- ---- the span
 
-  -- the bytes with the message
-  abbrev posted : List ℕ
-  posted = widened (added a row j i) row j
+pub span-eq : (P Q : ℕ → Bool) (low high : ℕ) → SpanOf P low high → ((j : ℕ) → j < places → P j ≡ Q j) → SpanOf Q low high
+span-eq P Q low high S e = record {
+  inside = λ j l q. S .inside j l (e j l ∙ q);
+  top = λ m g. S .top m (λ j l q. g j l (sym (e j l) ∙ q));
+  bottom = λ m h g. S .bottom m h (λ j l q. g j l (sym (e j l) ∙ q));
+}
 
-  here-low : lowOf posted row ≡ lowWith (lowOf a row) (highOf a row) j
+pub span-none : (P : ℕ → Bool) → ((j : ℕ) → j < places → P j ≡ false) → SpanOf P noPair 0
+span-none P e = record {
+  inside = λ j l q. absurd (false≢true (sym (e j l) ∙ q));
+  top = λ m g. omega arith;
+  bottom = λ m h g. h;
+}
+
+pub span-one : (j : ℕ) → j < places → SpanOf (λ y. eqb y j) j (j + 1)
+span-one j h = record {
+  inside = λ y l q. let e = eqb-true y j q in (omega arith, omega arith);
+  top = λ m g. omega (arith, g j h (eq-eqb j j refl));
+  bottom = λ m l g. g j h (eq-eqb j j refl);
+}
+
+pub span-more : (P : ℕ → Bool) (low high j : ℕ) → j < places → SpanOf P low high → SpanOf (λ y. P y || eqb y j) (min low j) (max high (j + 1))
+span-more P low high j h S = record {
+  inside = λ y l q. or-either ((min low j ≤ y) × (y < max high (j + 1))) (P y) (eqb y j) q
+      (λ p. let s = S .inside y l p in (omega (arith, s .0), omega (arith, s .1)))
+      (λ p. let e = eqb-true y j p in (omega arith, omega arith));
+  top = λ m g. omega (arith, S .top m (λ y l q. g y l (rw q)), g j h (rw (eq-eqb j j refl) (or-true (P j))));
+  bottom = λ m l g. omega (arith, S .bottom m l (λ y n q. g y n (rw q)), g j h (rw (eq-eqb j j refl) (or-true (P j))));
+}
+
+module _ (s : List ℕ) (row low high : ℕ) where
+  pub widened-length : length (widened s row low high) ≡ length s
   unfolding widened
-  here-low = two-first (added a row j i) (2 * row) _ _ added-long ∙ rw (added-byte (2 * row) (omega arith), added-byte (2 * row + 1) (omega arith))
+  widened-length = simp length-set
 
-  here-high : highOf posted row ≡ max (highOf a row) (j + 1)
+  widened-byte : (k : ℕ) → (k ≡ 2 * row → ⊥) → (k ≡ 2 * row + 1 → ⊥) → getD (widened s row low high) k 0 ≡ getD s k 0
   unfolding widened
-  here-high = two-second (added a row j i) (2 * row) _ _ added-long ∙ rw (added-byte (2 * row + 1) (omega arith)) (high-with (highOf a row) j)
+  widened-byte k = two-other s (2 * row) _ _ k
+
+  widened-word : (v : ℕ) → (v ≡ row → ⊥) → wordOf (widened s row low high) v ≡ wordOf s v
+  widened-word v h =
+      word-same s (widened s row low high) v (widened-byte (2 * v) (λ e. h (omega arith)) (λ e. omega arith))
+      (widened-byte (2 * v + 1) (λ e. omega arith) (λ e. h (omega arith)))
+
+-- ---- both
+
+-- the span is widened to what is put into the cells
+module _ (a r : List ℕ) (row low high i : ℕ) (P : ℕ → Bool) (hr : row < rows) (size : calendarSize ≤ length a) (S : SpanOf P low high)
+    (F : Filled (widened a row low high) r (inRow row i P)) where
+  here-low : getD r (2 * row) 0 ≡ max (getD a (2 * row) 0) (noPair - low)
+  unfolding widened
+  here-low = F .front (2 * row) (omega arith) ∙ two-first a (2 * row) _ _ (omega arith)
+
+  here-high : highOf r row ≡ max (highOf a row) high
+  unfolding widened
+  here-high = F .front (2 * row + 1) (omega arith) ∙ two-second a (2 * row) _ _ (omega arith)
 
   -- the spans of the other rows stay
-  there : (x : ℕ) → x < rows → (x ≡ row → ⊥) → (lowOf posted x ≡ lowOf a x) × (highOf posted x ≡ highOf a x)
+  there : (x : ℕ) → x < rows → (x ≡ row → ⊥) → (lowOf r x ≡ lowOf a x) × (highOf r x ≡ highOf a x)
   there x l d = (
-    widened-byte (added a row j i) row j (2 * x) (λ e. d (omega arith)) (λ e. omega arith) ∙ added-byte (2 * x) (omega arith),
-    widened-byte (added a row j i) row j (2 * x + 1) (λ e. omega arith) (λ e. d (omega arith)) ∙ added-byte (2 * x + 1) (omega arith),
+    ap (λ (b : ℕ). noPair - b) (F .front (2 * x) (omega arith) ∙ widened-byte a row low high (2 * x) (λ e. d (omega arith)) (λ e. omega arith)),
+    F .front (2 * x + 1) (omega arith) ∙ widened-byte a row low high (2 * x + 1) (λ e. omega arith) (λ e. d (omega arith)),
   )
 
-  pub posted-one : Posted a posted (inRow row i (λ y. eqb y j))
-  unfolding added
-  posted-one = record {
+  here : (x j : ℕ) → x ≡ row → P j ≡ true → inRow row i P x j i ≡ true
+  here x j e q = rw (eq-eqb x row e, eq-eqb i i refl) q
+
+  pub widened-posted : Posted a r (inRow row i P)
+  widened-posted = record {
     rest = record {
-      size = widened-length (added a row j i) row j ∙ put-length a (cellWord row j) _;
-      past = λ k l. widened-byte (added a row j i) row j k (λ e. omega arith) (λ e. omega arith)
-          ∙ put-byte a (cellWord row j) _ k (λ e. omega arith) (λ e. omega arith);
+      size = F .rest .size ∙ widened-length a row low high;
+      past = λ k l. F .rest .past k l ∙ widened-byte a row low high k (λ e. omega arith) (λ e. omega arith);
     };
-    cells = λ x y k l m. rw (widened-word (added a row j i) row j (cellWord x y) (λ e. omega arith)) (put-member a (cellWord row j) i (cellWord x y) k (omega arith)
-        ∙ rw (same-cell x row y j m hj) (turn (sender a x y k) (eqb x row) (eqb y j) (eqb k i)));
+    cells = λ x y k l m. F .cells x y k l m ∙ rw (widened-word a row low high (cellWord x y) (λ e. omega arith));
     wider = λ x y l n. elim (ℕ-discrete x row) [
-      | yes e ↦ let p = rw e at n in rw (e, here-low, here-high) (omega (arith, low .1 (omega (arith, p .1)), p .0), omega (arith, p .1))
+      | yes e ↦ let p = rw e at n in rw (e, here-low, here-high) (omega (arith, p .0), omega (arith, p .1))
       | no d ↦ rw (there x l d .0, there x l d .1) n
     ];
     grown = λ x y k l m q.
-        let b = and-both (eqb x row) (eqb k i && eqb y j) q in
-        let d = and-both (eqb k i) (eqb y j) (b .1) .1 in
-        rw (eqb-true x row (b .0), eqb-true y j d, here-low, here-high) (low .0, omega arith);
+        let b = and-both (eqb x row) (eqb k i && P y) q in
+        let s = S .inside y m (and-both (eqb k i) (P y) (b .1) .1) in
+        rw (eqb-true x row (b .0), here-low, here-high) (omega (arith, s .0), omega (arith, s .1));
     top = λ x m l u g. elim (ℕ-discrete x row) [
-      | yes e ↦ rw (e, here-high) (omega (arith, rw e at u, g j i hj (here x e)))
+      | yes e ↦ rw (e, here-high) (omega (arith, rw e at u, S .top m (λ j h q. g j i h (here x j e q))))
       | no d ↦ rw (there x l d .1) u
     ];
-    bottom = λ x m l u g h. elim (ℕ-discrete x row) [
-      | yes e ↦ rw (e, here-low) (low .2 m (rw e at u) (g j i hj (here x e)))
-      | no d ↦ rw (there x l d .0) (u (rw (there x l d .1) at h))
+    bottom = λ x m l u g. elim (ℕ-discrete x row) [
+      | yes e ↦ let v = rw e at u in rw (e, here-low) (omega (arith, v, S .bottom m (omega (arith, v)) (λ j h q. g j i h (here x j e q))))
+      | no d ↦ rw (there x l d .0) u
     ];
-    still = λ x l g. there x l (λ e. true≢false (sym (here x e) ∙ g j i hj));
+    still = λ x l g. elim (ℕ-discrete x row) [
+      | yes e ↦
+          let none : (j : ℕ) → j < places → P j ≡ true → ⊥ = λ j h q. false≢true (sym (g j i h) ∙ here x j e q) in
+          let t = S .top 0 (λ j h q. absurd (none j h q)) in
+          let b = S .bottom noPair (omega arith) (λ j h q. absurd (none j h q)) in
+          rw (e, here-low, here-high) (omega arith, omega arith)
+      | no d ↦ there x l d
+    ];
   }
-    where
-      here : (x : ℕ) → x ≡ row → inRow row i (λ z. eqb z j) x j i ≡ true
-      here x e = rw (eq-eqb x row e, eq-eqb i i refl, eq-eqb j j refl)
 
-      low : (lowWith (lowOf a row) (highOf a row) j ≤ j) × (0 < highOf a row → lowWith (lowOf a row) (highOf a row) j ≤ lowOf a row)
-          × ((m : ℕ) → (0 < highOf a row → m ≤ lowOf a row) → m ≤ j → m ≤ lowWith (lowOf a row) (highOf a row) j)
-      low = low-with (lowOf a row) (highOf a row) j
+pub posted-one : (a : List ℕ) (row j i : ℕ) → row < rows → j < places → calendarSize ≤ length a
+    → Posted a (added (widened a row j (j + 1)) row j i) (inRow row i (λ y. eqb y j))
+posted-one a row j i hr hj size =
+    let w = widened a row j (j + 1) in
+    widened-posted a _ row j (j + 1) i _ hr size (span-one j hj)
+    (filled-more w w (λ x y k. false) row j i hr hj (rw (widened-length a row j (j + 1)) size) (filled-none w _ (λ x y k l m. refl)))

@@ -2,7 +2,7 @@
 use mathlib.Core.Path.{_≡_, refl, sym, _∙_}
 use mathlib.Core.Bool.{Bool, true, false, _&&_, _||_, and-false, and-assoc, or-assoc, or-false, and-or-distrib-left}
 use mathlib.Core.List.{List, [], _∷_}
-use Prim.Native.Nat.{ℕ, zero, suc, _+_, _/_, _%_, _≤_, _<_}
+use Prim.Native.Nat.{ℕ, zero, suc, _+_, _/_, _%_, _≤_, _<_, min, max}
 use native.Mathlib.Omega.{arith}
 use native.Mathlib.Decide.{ℕ-discrete}
 use native.Mathlib.Numerals.{add-one}
@@ -11,11 +11,11 @@ use lib.ListN.{length, getD}
 use borrow.Author.Tests.{le-ltb, eq-eqb, ne-eqb, eqb-true}
 use Rattle.calendar.specs.declared.Stamped.{Stamped}
 use Rattle.calendar.specs.declared.Sending.{Sending}
-use Rattle.calendar.specs.Layout.{rows, noPair, receivers, rowOf}
+use Rattle.calendar.specs.Layout.{rows, places, noPair, calendarSize, receivers, rowOf}
 use Rattle.calendar.specs.View.{Posted}
-use Rattle.calendar.specs.Posts.{inRow, amongFirst, vacant, dueIn, toFirst, arrivalOf}
+use Rattle.calendar.specs.Posts.{inRow, amongFirst, vacant, SpanOf, dueIn, toFirst, arrivalOf}
 use Rattle.calendar.proofs.Laws.{eqb-both, under, never, ltb-more}
-use Rattle.calendar.proofs.Posting.{posted-eq, posted-trans, posted-none}
+use Rattle.calendar.proofs.Posting.{posted-eq, posted-trans, posted-none, Filled, added, filled-eq, filled-none, filled-more, span-eq, span-none, span-more}
 
 -- ---- the pairs of a store
 
@@ -42,20 +42,46 @@ among-stop (suc n) zero ps j F l e = absurd (omega arith)
 among-stop (suc n) (suc k) [] j F l e = refl
 among-stop (suc n) (suc k) (p ∷ ps) j F l e = rw (ne-eqb (p .number) noPair (F 0 (omega arith)), among-stop n k ps j (λ q h. F (suc q) (omega arith)) (omega arith) e)
 
-module _ (kept : List Stamped) (row i : ℕ) where
-  pub kept-first : (a : List ℕ) → Posted a a (inRow row i (amongFirst 0 kept))
-  unfolding amongFirst
-  kept-first a = posted-none a _ (λ x j k l m. rw (and-false (eqb k i)) (and-false (eqb x row)))
+-- a place whose pair is not a known one
+among-past : (n : ℕ) (ps : List Stamped) (j : ℕ) → Full n ps → n < length ps → (getD ps n vacant .number ≡ noPair → ⊥) → places ≤ getD ps n vacant .number
+    → j < places → amongFirst (suc n) ps j ≡ amongFirst n ps j
+among-past n ps j F l e g h = among-more n ps j F l e ∙ rw (ne-eqb j (getD ps n vacant .number) (λ d. omega arith)) (or-false (amongFirst n ps j))
 
-  pub kept-more : (a r s : List ℕ) (q : ℕ) → Full q kept → q < length kept → Posted a r (inRow row i (amongFirst q kept)) → (getD kept q vacant .number ≡ noPair → ⊥)
-      → Posted r s (inRow row i (λ y. eqb y (getD kept q vacant .number))) → Posted a s (inRow row i (amongFirst (q + 1) kept))
-  kept-more a r s q F l A e B =
-      posted-eq a s _ _ (posted-trans a r s _ _ A B)
-      (λ x j k h m. rw (add-one q, among-more q kept j F l e) (join (eqb x row) (eqb k i) (amongFirst q kept j) (eqb j (getD kept q vacant .number))))
+-- the place at q is not empty, nor is one before it
+module _ (kept : List Stamped) (q : ℕ) (F : Full q kept) (l : q < length kept) (e : getD kept q vacant .number ≡ noPair → ⊥) where
+  pub span-turn : (low high : ℕ) → getD kept q vacant .number < places → SpanOf (amongFirst q kept) low high
+      → SpanOf (amongFirst (q + 1) kept) (min low (getD kept q vacant .number)) (max high (getD kept q vacant .number + 1))
+  span-turn low high h S =
+      span-eq _ _ _ _ (span-more (amongFirst q kept) low high (getD kept q vacant .number) h S) (λ j m. rw (add-one q, among-more q kept j F l e))
 
-  pub kept-stop : (a r : List ℕ) (q n : ℕ) → Full q kept → q ≤ n → Posted a r (inRow row i (amongFirst q kept)) → getD kept q vacant .number ≡ noPair
-      → Posted a r (inRow row i (amongFirst n kept))
-  kept-stop a r q n F l A e = posted-eq a r _ _ A (λ x j k h m. rw (among-stop q n kept j F l e))
+  pub span-skip : (low high : ℕ) → places ≤ getD kept q vacant .number → SpanOf (amongFirst q kept) low high → SpanOf (amongFirst (q + 1) kept) low high
+  span-skip low high h S = span-eq (amongFirst q kept) _ low high S (λ j m. rw (add-one q, among-past q kept j F l e h m))
+
+  pub kept-turn : (row i : ℕ) (a r : List ℕ) → row < rows → calendarSize ≤ length r → getD kept q vacant .number < places
+      → Filled a r (inRow row i (amongFirst q kept)) → Filled a (added r row (getD kept q vacant .number) i) (inRow row i (amongFirst (q + 1) kept))
+  kept-turn row i a r hr size h A =
+      filled-eq a _ _ _ (filled-more a r _ row (getD kept q vacant .number) i hr h size A)
+      (λ x j k n m. rw (add-one q, among-more q kept j F l e) (join (eqb x row) (eqb k i) (amongFirst q kept j) (eqb j (getD kept q vacant .number))))
+
+  pub kept-skip : (row i : ℕ) (a r : List ℕ) → places ≤ getD kept q vacant .number → Filled a r (inRow row i (amongFirst q kept))
+      → Filled a r (inRow row i (amongFirst (q + 1) kept))
+  kept-skip row i a r h A = filled-eq a r _ _ A (λ x j k n m. rw (add-one q, among-past q kept j F l e h m))
+
+-- the place at q is empty, and none before it
+module _ (kept : List Stamped) (q n : ℕ) (F : Full q kept) (l : q ≤ n) (e : getD kept q vacant .number ≡ noPair) where
+  pub span-stop : (low high : ℕ) → SpanOf (amongFirst q kept) low high → SpanOf (amongFirst n kept) low high
+  span-stop low high S = span-eq (amongFirst q kept) _ low high S (λ j m. sym (among-stop q n kept j F l e))
+
+  pub kept-stop : (row i : ℕ) (a r : List ℕ) → Filled a r (inRow row i (amongFirst q kept)) → Filled a r (inRow row i (amongFirst n kept))
+  kept-stop row i a r A = filled-eq a r _ _ A (λ x j k h m. rw (among-stop q n kept j F l e))
+
+pub span-first : (kept : List Stamped) → SpanOf (amongFirst 0 kept) noPair 0
+unfolding amongFirst
+span-first kept = span-none _ (λ j m. refl)
+
+pub kept-first : (kept : List Stamped) (row i : ℕ) (a : List ℕ) → Filled a a (inRow row i (amongFirst 0 kept))
+unfolding amongFirst
+kept-first kept row i a = filled-none a _ (λ x j k l m. rw (and-false (eqb k i)) (and-false (eqb x row)))
 
 pub full-more : (q : ℕ) (ps : List Stamped) → Full q ps → (getD ps q vacant .number ≡ noPair → ⊥) → Full (q + 1) ps
 full-more q ps F e y h = elim (ℕ-discrete y q) [ yes d ↦ (λ k. e (rw d at k)) | no d ↦ F y (omega arith) ]

@@ -1,6 +1,7 @@
 -- Where the calendar stands in the lent workspace. Receivers are the servers 0 .. 15 and the readers 16 .. 19; what arrives at receiver r in
 -- tick t belongs to row 20 (t % 16) + r, for every message is under way for 1 to 15 ticks. In words of two bytes:
---    0  of each row the lowest pair that may arrive, and one more than the highest: one byte each; both 0 where nothing arrives
+--    0  of each row 255 less the lowest pair that may arrive, and one more than the highest: one byte each, which only grow while messages are posted;
+--       both 0 where nothing arrives, that is lowest 255 and one more than the highest 0
 --  320  the servers whose messages with pair j arrive in the row, at 65 row + j
 use mathlib.Core.Bool.{Bool}
 use mathlib.Core.List.{List}
@@ -56,7 +57,7 @@ cellWord row j = cellsAt + (places * row + j)
 -- ---- what the bytes say
 
 abbrev pub lowOf : List ℕ → ℕ → ℕ
-lowOf work row = getD work (2 * row) 0
+lowOf work row = noPair - getD work (2 * row) 0
 
 abbrev pub highOf : List ℕ → ℕ → ℕ
 highOf work row = getD work (2 * row + 1) 0

@@ -1,15 +1,15 @@
 -- What is posted: a server's vote, or what it keeps, to one row or to all other servers.
 use mathlib.Core.Path.{_≡_}
-use mathlib.Core.Bool.{Bool, false, not, _&&_, _||_, cond}
+use mathlib.Core.Bool.{Bool, true, false, not, _&&_, _||_}
 use mathlib.Core.List.{List, [], _∷_}
-use Prim.Native.Nat.{ℕ, zero, suc, _+_, _*_, _-_, _/_, _%_, _^_, _≤_, _<_}
+use Prim.Native.Nat.{ℕ, zero, suc, _+_, _*_, _-_, _/_, _%_, _^_, _≤_, _<_, max}
 use lib.Dec.{eqb, ltb}
-use lib.ListN.{length, set}
+use lib.ListN.{length, getD, set}
 use Rattle.bits.specs.Field.{fieldOf}
 use Rattle.plan.specs.Header.{delayBits}
 use Rattle.calendar.specs.declared.Stamped.{Stamped}
 use Rattle.calendar.specs.declared.Sending.{Sending}
-use Rattle.calendar.specs.Layout.{receivers, noPair, lowOf, highOf}
+use Rattle.calendar.specs.Layout.{receivers, places, noPair, highOf}
 
 abbrev pub Messages : Type 0
 Messages = ℕ → ℕ → ℕ → Bool
@@ -60,13 +60,12 @@ pub record Sendable (s : Sending) : Type 0 where
   pub servers : s .n ≤ 16
   pub early : s .tick < 65536
 
--- the span with pair j: the lowest, and one more than the highest
-abbrev pub lowWith : ℕ → ℕ → ℕ → ℕ
-lowWith low high j = cond (eqb high 0) j (cond (ltb j low) j low)
+-- the pairs of P lie from low to before high, as closely as can be: where there are none, low is 255 and high 0
+pub record SpanOf (P : ℕ → Bool) (low high : ℕ) : Type 0 where
+  pub inside : (j : ℕ) → j < places → P j ≡ true → (low ≤ j) × (j < high)
+  pub top : (m : ℕ) → ((j : ℕ) → j < places → P j ≡ true → j < m) → high ≤ m
+  pub bottom : (m : ℕ) → m ≤ noPair → ((j : ℕ) → j < places → P j ≡ true → m ≤ j) → m ≤ low
 
-abbrev pub highWith : ℕ → ℕ → ℕ
-highWith high j = cond (ltb j high) high (j + 1)
-
--- the bytes with that span in the row
-unfoldable pub widened : List ℕ → ℕ → ℕ → List ℕ
-widened work row j = set (set work (2 * row) (lowWith (lowOf work row) (highOf work row) j)) (2 * row + 1) (highWith (highOf work row) j)
+-- the bytes with the pairs from low to before high in the row's span, too
+unfoldable pub widened : List ℕ → ℕ → ℕ → ℕ → List ℕ
+widened work row low high = set (set work (2 * row) (max (getD work (2 * row) 0) (noPair - low))) (2 * row + 1) (max (highOf work row) high)

@@ -5,7 +5,7 @@ use mathlib.Core.List.{List}
 use Prim.Native.Nat.{ℕ, _≤_, _<_}
 use lib.Dec.{eqb, leb, ltb}
 use lib.ListN.{length, getD}
-use Rattle.calendar.specs.Layout.{rows, places, calendarSize, lowOf, highOf, sender}
+use Rattle.calendar.specs.Layout.{rows, places, noPair, calendarSize, lowOf, highOf, sender}
 
 -- the bytes past the calendar stay
 pub record SamePast (a r : List ℕ) : Type 0 where
@@ -32,22 +32,21 @@ pub record Posted (a r : List ℕ) (f : ℕ → ℕ → ℕ → Bool) : Type 0 w
   pub wider : (x j : ℕ) → x < rows → Inside a x j → Inside r x j
   pub grown : (x j i : ℕ) → x < rows → j < places → f x j i ≡ true → Inside r x j
   pub top : (x m : ℕ) → x < rows → highOf a x ≤ m → ((j i : ℕ) → j < places → f x j i ≡ true → j < m) → highOf r x ≤ m
-  pub bottom : (x m : ℕ) → x < rows → (0 < highOf a x → m ≤ lowOf a x) → ((j i : ℕ) → j < places → f x j i ≡ true → m ≤ j)
-      → 0 < highOf r x → m ≤ lowOf r x
+  pub bottom : (x m : ℕ) → x < rows → m ≤ lowOf a x → ((j i : ℕ) → j < places → f x j i ≡ true → m ≤ j) → m ≤ lowOf r x
   pub still : (x : ℕ) → x < rows → ((j i : ℕ) → j < places → f x j i ≡ false) → (lowOf r x ≡ lowOf a x) × (highOf r x ≡ highOf a x)
 
 -- all in the span of one row is taken
 pub record Cleared (a r : List ℕ) (row : ℕ) : Type 0 where
   pub rest : SamePast a r
   pub cells : (x j i : ℕ) → x < rows → j < places → sender r x j i ≡ (not (eqb x row && covers a row j) && sender a x j i)
-  pub lowHere : lowOf r row ≡ 0
+  pub lowHere : lowOf r row ≡ noPair
   pub highHere : highOf r row ≡ 0
   pub low : (x : ℕ) → x < rows → (x ≡ row → ⊥) → lowOf r x ≡ lowOf a x
   pub high : (x : ℕ) → x < rows → (x ≡ row → ⊥) → highOf r x ≡ highOf a x
 
 -- nothing is under way
 pub record Empty (work : List ℕ) : Type 0 where
-  pub low : (x : ℕ) → x < rows → lowOf work x ≡ 0
+  pub low : (x : ℕ) → x < rows → lowOf work x ≡ noPair
   pub high : (x : ℕ) → x < rows → highOf work x ≡ 0
   pub cells : (x j i : ℕ) → x < rows → j < places → sender work x j i ≡ false
 

@@ -1,13 +1,13 @@
 // What is under way, in the lent workspace: who sends which pair to whom, by the tick of arrival. specs/Layout says where it stands.
 ghost use mathlib.Core.Path.{_≡_};
-ghost use Prim.Native.Nat.{_+_, _*_, _^_, _≤_, _<_};
+ghost use Prim.Native.Nat.{_+_, _*_, _^_, _≤_, _<_, min, max};
 ghost use lib.Dec.{eqb};
 ghost use lib.ListN.{length};
 ghost use Rattle.bits.specs.Field.{fieldOf};
 ghost use Rattle.plan.specs.Header.{delayBits, DelaysIn};
 ghost use Rattle.calendar.specs.Layout.{mostServers, receivers, rows, places, calendarSize, rowOf, cellWord, lowOf, highOf, sendersOf};
 ghost use Rattle.calendar.specs.View.{Posted, Cleared, Empty, SamePast};
-ghost use Rattle.calendar.specs.Posts.{inRow, among, toOthers, Sendable, Sent, arrivalOf, widened};
+ghost use Rattle.calendar.specs.Posts.{inRow, among, toOthers, Sendable, Sent, arrivalOf, SpanOf, widened};
 use plan::header::Shape;
 
 pub mod words;
@@ -136,12 +136,12 @@ pub fn size_of(x: u8) -> usize
     x as usize
 }
 
-// No pair below it arrives in the row.
+// No pair below it arrives in the row. The byte there is NO_PAIR less it, so that both bytes of a span only grow, from 0.
 pub fn low(work: &[u8], row: usize) -> usize
     requires { ⌜ (row < rows) × (calendarSize ≤ length (now work)) ⌝ }
     ensures { λ r. ⌜ (r ≡ lowOf (now (work .entry)) row) × (r < 256) ⌝ }
 {
-    size_of(work[2 * row])
+    size_of(NO_PAIR - work[2 * row])
 }
 
 // No pair from it on arrives in the row.
@@ -152,25 +152,34 @@ pub fn high(work: &[u8], row: usize) -> usize
     size_of(work[2 * row + 1])
 }
 
-// Pair j may arrive in the row, too. Bytes that stay are not stored: the next post would wait for them.
-fn widen(work: &mut [u8], row: usize, j: u8)
-    requires { ⌜ (row < rows) × (j < places) × (calendarSize ≤ length (now work)) ⌝ }
-    ensures { λ _. ⌜ now (work .exit) ≡ widened (now (work .entry)) row j ⌝ }
+// The lower of two numbers.
+fn lower(a: u8, b: u8) -> u8
+    ensures { λ r. ⌜ r ≡ min a b ⌝ }
+{
+    if a < b {
+        return a;
+    }
+    b
+}
+
+// The higher of two numbers.
+fn higher(a: u8, b: u8) -> u8
+    ensures { λ r. ⌜ r ≡ max a b ⌝ }
+{
+    if a < b {
+        return b;
+    }
+    a
+}
+
+// The pairs from low to before high may arrive in the row, too: by maxima alone, as a test that goes now this way, now that costs more than two stores.
+fn widen(work: &mut [u8], row: usize, low: u8, high: u8)
+    requires { ⌜ (row < rows) × (calendarSize ≤ length (now work)) ⌝ }
+    ensures { λ _. ⌜ now (work .exit) ≡ widened (now (work .entry)) row low high ⌝ }
 {
     let at = 2 * row;
-    let low = work[at];
-    let high = work[at + 1];
-    if high == 0 {
-        work[at] = j;
-        work[at + 1] = j + 1;
-        return;
-    }
-    if j < low {
-        work[at] = j;
-    }
-    if high <= j {
-        work[at + 1] = j + 1;
-    }
+    work[at] = higher(work[at], NO_PAIR - low);
+    work[at + 1] = higher(work[at + 1], high);
 }
 
 // Server i's message with pair j is under way, if the pair is a known one.
@@ -181,8 +190,61 @@ pub fn post(work: &mut [u8], row: usize, j: u8, i: usize)
     if PLACES <= j as usize {
         return;
     }
+    widen(work, row, j, j + 1);
     words::add(work, cell(row, j as usize), i);
-    widen(work, row, j);
+}
+
+// The pairs from low to before high.
+struct Span {
+    low: u8,
+    high: u8,
+}
+
+// The span of the known pairs that a server keeps.
+fn span_of(kept: [Stamped; DEPTH]) -> Span
+    ensures { λ s. ⌜ SpanOf (among kept) (s .low) (s .high) ⌝ }
+{
+    let mut low = NO_PAIR;
+    let mut high: u8 = 0;
+    let mut place: usize = 0;
+    while place < DEPTH {
+        let p = kept[place];
+        if p.number == NO_PAIR {
+            return Span {
+                low: low,
+                high: high,
+            };
+        }
+        if size_of(p.number) < PLACES {
+            low = lower(low, p.number);
+            high = higher(high, p.number + 1);
+        }
+        place += 1;
+    }
+    Span {
+        low: low,
+        high: high,
+    }
+}
+
+// Server i's messages with the known pairs that it keeps are under way. Their span is given: who sends them to many rows finds it once.
+fn post_all(work: &mut [u8], row: usize, kept: [Stamped; DEPTH], span: Span, i: usize)
+    requires { ⌜ (row < rows) × (i < mostServers) × (calendarSize ≤ length (now work)) × SpanOf (among kept) (span .low) (span .high) ⌝ }
+    ensures { λ _. ⌜ Posted (now (work .entry)) (now (work .exit)) (inRow row i (among kept)) ⌝ }
+{
+    widen(work, row, span.low, span.high);
+    let mut q: usize = 0;
+    while q < DEPTH {
+        let p = kept[q];
+        if p.number == NO_PAIR {
+            return;
+        }
+        let j = size_of(p.number);
+        if j < PLACES {
+            words::add(work, cell(row, j), i);
+        }
+        q += 1;
+    }
 }
 
 // Server i's messages with the pairs that it keeps are under way.
@@ -190,15 +252,8 @@ pub fn post_kept(work: &mut [u8], row: usize, kept: [Stamped; DEPTH], i: usize)
     requires { ⌜ (row < rows) × (i < mostServers) × (calendarSize ≤ length (now work)) ⌝ }
     ensures { λ _. ⌜ Posted (now (work .entry)) (now (work .exit)) (inRow row i (among kept)) ⌝ }
 {
-    let mut q: usize = 0;
-    while q < DEPTH {
-        let p = kept[q];
-        if p.number == NO_PAIR {
-            return;
-        }
-        post(work, row, p.number, i);
-        q += 1;
-    }
+    let span = span_of(kept);
+    post_all(work, row, kept, span, i);
 }
 
 // A server's vote for pair j is under way to all others.
@@ -224,10 +279,11 @@ pub fn post_votes(work: &mut [u8], sending: Sending, kept: [Stamped; DEPTH])
 {
     let n = sending.n;
     let i = sending.sender;
+    let span = span_of(kept);
     let mut b: usize = 0;
     while b < n {
         if b != i {
-            post_kept(work, row(sending.arrival(b), b), kept, i);
+            post_all(work, row(sending.arrival(b), b), kept, span, i);
         }
         b += 1;
     }

@@ -18,8 +18,8 @@ unfolding added
 returns-2 c =
     let s = c .before .before .before .before .before .before .before .before .before .before .before in
     let a = s .args in
-    rw (c .before .before .widen .ensures, c .before .before .before .before .before .before .add .ensures, c .before .before .before .before .before .before .before .cell .ensures .0)
+    rw (c .before .before .add .ensures, c .before .before .before .cell .ensures .0, c .before .before .before .before .before .before .before .widen .ensures)
     (posted-one (a .work .now) (a .row) (a .j) (a .i) (s .pre .0) (omega arith) (s .pre .2))
 
 pub post-spec : {M : Type 1} → statement M
-post-spec = tie.close (tie.spec returns (search needs) (search needs) (search needs) (search needs) returns-2)
+post-spec = tie.close (tie.spec returns (search needs) (search needs) (search needs) (search needs) (search needs) returns-2)
