@@ -1,6 +1,6 @@
 -- Posting the pairs of a store, place by place, and posting to all other servers, one by one. It stands on Posting.
 use mathlib.Core.Path.{_≡_, refl, sym, _∙_}
-use mathlib.Core.Bool.{Bool, true, false, _&&_, _||_, and-false, and-assoc, or-assoc, or-false, and-or-distrib-left}
+use mathlib.Core.Bool.{Bool, false, _&&_, _||_, and-false, and-assoc, or-assoc, or-false, and-or-distrib-left}
 use mathlib.Core.List.{List, [], _∷_}
 use Prim.Native.Nat.{ℕ, zero, suc, _+_, _/_, _%_, _≤_, _<_, min, max}
 use native.Mathlib.Omega.{arith}
