@@ -143,7 +143,7 @@ module _ (a r : List ℕ) (O : SameOutside a r) where
 
   pub outside-empty : Empty a → Empty r
   outside-empty E = record {
-    low = λ x l. O .before (2 * x) (omega arith) ∙ E .low x l;
+    low = λ x l. rw (O .before (2 * x) (omega arith)) (E .low x l);
     high = λ x l. O .before (2 * x + 1) (omega arith) ∙ E .high x l;
     cells = λ x j i l m. outside-sender x j i l m ∙ E .cells x j i l m;
   }

@@ -1,18 +1,18 @@
 -- More laws of sets kept as the bits of a number: intersection, shifts, and the size of a set. They stand on the calendar's laws of sets.
-use mathlib.Core.Path.{_≡_, refl, sym, ap, _∙_, fun-ext}
-use mathlib.Core.Bool.{Bool, false, _&&_, _||_}
-use Prim.Native.Nat.{ℕ, zero, suc, _+_, _/_, _%_, _^_, _<_}
+use mathlib.Core.Path.{_≡_, refl, sym, ap, _∙_}
+use mathlib.Core.Bool.{Bool, _&&_}
+use Prim.Native.Nat.{ℕ, zero, suc, _+_, _/_, _%_, _^_, _≤_, _<_}
 use native.Mathlib.Nat.{zero-add, add-zero, suc-add, mul-comm, pow-suc, div-div-eq-div-mul}
 use native.Mathlib.Omega.{arith}
-use lib.Dec.{eqb}
-use lib.ListN.{getD, replicate}
-use lib.Bits.{bitOr, bitAnd, or-lt, and-shr, and-mod}
+use native.Mathlib.Decide.{decLe}
+use lib.Dec.{eqb, ltb}
+use borrow.Author.Tests.{lt-ltb, le-ltb}
+use lib.Bits.{bitAnd, and-shr, and-mod}
 use lib.Count.{ones, ones-step}
 use Rattle.register.specs.Lists.{count}
-use Rattle.register.proofs.Counting.{digit-one, count-low}
-use Rattle.register.proofs.Lists.{getD-replicate-same}
+use Rattle.register.proofs.Counting.{digit-one, count-low, count-cong}
 use Rattle.calendar.specs.Bits.{bit}
-use Rattle.calendar.proofs.Laws.{by-digits, bit-or, bit-zero}
+use Rattle.calendar.proofs.Laws.{by-digits}
 
 -- intersection
 pub bit-and : (k a b : ℕ) → bit k (bitAnd a b) ≡ bit k a && bit k b
@@ -41,9 +41,11 @@ ones-count (suc k) m h =
     ones-step m
     ∙ (rw (ones-count k (m / 2) (omega (arith, pow-suc 2 k)), ← digit-one (m % 2) (omega arith)) refl ∙ sym (count-low (λ i. bit i m) k))
 
-pub ones-either : (k a b : ℕ) → a < 2 ^ k → b < 2 ^ k → ones (bitOr a b) ≡ count (λ i. bit i a || bit i b) k
-ones-either k a b h g = ones-count k (bitOr a b) (or-lt k a b h g) ∙ ap (λ (p : ℕ → Bool). count p k) (fun-ext (λ i. bit-or i a b))
-
--- an empty table
-pub unmarked : (n j k : ℕ) → bit k (getD (replicate n 0) j 0) ≡ false
-unmarked n j k = rw (getD-replicate-same {A = ℕ} n j 0) (bit-zero k)
+-- members past n do not count
+pub count-cut : (p : ℕ → Bool) (n k : ℕ) → n ≤ k → count (λ i. ltb i n && p i) k ≡ count p n
+unfolding count
+count-cut p n zero h = let e : n ≡ 0 = omega arith in rw e
+count-cut p n (suc k) h = elim (decLe n k) [
+  | yes l ↦ rw (le-ltb k n l) (omega (arith, count-cut p n k l))
+  | no l ↦ (let e : n ≡ suc k = omega arith in rw e (count-cong (λ i. ltb i (suc k) && p i) p (suc k) (λ i w. rw (lt-ltb i (suc k) w))))
+]

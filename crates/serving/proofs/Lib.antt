@@ -1,7 +1,8 @@
 pub mod BitLaws
-pub mod StoreLaws
+pub mod Settled
 pub mod StageLaws
+pub mod StoreLaws
 pub mod TakenLaws
-pub mod Sizes
-pub mod SetLaws
+pub mod TallyLaws
+pub mod VoteLaws
 pub mod SendLaws

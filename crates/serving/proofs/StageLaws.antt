@@ -1,28 +1,27 @@
 -- Steps of the stages' proofs: the quorum's test by masks, a turn of taking in, and the stages put together from what their calls give.
 -- It stands on BitLaws.
 use mathlib.Core.Path.{_≡_, refl, sym, ap, _∙_, fun-ext}
-use mathlib.Core.Bool.{Bool, true, false, _&&_, _||_, cond, true≢false}
-use mathlib.Core.List.{List}
-use Prim.Native.Nat.{ℕ, suc, _+_, _^_, _≤_, _<_}
+use mathlib.Core.Bool.{Bool, true, false, _&&_, _||_, cond}
+use mathlib.Core.List.{List, []}
+use Prim.Native.Nat.{ℕ, zero, suc, _+_, _/_, _%_, _^_, _≤_, _<_}
 use native.Mathlib.Omega.{arith}
 use lib.Dec.{leb, ltb}
-use lib.ListN.{take, getD}
+use lib.ListN.{take}
 use lib.Bits.{bitOr, bitAnd}
 use lib.Count.{ones}
-use borrow.Author.Tests.{lt-ltb, le-leb, lt-leb}
-use Rattle.register.specs.Lists.{sameList}
+use borrow.Author.Tests.{lt-ltb, le-leb, lt-leb, ltb-true}
+use Rattle.register.specs.Lists.{sameList, one-if}
 use Rattle.register.specs.Server.{Status, faulty, cured, correct, isFaulty, isCorrect, curedAt, insert}
 use Rattle.register.proofs as register-laws
 use Rattle.plan.specs.Packed.{storeDepth}
-use Rattle.calendar.specs.{Bits.bit, Layout.sender}
-use Rattle.calendar.proofs.Laws.{bit-zero, bit-or}
-use Rattle.serving.specs as serving-specs
-use Rattle.serving.specs.Stored.{Plain, Said, Both}
-use Rattle.serving.specs.Stages.{Voted, nobody, noVotes, blankAs, silent, restated, written, resetAt, cureEnded, turned, within, quorate, taken, voting, withWrite, repliesTo, delivered, deliveredOf, stageOne, stageTwo, movedOn, stageFour}
-use Rattle.serving.proofs.BitLaws.{bit-and, unmarked, ones-count, ones-either}
-
-pub zero-table : serving-specs.Bits.sets serving-specs.Bits.noVoters ≡ noVotes
-zero-table = fun-ext (λ j. fun-ext (λ k. unmarked 65 j k))
+use Rattle.calendar.specs.Bits.{bit}
+use Rattle.calendar.proofs.Laws.{bit-zero, bit-or, under}
+use Rattle.serving.specs.declared.Status.{Status as StoredStatus}
+use Rattle.serving.specs.declared.Status.the-variants.{Faulty, Cured, Correct}
+use Rattle.serving.specs.declared.Server.{Server}
+use Rattle.serving.specs.Stored.{Plain, Said, Both, statusOf, keys, Becomes}
+use Rattle.serving.specs.Stages.{nobody, noVotes, blankAs, silent, restated, written, resetAt, cureEnded, within, quorate, taken, voting, withWrite, repliesTo, joined, delivered, deliveredOf, stageOne, stageTwo, movedOn, stageFour}
+use Rattle.serving.proofs.BitLaws.{bit-and, ones-count}
 
 pub zero-set : (λ x. bit x 0) ≡ nobody
 zero-set = fun-ext bit-zero
@@ -33,20 +32,8 @@ module _ (e r f o : ℕ) (h : f < 2 ^ 16) (g : o < 2 ^ 16) where
   pub quorate-yes : e ≤ ones f → true ≡ quorate e r (λ i. bit i f) (λ i. bit i o)
   quorate-yes l = rw (← ones-count 16 f h, le-leb e (ones f) l)
 
-  pub quorate-no : ones f < e → leb r (ones (bitOr f o)) ≡ quorate e r (λ i. bit i f) (λ i. bit i o)
-  quorate-no l = rw (← ones-count 16 f h, lt-leb e (ones f) l, ones-either 16 f o h g)
-
--- no votes, no quorum
-pub unvoted : (e r f o : ℕ) → 1 ≤ e → 1 ≤ r → f ≡ 0 → o ≡ 0 → false ≡ quorate e r (λ i. bit i f) (λ i. bit i o)
-unfolding ones
-unvoted e r f o he hr ef eo = rw (ef, eo) (sym (lt-leb r 0 hr) ∙ quorate-no e r 0 0 (omega arith) (omega arith) he)
-
--- the test of pair j
-pub voting-at : (e r : ℕ) (v w : serving-specs.declared.Voters.Voters) (j f o : ℕ) (b : Bool) → f ≡ getD (serving-specs.Bits.listed v) j 0
-    → o ≡ getD (serving-specs.Bits.listed w) j 0 → b ≡ quorate e r (λ i. bit i f) (λ i. bit i o) → voting e r (serving-specs.Bits.sets v) (serving-specs.Bits.sets w) j ≡ b
-voting-at e r v w j f o b h k q =
-    ap (λ (x : ℕ). quorate e r (λ i. bit i x) (λ i. bit i (getD (serving-specs.Bits.listed w) j 0))) (sym h)
-    ∙ (ap (λ (y : ℕ). quorate e r (λ i. bit i f) (λ i. bit i y)) (sym k) ∙ sym q)
+  pub quorate-no : ones f < e → leb r (ones o) ≡ quorate e r (λ i. bit i f) (λ i. bit i o)
+  quorate-no l = rw (← ones-count 16 f h, lt-leb e (ones f) l, ones-count 16 o g)
 
 -- a pair in the span
 pub in-span : (low high j : ℕ) (b v : Bool) → low ≤ j → j < high → v ≡ b → within low high j && v ≡ b
@@ -73,28 +60,45 @@ pending-law p l a = fun-ext (λ x. rw (bit-or x (bitAnd p l) a, bit-and x p l))
 pub write-kept : (m w : ℕ) (s : Plain) → withWrite m w s .kept ≡ cond (ltb w m) (take storeDepth (insert w (s .kept))) (s .kept)
 write-kept m w s = register-laws.Logic.cond-ap (λ (x : Plain). x .kept) (ltb w m) (written w s) s
 
-pub delivered-law : (m : ℕ) (c : ℕ → Bool) (w : ℕ) (votes : ℕ → ℕ → Bool) (asks live : ℕ → Bool) (s : Plain) (first kept : List ℕ) (pend readers : ℕ → Bool)
+pub delivered-law : (m : ℕ) (c : ℕ → Bool) (w : ℕ) (got : ℕ → ℕ → Bool) (asks live : ℕ → Bool) (s : Plain) (first kept : List ℕ) (pend readers : ℕ → Bool)
+    (fresh recent : ℕ → ℕ → Bool)
     → first ≡ cond (ltb w m) (take storeDepth (insert w (s .kept))) (s .kept) → kept ≡ taken c m first
     → pend ≡ (λ x. (s .pending x && live x) || asks x) → readers ≡ repliesTo (isCorrect (s .status)) (sameList (s .kept) kept) asks pend
+    → fresh ≡ joined m (s .fresh) got → recent ≡ joined m (s .recent) got
     → record {
-      server = record { status = s .status; kept = kept; pending = pend; fresh = votes; old = s .old };
+      server = record { status = s .status; kept = kept; pending = pend; fresh = fresh; recent = recent };
       said = record { wrote = w; echoed = false; readers = readers; pairs = kept };
-    } ≡ deliveredOf m c w votes asks live s
+    } ≡ deliveredOf m c w got asks live s
 unfolding deliveredOf
-delivered-law m c w votes asks live s first kept pend readers f k p a = rw (a, k, p, f, write-kept m w s)
+delivered-law m c w got asks live s first kept pend readers fresh recent f k p a x y = rw (a, k, p, f, x, y, write-kept m w s)
+
+-- the pairs that pass may be those of a span
+pub spanned-law : (m e r w : ℕ) (got : ℕ → ℕ → Bool) (asks live : ℕ → Bool) (s : Plain) (o : Both) (c : ℕ → Bool) → o ≡ deliveredOf m c w got asks live s
+    → taken c m (withWrite m w s .kept) ≡ taken (voting e r (joined m (s .fresh) got) (joined m (s .recent) got)) m (withWrite m w s .kept)
+    → o ≡ delivered m e r w got asks live s
+unfolding delivered deliveredOf
+spanned-law m e r w got asks live s o c d k = d ∙ rw k
 
 -- a server that is not faulty takes it
-pub taken-law : (m e r w : ℕ) (votes : ℕ → ℕ → Bool) (asks live : ℕ → Bool) (s : Plain) (o : Both) (c : ℕ → Bool) → isFaulty (s .status) ≡ false
-    → o ≡ deliveredOf m c w votes asks live s → taken c m (withWrite m w s .kept) ≡ taken (voting e r votes (s .old)) m (withWrite m w s .kept)
-    → o ≡ stageOne m e r w votes asks live s
-unfolding stageOne delivered deliveredOf
-taken-law m e r w votes asks live s o c h d k = d ∙ rw (h, k)
+pub taken-law : (m e r w : ℕ) (got : ℕ → ℕ → Bool) (asks live : ℕ → Bool) (s : Plain) (o : Both) → isFaulty (s .status) ≡ false
+    → o ≡ delivered m e r w got asks live s → o ≡ stageOne m e r w got asks live s
+unfolding stageOne
+taken-law m e r w got asks live s o h d = d ∙ rw h
 
 -- a faulty server loses what arrives
-pub lost-law : (m e r w : ℕ) (votes : ℕ → ℕ → Bool) (asks live : ℕ → Bool) (s : Plain) (q : Said) → isFaulty (s .status) ≡ true → q ≡ silent
-    → record { server = s; said = q } ≡ stageOne m e r w votes asks live s
+pub lost-law : (m e r w : ℕ) (got : ℕ → ℕ → Bool) (asks live : ℕ → Bool) (s : Plain) (q : Said) → isFaulty (s .status) ≡ true → q ≡ silent
+    → record { server = s; said = q } ≡ stageOne m e r w got asks live s
 unfolding stageOne
-lost-law m e r w votes asks live s q h k = rw (h, k)
+lost-law m e r w got asks live s q h k = rw (h, k)
+
+-- only what arrives for the known pairs matters
+joined-alike : (m : ℕ) (votes got got' : ℕ → ℕ → Bool) → ((j i : ℕ) → j < m → got j i ≡ got' j i) → joined m votes got ≡ joined m votes got'
+joined-alike m votes got got' e = fun-ext (λ j. fun-ext (λ i. ap (λ (x : Bool). votes j i || x) (under (ltb j m) _ _ (λ l. e j i (ltb-true j m l)))))
+
+pub one-alike : (m e r w : ℕ) (got got' : ℕ → ℕ → Bool) (asks live : ℕ → Bool) (s : Plain) → ((j i : ℕ) → j < m → got j i ≡ got' j i)
+    → stageOne m e r w got asks live s ≡ stageOne m e r w got' asks live s
+unfolding stageOne delivered deliveredOf
+one-alike m e r w got got' asks live s h = rw (joined-alike m (s .fresh) got got' h, joined-alike m (s .recent) got got' h)
 
 -- ---- stages 2 to 4
 
@@ -114,10 +118,10 @@ not-cured delta t faulty e h = let z : _≡_ {A = ℕ} 0 1 = ap (λ (x : Bool). 
 not-cured delta t (cured u) e h = let z : _≡_ {A = ℕ} 0 1 = ap (λ (x : Bool). cond x 1 0) e in omega arith
 not-cured delta t correct e h = let z : _≡_ {A = ℕ} 0 1 = ap (λ (x : Bool). cond x 1 0) e in omega arith
 
--- a new period: no fresh votes, and of the old ones those that still count
-pub turned-law : (two : Bool) (s : Plain) (v : serving-specs.declared.Voters.Voters) (old : ℕ → ℕ → Bool) → v ≡ serving-specs.Bits.noVoters → old ≡ cond two (s .fresh) noVotes
-    → record { status = s .status; kept = s .kept; pending = s .pending; fresh = serving-specs.Bits.sets v; old = old } ≡ turned two s
-turned-law two s v old e f = rw (e, zero-table, f)
+-- a server with no pair, no reader and no vote
+pub blank-law : (st : Status) (kept : List ℕ) (pend : ℕ → Bool) (fresh recent : ℕ → ℕ → Bool) → kept ≡ [] → pend ≡ nobody → fresh ≡ noVotes → recent ≡ noVotes
+    → record { status = st; kept = kept; pending = pend; fresh = fresh; recent = recent } ≡ blankAs st
+blank-law st kept pend fresh recent k p f r = rw (k, p, f, r)
 
 -- a server that becomes faulty is reset first
 pub seized : (t : ℕ) (s q : Plain) → q ≡ resetAt t → s ≡ restated faulty q → s ≡ blankAs faulty
@@ -128,20 +132,35 @@ pub echo-law : (two h : Bool) (t : ℕ) (o : Both) (s : Plain) (e : Bool) → s 
 unfolding stageFour
 echo-law two h t o s e p q = rw (q, p)
 
--- ---- the votes that a server notes
+-- ---- the stored parts of a server that takes a pair in
 
--- a faulty server loses them
-pub votes-lost : (f : ℕ → ℕ → Bool) (s : Plain) → isFaulty (s .status) ≡ true → Voted f s s
-votes-lost f s h = record { status = refl; kept = refl; pending = refl; old = refl; fresh = λ e. absurd (true≢false (sym h ∙ e)); lost = λ e. refl }
+stored : Status → StoredStatus
+stored faulty = Faulty
+stored (cured t) = Cured t
+stored correct = Correct
 
-pub votes-noted : (work : List ℕ) (row : ℕ) (fresh : serving-specs.declared.Voters.Voters) (s r : Plain) → s .fresh ≡ serving-specs.Bits.sets fresh → (more : serving-specs.declared.Voters.Voters)
-    → isFaulty (s .status) ≡ false → serving-specs.Bits.Joined work row fresh more
-    → r ≡ record { status = s .status; kept = s .kept; pending = s .pending; fresh = serving-specs.Bits.sets more; old = s .old } → Voted (sender work row) s r
-votes-noted work row fresh s r q more h J e = record {
-  status = rw e;
-  kept = rw e;
-  pending = rw e;
-  old = rw e;
-  fresh = λ d j i l. rw (e, q) (J .each j i l);
-  lost = λ d. absurd (true≢false (sym d ∙ h));
-}
+stored-same : (s : StoredStatus) → stored (statusOf s) ≡ s
+unfolding stored
+stored-same Faulty = refl
+stored-same (Cured t) = refl
+stored-same Correct = refl
+
+-- a set has one number
+bits-same : (n a b : ℕ) → a ≤ n → b ≤ n → ((x : ℕ) → bit x a ≡ bit x b) → a ≡ b
+unfolding bit
+bits-same zero a b h k e = omega arith
+bits-same (suc n) a b h k e =
+    let q : a / 2 ≡ b / 2 = bits-same n (a / 2) (b / 2) (omega arith) (omega arith) (λ x. e (suc x)) in
+    let d : a % 2 ≡ b % 2 =
+    register-laws.Counting.digit-one (a % 2) (omega arith) ∙ (ap one-if (e 0) ∙ sym (register-laws.Counting.digit-one (b % 2) (omega arith))) in
+    omega arith
+
+module _ (p : ℕ) (s r : Server) (B : Becomes (written p) s r) where
+  pub written-status : r .status ≡ s .status
+  written-status = sym (stored-same (r .status)) ∙ (ap (λ (x : Plain). stored (x .status)) (B 0 [] 0) ∙ stored-same (s .status))
+
+  pub written-pending : r .pending ≡ s .pending
+  written-pending = bits-same (r .pending + s .pending) (r .pending) (s .pending) (omega arith) (omega arith) (λ x. ap (λ (y : Plain). y .pending x) (B 0 [] 0))
+
+  pub written-keys : keys (r .kept) ≡ take storeDepth (insert p (keys (s .kept)))
+  written-keys = ap (λ (x : Plain). x .kept) (B 0 [] 0)

@@ -1,4 +1,4 @@
--- Putting a pair into a store, comparing two stores, and pairs that are new to one. It stands on the definition of insert.
+-- Putting a pair into a store, what the pairs are worth then, and comparing two stores. It stands on the definition of insert.
 use mathlib.Core.Path.{_≡_, refl, sym, ap, _∙_}
 use mathlib.Core.Bool.{Bool, true, false, _&&_, _||_, cond}
 use mathlib.Core.Logic.{_⊎_, inl, inr, _≢_}
@@ -6,35 +6,41 @@ use mathlib.Core.List.{List, [], _∷_}
 use Prim.Native.Nat.{ℕ, zero, suc, _+_, _≤_, _<_}
 use native.Mathlib.Nat.{le-of-suc-le-suc, eq-or-lt-of-le, suc-inj}
 use native.Mathlib.Omega.{arith}
-use lib.Dec.{eqb, leb, ltb, eqb·zero-suc, eqb·suc-zero, eqb·suc-suc}
-use lib.ListN.{length, take, drop, getD, set, drop-of-length-le, List·getD-eq-default}
+use lib.Dec.{eqb, eqb·zero-suc, eqb·suc-zero, eqb·suc-suc}
+use lib.ListN.{length, take, drop, getD, set, drop-of-length-le}
 use lib.Seq.{take-all, take-at, length-take-le, take-suc-set, drop-set-lt, drop-cons, append-snoc}
-use borrow.Author.Tests.{lt-ltb, le-ltb, le-leb, leb-true, eq-eqb, ne-eqb}
-use Rattle.register.specs.Lists.{any, member, sameList}
+use borrow.Author.Tests.{lt-ltb, le-ltb, eq-eqb, ne-eqb}
+use Rattle.register.specs.Lists.{In, any, member, sameList}
 use Rattle.register.specs.Server.{insert}
-use Rattle.register.proofs as register-laws
+use Rattle.register.proofs.Logic.{eqb-comm}
+use Rattle.register.proofs.Lists.{in-append, in-take}
 use Rattle.calendar.specs.declared.Stamped.{Stamped}
-use Rattle.plan.specs.Packed.{storeDepth}
+use Rattle.calendar.specs.Layout.{noPair}
 use Rattle.calendar.specs.Posts.{vacant, amongFirst, among}
-use Rattle.calendar.proofs.Laws.{never}
-use Rattle.serving.specs.Stored.{keys, placeOf, putAt}
-use Rattle.serving.specs.Stages.{isNew, anyNew}
+use Rattle.serving.specs.Stored.{keys, placeOf, putAt, Faithful, Valued}
 
 either-way : (b : Bool) → (b ≡ true) ⊎ (b ≡ false)
 either-way true = inl refl
 either-way false = inr refl
 
+-- no pair stands there
+abbrev empty : Stamped → Bool
+empty p = eqb (p .number) noPair
+
+pub no-empty : (p : Stamped) → p .number < noPair → eqb (p .number) noPair ≡ false
+no-empty p h = ne-eqb (p .number) noPair (λ e. omega arith)
+
 take-keys : (n : ℕ) (ps : List Stamped) → take n (keys ps) ≡ keys (take n ps)
 unfolding keys
 take-keys zero ps = refl
 take-keys (suc n) [] = refl
-take-keys (suc n) (p ∷ ps) = elim (either-way (p .kept)) [ inl e ↦ rw (e, take-keys n ps) | inr e ↦ rw e ]
+take-keys (suc n) (p ∷ ps) = elim (either-way (empty p)) [ inl e ↦ rw e | inr e ↦ rw (e, take-keys n ps) ]
 
 -- the numbers posted are those of the pairs kept
 pub among-keys : (ps : List Stamped) (j : ℕ) → among ps j ≡ member j (keys ps)
 unfolding amongFirst keys any
 among-keys [] j = refl
-among-keys (p ∷ ps) j = rw (among-keys ps j, register-laws.Logic.eqb-comm j (p .number)) (elim (either-way (p .kept)) [ inl e ↦ rw e | inr e ↦ rw e ])
+among-keys (p ∷ ps) j = rw (among-keys ps j, eqb-comm j (p .number)) (elim (either-way (empty p)) [ inl e ↦ rw e | inr e ↦ rw e ])
 
 -- ---- the places from one on move by one
 
@@ -57,7 +63,7 @@ Above p i ps = (j : ℕ) → j < i → placeOf p < placeOf (getD ps j vacant)
 pub above-more : (p : Stamped) (i : ℕ) (ps : List Stamped) → Above p i ps → placeOf p < placeOf (getD ps i vacant) → Above p (i + 1) ps
 above-more p i ps a h j l = elim (eq-or-lt-of-le l) [ inl e ↦ let z : j ≡ i = omega arith in rw z h | inr k ↦ a j (omega arith) ]
 
-module _ (p : Stamped) (is : p .kept ≡ true) where
+module _ (p : Stamped) (is : eqb (p .number) noPair ≡ false) where
   abbrev Put : List Stamped → List Stamped → Type 0
   Put ps rs = insert (p .number) (keys ps) ≡ keys rs
 
@@ -67,23 +73,23 @@ module _ (p : Stamped) (is : p .kept ≡ true) where
 
   at-lower : (x : Stamped) (ps : List Stamped) → placeOf x < placeOf p → Put (x ∷ ps) (p ∷ x ∷ ps)
   unfolding insert keys
-  at-lower x ps h = elim (either-way (x .kept)) [
-    | inl e ↦ rw (e, is, lt-ltb (x .number) (p .number) (le-of-suc-le-suc (rw (e, is) at h)))
-    | inr e ↦ rw (e, is)
+  at-lower x ps h = elim (either-way (empty x)) [
+    | inl e ↦ rw (e, is)
+    | inr e ↦ rw (e, is, lt-ltb (x .number) (p .number) (le-of-suc-le-suc (rw (e, is) at h)))
   ]
 
   at-same : (x : Stamped) (ps : List Stamped) → placeOf x ≡ placeOf p → Put (x ∷ ps) (x ∷ ps)
   unfolding insert keys
-  at-same x ps h = elim (either-way (x .kept)) [
-    | inl e ↦ let z : x .number ≡ p .number = suc-inj (rw (e, is) at h) in rw (e, le-ltb (x .number) (p .number) (omega arith), eq-eqb (x .number) (p .number) z)
-    | inr e ↦ let z : 0 ≡ suc (p .number) = rw (e, is) at h in absurd (omega arith)
+  at-same x ps h = elim (either-way (empty x)) [
+    | inl e ↦ let z : 0 ≡ suc (p .number) = rw (e, is) at h in absurd (omega arith)
+    | inr e ↦ let z : x .number ≡ p .number = suc-inj (rw (e, is) at h) in rw (e, le-ltb (x .number) (p .number) (omega arith), eq-eqb (x .number) (p .number) z)
   ]
 
   -- a higher place is no empty one
-  higher : (x : Stamped) → placeOf p < placeOf x → (x .kept ≡ true) × (p .number < x .number)
-  higher x h = elim (either-way (x .kept)) [
-    | inl e ↦ (e, le-of-suc-le-suc (rw (e, is) at h))
-    | inr e ↦ let z : suc (p .number) < 0 = rw (e, is) at h in absurd (omega arith)
+  higher : (x : Stamped) → placeOf p < placeOf x → (empty x ≡ false) × (p .number < x .number)
+  higher x h = elim (either-way (empty x)) [
+    | inl e ↦ let z : suc (p .number) < 0 = rw (e, is) at h in absurd (omega arith)
+    | inr e ↦ (e, le-of-suc-le-suc (rw (e, is) at h))
   ]
 
   below : (x : Stamped) (ps rs : List Stamped) → placeOf p < placeOf x → Put ps rs → Put (x ∷ ps) (x ∷ rs)
@@ -92,11 +98,11 @@ module _ (p : Stamped) (is : p .kept ≡ true) where
       let z = higher x h in
       rw (z .0, le-ltb (x .number) (p .number) (omega (arith, z .1)), ne-eqb (x .number) (p .number) (λ d. omega (arith, z .1)), q)
 
-  goes-at : (i : ℕ) (ps : List Stamped) → i ≤ length ps → Above p i ps → placeOf (getD ps i vacant) < placeOf p → Put ps (putAt i p ps)
+  goes-at : (i : ℕ) (ps : List Stamped) → i ≤ length ps → Above p i ps → (i < length ps → placeOf (getD ps i vacant) < placeOf p) → Put ps (putAt i p ps)
   goes-at zero [] h a l = at-end
-  goes-at zero (x ∷ ps) h a l = at-lower x ps l
+  goes-at zero (x ∷ ps) h a l = at-lower x ps (l (omega arith))
   goes-at (suc i) [] h a l = absurd (omega arith)
-  goes-at (suc i) (x ∷ ps) h a l = below x ps _ (a 0 (omega arith)) (goes-at i ps (omega arith) (λ j k. a (suc j) (omega arith)) l)
+  goes-at (suc i) (x ∷ ps) h a l = below x ps _ (a 0 (omega arith)) (goes-at i ps (omega arith) (λ j k. a (suc j) (omega arith)) (λ k. l (omega arith)))
 
   stands-at : (i : ℕ) (ps : List Stamped) → i < length ps → Above p i ps → placeOf (getD ps i vacant) ≡ placeOf p → Put ps ps
   stands-at i [] h a e = absurd (omega arith)
@@ -107,7 +113,7 @@ module _ (p : Stamped) (is : p .kept ≡ true) where
     -- at the first lower place
     pub put-lower : (i : ℕ) → i < n → Above p i ps → placeOf (getD ps i vacant) < placeOf p
         → (r : List Stamped) → r ≡ take n (putAt i p ps) → keys r ≡ take n (insert (p .number) (keys ps))
-    put-lower i h a l r e = ap keys e ∙ sym (take-keys n (putAt i p ps)) ∙ ap (take n) (sym (goes-at i ps (omega arith) a l))
+    put-lower i h a l r e = ap keys e ∙ sym (take-keys n (putAt i p ps)) ∙ ap (take n) (sym (goes-at i ps (omega arith) a (λ k. l)))
 
     -- nowhere, for it is there
     pub put-same : (i : ℕ) → i < n → Above p i ps → placeOf (getD ps i vacant) ≡ placeOf p → keys ps ≡ take n (insert (p .number) (keys ps))
@@ -117,22 +123,37 @@ module _ (p : Stamped) (is : p .kept ≡ true) where
     pub put-none : Above p n ps → keys ps ≡ take n (insert (p .number) (keys ps))
     put-none a =
         ap keys (dropped n p ps size) ∙ sym (take-keys n (putAt n p ps))
-        ∙ ap (take n) (sym (goes-at n ps (omega arith) a (rw (List·getD-eq-default ps vacant {n = n} (omega arith), is) (omega arith))))
+        ∙ ap (take n) (sym (goes-at n ps (omega arith) a (λ k. absurd (omega arith))))
+
+-- ---- what the pairs are worth
+
+in-drop : (x : Stamped) (i : ℕ) (ps : List Stamped) → In x (drop i ps) → In x ps
+in-drop x zero ps h = h
+in-drop x (suc i) [] h = h
+in-drop x (suc i) (p ∷ ps) h = inr (in-drop x i ps h)
+
+pub put-valued : (n i : ℕ) (p : Stamped) (ps r : List Stamped) (values : List ℕ) → r ≡ take n (putAt i p ps) → Valued values ps → Faithful values p → Valued values r
+put-valued n i p ps r values e v f q h =
+    elim (in-append q (take i ps) (p ∷ drop i ps) (in-take q n (putAt i p ps) (rw e at h))) [
+      | inl a ↦ v q (in-take q i ps a)
+      | inr (inl a) ↦ rw a f
+      | inr (inr a) ↦ v q (in-drop q i ps a)
+    ]
 
 -- ---- two stores with the same pairs
 
 same-level : (x y : Stamped) (xs ys : List Stamped)
     → eqb (placeOf x) (placeOf y) && (eqb (placeOf x) 0 || sameList (keys xs) (keys ys)) ≡ sameList (keys (x ∷ xs)) (keys (y ∷ ys))
 unfolding keys sameList
-same-level x y xs ys = go (x .kept) (y .kept) (x .number) (y .number)
+same-level x y xs ys = go (empty x) (empty y) (x .number) (y .number)
   where
     go : (a b : Bool) (m n : ℕ)
-        → eqb (cond a (suc m) 0) (cond b (suc n) 0) && (eqb (cond a (suc m) 0) 0 || sameList (keys xs) (keys ys))
-        ≡ sameList (cond a (m ∷ keys xs) []) (cond b (n ∷ keys ys) [])
-    go false false m n = refl
-    go false true m n = rw (eqb·zero-suc n)
-    go true false m n = rw (eqb·suc-zero m)
-    go true true m n = rw (eqb·suc-suc m n, eqb·suc-zero m)
+        → eqb (cond a 0 (suc m)) (cond b 0 (suc n)) && (eqb (cond a 0 (suc m)) 0 || sameList (keys xs) (keys ys))
+        ≡ sameList (cond a [] (m ∷ keys xs)) (cond b [] (n ∷ keys ys))
+    go true true m n = refl
+    go true false m n = rw (eqb·zero-suc n)
+    go false true m n = rw (eqb·suc-zero m)
+    go false false m n = rw (eqb·suc-suc m n, eqb·suc-zero m)
 
 module _ (a b : List Stamped) where
   -- are they the same from place i on
@@ -162,54 +183,7 @@ module _ (a b : List Stamped) where
     pub same-on : x ≡ y → x ≢ 0 → sameFrom (i + 1) ≡ sameFrom i
     same-on e d = let z : i + 1 ≡ suc i = omega arith in rw z (sym (sym here ∙ rw (eq-eqb x y e, ne-eqb x 0 d)))
 
--- ---- pairs that are new to a store
-
 pub same-as-itself : (l : List ℕ) → sameList l l ≡ true
 unfolding sameList
 same-as-itself [] = refl
 same-as-itself (x ∷ l) = rw (eq-eqb x x refl) (same-as-itself l)
-
-module _ (p : Stamped) (is : p .kept ≡ true) where
-  -- at a lower place p goes before another pair
-  changed-at : (n i : ℕ) (ps : List Stamped) → i < n → i < length ps → Above p i ps → placeOf (getD ps i vacant) < placeOf p → sameList (take n (insert (p .number) (keys ps))) (keys ps) ≡ false
-  unfolding insert keys sameList
-  changed-at zero i ps h k a l = absurd (omega arith)
-  changed-at (suc n) i [] h k a l = absurd (omega arith)
-  changed-at (suc n) zero (x ∷ ps) h k a l = elim (either-way (x .kept)) [
-    | inl e ↦ let z : x .number < p .number = le-of-suc-le-suc (rw (e, is) at l) in rw (e, lt-ltb (x .number) (p .number) z, ne-eqb (p .number) (x .number) (λ q. omega arith))
-    | inr e ↦ rw e
-  ]
-  changed-at (suc n) (suc i) (x ∷ ps) h k a l =
-      let z = higher p is x (a 0 (omega arith)) in
-      rw (z .0, le-ltb (x .number) (p .number) (omega (arith, z .1)), ne-eqb (x .number) (p .number) (λ q. omega (arith, z .1)), eq-eqb (x .number) (x .number) refl)
-      (changed-at n i ps (omega arith) (omega arith) (λ j q. a (suc j) (omega arith)) l)
-
-  module _ (ps : List Stamped) (size : length ps ≡ storeDepth) where
-    unchanged : keys ps ≡ take storeDepth (insert (p .number) (keys ps)) → isNew (p .number) (keys ps) ≡ false
-    unfolding isNew
-    unchanged e = rw (← e, same-as-itself (keys ps))
-
-    -- at the first place that is not higher
-    pub new-first : (i : ℕ) → i < storeDepth → Above p i ps → placeOf (getD ps i vacant) ≤ placeOf p → ltb (placeOf (getD ps i vacant)) (placeOf p) ≡ isNew (p .number) (keys ps)
-    unfolding isNew
-    new-first i h a l = elim (eq-or-lt-of-le l) [
-      | inl e ↦ rw (le-ltb (placeOf (getD ps i vacant)) (placeOf p) (omega arith)) (sym (unchanged (put-same p is storeDepth ps size i h a e)))
-      | inr k ↦ rw (lt-ltb (placeOf (getD ps i vacant)) (placeOf p) k, changed-at storeDepth i ps h (omega arith) a k)
-    ]
-
-    pub new-none : Above p storeDepth ps → isNew (p .number) (keys ps) ≡ false
-    new-none a = unchanged (put-none p is storeDepth ps size a)
-
--- one of some pairs is
-module _ (l : List ℕ) (low : ℕ) where
-  pub some-new : (high j : ℕ) → low ≤ j → j < high → isNew j l ≡ true → anyNew l low high ≡ true
-  some-new high j h k e = register-laws.Logic.T-eq (anyNew l low high) (register-laws.Counting.anyUpTo-i high (λ i. leb low i && isNew i l) j k (rw (le-leb low j h, e) tt))
-
-  abbrev pub NoneNew : ℕ → Type 0
-  NoneNew high = (j : ℕ) → low ≤ j → j < high → isNew j l ≡ false
-
-  pub none-more : (j : ℕ) → NoneNew j → isNew j l ≡ false → NoneNew (j + 1)
-  none-more j f e i h k = elim (eq-or-lt-of-le k) [ inl q ↦ let z : i ≡ j = omega arith in rw z e | inr q ↦ f i h (omega arith) ]
-
-  pub none-new : (high : ℕ) → NoneNew high → anyNew l low high ≡ false
-  none-new high f = register-laws.Counting.none-up high (λ i. leb low i && isNew i l) (λ i k. never (leb low i) _ (λ e. f i (leb-true low i e) k))

@@ -1,5 +1,5 @@
 -- Taking in only the pairs of a span: those below it and beyond it do not pass.
-use mathlib.Core.Path.{_≡_, refl}
+use mathlib.Core.Path.{_≡_, refl, sym, _∙_}
 use mathlib.Core.Bool.{Bool, false, _&&_, and-false}
 use mathlib.Core.List.{List}
 use Prim.Native.Nat.{ℕ, zero, suc, _≤_, _<_}
@@ -25,13 +25,13 @@ module _ (v : ℕ → Bool) (low high : ℕ) where
   unfolding taken
   taken-below n l h = taken-past (λ j. within low high j && v j) 0 n l (omega arith) (λ j a b. rw (lt-leb low j (omega arith)))
 
-  -- none beyond it
-  pub taken-beyond : (n m : ℕ) (l : List ℕ) → n ≤ m → (high ≤ m → high ≤ n) → (m ≤ high → m ≤ n)
-      → taken (λ j. within low high j && v j) m l ≡ taken (λ j. within low high j && v j) n l
-  taken-beyond n m l h e f = elim (decLe high m) [
-    | yes d ↦ taken-past (λ j. within low high j && v j) n m l h (λ j a b. rw (le-ltb j high (omega (arith, e d)), and-false (leb low j)))
-    | no d ↦ let z : n ≡ m = omega (arith, f (omega arith)) in rw z
+  -- none beyond it, where a walk over the span has come to n
+  pub taken-stop : (n m : ℕ) (l : List ℕ) → (n < m → high ≤ n) → (m < n → n ≤ low) → taken (λ j. within low high j && v j) n l ≡ taken (λ j. within low high j && v j) m l
+  taken-stop n m l e f = elim (decLe n m) [
+    | yes d ↦ sym (taken-past (λ j. within low high j && v j) n m l d (λ j a b. rw (le-ltb j high (omega (arith, e (omega arith))), and-false (leb low j))))
+    | no d ↦ taken-below n l (f (omega arith)) ∙ sym (taken-below m l (omega (arith, f (omega arith))))
   ]
 
-pub from-low : (low m j : ℕ) → (low ≤ m → low ≤ j) → (m ≤ low → m ≤ j) → j < m → low ≤ j
-from-low low m j e f h = elim (decLe low m) [ yes d ↦ e d | no d ↦ absurd (omega (arith, f (omega arith))) ]
+-- the lower of two numbers, below the second, is the first
+pub lower-first : (a b r : ℕ) → (a ≤ b → a ≤ r) → (b ≤ a → b ≤ r) → r < b → a ≤ r
+lower-first a b r e f h = elim (decLe a b) [ yes d ↦ e d | no d ↦ absurd (omega (arith, f (omega arith))) ]

@@ -1,5 +1,7 @@
-pub mod Bits
 pub mod Links
+pub mod Tallies
 pub mod Stored
 pub mod Stages
+pub mod Settled
+pub mod Methods
 pub mod Sends

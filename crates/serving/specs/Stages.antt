@@ -1,14 +1,13 @@
 -- The engine's stages on a server apart from how it is stored. Pairs are known by number, those below m; e and r are the quorums.
-use mathlib.Core.Path.{_≡_}
 use mathlib.Core.Bool.{Bool, true, false, not, _&&_, _||_, cond}
 use mathlib.Core.List.{List, []}
-use Prim.Native.Nat.{ℕ, zero, suc, _<_}
+use Prim.Native.Nat.{ℕ, zero, suc}
 use lib.Dec.{leb, ltb}
 use lib.ListN.{take}
-use Rattle.register.specs.Lists.{count, anyUpTo, sameList}
+use Rattle.register.specs.Lists.{count, sameList}
 use Rattle.register.specs.Server.{Status, faulty, cured, correct, isFaulty, isCorrect, curedAt, insert}
 use Rattle.plan.specs.Packed.{storeDepth}
-use Rattle.calendar.specs.Layout.{mostServers, places}
+use Rattle.calendar.specs.Layout.{mostServers, noPair}
 use Rattle.serving.specs.declared.Rules.{Rules}
 use Rattle.serving.specs.Stored.{Plain, Said, Both}
 
@@ -19,27 +18,18 @@ abbrev pub noVotes : ℕ → ℕ → Bool
 noVotes j i = false
 
 abbrev pub blankAs : Status → Plain
-blankAs s = record { status = s; kept = []; pending = nobody; fresh = noVotes; old = noVotes }
+blankAs s = record { status = s; kept = []; pending = nobody; fresh = noVotes; recent = noVotes }
 
 abbrev pub silent : Said
-silent = record { wrote = 255; echoed = false; readers = nobody; pairs = [] }
+silent = record { wrote = noPair; echoed = false; readers = nobody; pairs = [] }
 
 -- ---- what the methods do
 
 abbrev pub restated : Status → Plain → Plain
-restated st s = record { status = st; kept = s .kept; pending = s .pending; fresh = s .fresh; old = s .old }
+restated st s = record { status = st; kept = s .kept; pending = s .pending; fresh = s .fresh; recent = s .recent }
 
 abbrev pub written : ℕ → Plain → Plain
-written p s = record { status = s .status; kept = take storeDepth (insert p (s .kept)); pending = s .pending; fresh = s .fresh; old = s .old }
-
--- a server that is not faulty has the votes of f among its fresh ones; a faulty one loses them
-pub record Voted (f : ℕ → ℕ → Bool) (s r : Plain) : Type 0 where
-  pub status : r .status ≡ s .status
-  pub kept : r .kept ≡ s .kept
-  pub pending : r .pending ≡ s .pending
-  pub old : r .old ≡ s .old
-  pub fresh : isFaulty (s .status) ≡ false → (j i : ℕ) → j < places → r .fresh j i ≡ (s .fresh j i || f j i)
-  pub lost : isFaulty (s .status) ≡ true → r ≡ s
+written p s = record { status = s .status; kept = take storeDepth (insert p (s .kept)); pending = s .pending; fresh = s .fresh; recent = s .recent }
 
 abbrev pub resetAt : ℕ → Plain
 resetAt t = blankAs (cured t)
@@ -48,29 +38,22 @@ abbrev pub cureEnded : ℕ → ℕ → Plain → Plain
 cureEnded delta t s = cond (curedAt delta t (s .status)) (restated correct s) s
 
 abbrev pub turned : Bool → Plain → Plain
-turned two s = record { status = s .status; kept = s .kept; pending = s .pending; fresh = noVotes; old = cond two (s .fresh) noVotes }
+turned two s = record { status = s .status; kept = s .kept; pending = s .pending; fresh = noVotes; recent = cond two (s .fresh) noVotes }
 
 -- ---- stage 1
 
+-- do the voters of the present period and those of the last k periods make a quorum
 abbrev pub quorate : ℕ → ℕ → (ℕ → Bool) → (ℕ → Bool) → Bool
-quorate e r f o = leb e (count f mostServers) || leb r (count (λ i. f i || o i) mostServers)
+quorate e r fresh recent = leb e (count fresh mostServers) || leb r (count recent mostServers)
 
 -- pair j has a quorum
 abbrev pub voting : ℕ → ℕ → (ℕ → ℕ → Bool) → (ℕ → ℕ → Bool) → ℕ → Bool
-voting e r fresh old j = quorate e r (fresh j) (old j)
+voting e r fresh recent j = quorate e r (fresh j) (recent j)
 
 -- the pairs 0 .. m - 1 that pass, taken in by number
 unfoldable pub taken : (ℕ → Bool) → ℕ → List ℕ → List ℕ
 taken c zero l = l
 taken c (suc j) l = cond (c j) (take storeDepth (insert j (taken c j l))) (taken c j l)
-
--- putting pair p in changes the store: the store does not have it, and is not full of higher ones
-unfoldable pub isNew : ℕ → List ℕ → Bool
-isNew p l = not (sameList (take storeDepth (insert p l)) l)
-
--- one of the pairs low .. high - 1 does
-abbrev pub anyNew : List ℕ → ℕ → ℕ → Bool
-anyNew l low high = anyUpTo high (λ j. leb low j && isNew j l)
 
 -- the WRITE's pair, if its number is a known one
 abbrev pub withWrite : ℕ → ℕ → Plain → Plain
@@ -85,22 +68,27 @@ repliesTo true false asks list = list
 abbrev pub within : ℕ → ℕ → ℕ → Bool
 within low high j = leb low j && ltb j high
 
+-- votes with those that arrive for the known pairs
+abbrev pub joined : ℕ → (ℕ → ℕ → Bool) → (ℕ → ℕ → Bool) → ℕ → ℕ → Bool
+joined m votes got j i = votes j i || (ltb j m && got j i)
+
 -- with the pairs that pass
 unfoldable pub deliveredOf : ℕ → (ℕ → Bool) → ℕ → (ℕ → ℕ → Bool) → (ℕ → Bool) → (ℕ → Bool) → Plain → Both
-deliveredOf m c w votes asks live s =
+deliveredOf m c w got asks live s =
     let kept : List ℕ = taken c m (withWrite m w s .kept) in
     let list : ℕ → Bool = λ x. (s .pending x && live x) || asks x in
     record {
-      server = record { status = s .status; kept = kept; pending = list; fresh = votes; old = s .old };
+      server = record { status = s .status; kept = kept; pending = list; fresh = joined m (s .fresh) got; recent = joined m (s .recent) got };
       said = record { wrote = w; echoed = false; readers = repliesTo (isCorrect (s .status)) (sameList (s .kept) kept) asks list; pairs = kept };
     }
 
+-- the number of the WRITE that arrives, the votes, the readers whose READ arrives, and those whose read did not begin in the last tick
 unfoldable pub delivered : ℕ → ℕ → ℕ → ℕ → (ℕ → ℕ → Bool) → (ℕ → Bool) → (ℕ → Bool) → Plain → Both
-delivered m e r w votes asks live s = deliveredOf m (voting e r votes (s .old)) w votes asks live s
+delivered m e r w got asks live s = deliveredOf m (voting e r (joined m (s .fresh) got) (joined m (s .recent) got)) w got asks live s
 
 unfoldable pub stageOne : ℕ → ℕ → ℕ → ℕ → (ℕ → ℕ → Bool) → (ℕ → Bool) → (ℕ → Bool) → Plain → Both
-stageOne m e r w votes asks live s =
-    cond (isFaulty (s .status)) (record { server = s; said = silent }) (delivered m e r w votes asks live s)
+stageOne m e r w got asks live s =
+    cond (isFaulty (s .status)) (record { server = s; said = silent }) (delivered m e r w got asks live s)
 
 -- ---- stages 2 to 4
 
@@ -125,6 +113,6 @@ stageFour two now-faulty t o =
 
 -- all stages
 unfoldable pub stagesOf : ℕ → Rules → ℕ → (ℕ → ℕ → Bool) → (ℕ → Bool) → (ℕ → Bool) → Bool → Bool → ℕ → Plain → Both
-stagesOf m rules w votes asks live moving now-faulty t s =
-    let second : Both = stageTwo (rules .delta) t (stageOne m (rules .echo) (rules .reply) w votes asks live s) in
+stagesOf m rules w got asks live moving now-faulty t s =
+    let second : Both = stageTwo (rules .delta) t (stageOne m (rules .echo) (rules .reply) w got asks live s) in
     cond moving (stageFour (rules .two) now-faulty t second) second

@@ -2,9 +2,9 @@
 pub mod delays;
 pub mod sending;
 pub mod servers;
-pub mod sets;
 pub mod stages;
 pub mod store;
+pub mod tallies;
 
 use calendar::DEPTH;
 use calendar::READERS;
@@ -20,22 +20,11 @@ pub enum Status {
     Correct,
 }
 
-// How many sets stand in one array: one of 128 bytes is copied in line, a longer one by a call.
-pub const MOST: usize = 64;
-
-// A set of servers for each known pair: all but the last one's stand together.
-pub struct Voters {
-    pub most: [u16; MOST],
-    pub last: u16,
-}
-
-// A server (document 01: a box). `pending` has bit x for reader x; `fresh` and `old` have the set of voters for each known pair.
+// A server (document 01: a box). `pending` has bit x for reader x. Its votes stand in the tallies.
 pub struct Server {
     pub status: Status,
     pub kept: [Stamped; DEPTH],
     pub pending: u8,
-    pub fresh: Voters,
-    pub old: Voters,
 }
 
 // The number of servers, δ, is k 2, the echo and the reply quorum.
@@ -53,16 +42,22 @@ pub struct Links {
     pub parties: usize,
 }
 
-// What a server sends in a tick: a vote for the pair of a WRITE (NO_PAIR: none), votes for its pairs if it echoes, its pairs to some readers.
-pub struct Outgoing {
+// What reaches server `server` in a tick: the votes in a row of the calendar; the number of a WRITE, or NO_PAIR; the readers whose READ arrives. `live`
+// lacks the readers whose read began in the last tick; there are m known pairs.
+pub struct Turn {
+    pub server: usize,
+    pub row: usize,
     pub wrote: u8,
-    pub echoed: bool,
-    pub readers: u8,
-    pub kept: [Stamped; DEPTH],
+    pub asks: u8,
+    pub live: u8,
+    pub m: usize,
+    pub rules: Rules,
 }
 
-// What a server makes of what arrives: the readers on its list, and what it sends.
-pub struct Delivery {
-    pub pending: u8,
-    pub sent: Outgoing,
+// Server i sends in tick t, one of n.
+pub struct Sender {
+    pub links: Links,
+    pub n: usize,
+    pub t: usize,
+    pub i: usize,
 }

@@ -1,103 +1,78 @@
-// What a server sends in a tick is posted: its votes to every other server, its replies to some readers.
+// What a server sends in a tick is posted: its votes to every other server, its pairs to some readers.
 ghost use mathlib.Core.Path.{_≡_};
-ghost use mathlib.Core.Bool.{_&&_, _||_};
-ghost use Prim.Native.Nat.{_+_, _≤_, _<_};
-ghost use lib.Dec.{eqb, ltb};
+ghost use mathlib.Core.Bool.{_&&_};
+ghost use Prim.Native.Nat.{_≤_};
+ghost use lib.Dec.{eqb};
 ghost use lib.ListN.{length};
-ghost use Rattle.calendar.specs.Layout.{places, calendarSize};
-ghost use Rattle.calendar.specs.View.{Posted};
-ghost use Rattle.serving.specs.Links.{Linked};
-ghost use Rattle.serving.specs.Sends.{sendsVote, sendsReply, sends};
-use super::Links;
-use super::Outgoing;
+ghost use Rattle.register.specs.Lists.{member};
+ghost use Rattle.calendar.specs.{Bits.bit, Layout.calendarSize, View.Posted, Posts.Sent};
+ghost use Rattle.serving.specs.Links.{linkBit};
+ghost use Rattle.serving.specs.Stored.{keys};
+ghost use Rattle.serving.specs.Sends.{Ready, sendsVote, sendsReply};
 use super::PAST_READERS;
+use super::Sender;
 use super::delays;
+use calendar::DEPTH;
 use calendar::PLACES;
 use calendar::READERS;
 use calendar::READERS_AT;
 use calendar::Sending;
+use calendar::Stamped;
 
-// Is there a vote at all.
-fn is_voting(wrote: u8, echoed: bool) -> bool
-    ensures { λ r. ⌜ r ≡ (echoed || ltb wrote places) ⌝ }
+// Where and when what it sends reaches the servers.
+fn to_servers(plan: &[u8], from: Sender) -> Sending
+    requires { ⌜ Ready (now plan) from ⌝ }
+    ensures { λ r. ⌜ Sent (now (plan .entry)) (linkBit (from .links) (from .t) (from .i) 0) (from .n) (from .t) (from .i) r ⌝ }
 {
-    if echoed {
-        return true;
-    }
-    (wrote as usize) < PLACES
+    let bit = delays::row_bit(from.links, from.t, from.i);
+    Sending::of(plan, bit, from.n, from.t, from.i)
 }
 
-// A server's votes: for the pair of a WRITE, and at an echo for the pairs that it keeps.
-fn send_votes(
-    work: &mut [u8],
-    plan: &[u8],
-    links: Links,
-    n: usize,
-    t: usize,
-    i: usize,
-    sent: Outgoing,
-    ends: [u8; READERS],
-)
-    requires { ⌜ (calendarSize ≤ length (now work)) × Linked (now plan) links n (t + 1) × (t < 128) × (i < n) ⌝ }
-    ensures { λ _. ⌜ Posted (now (work .entry)) (now (work .exit)) (λ x j k. eqb k i && sendsVote (now (plan .entry)) links n t ends i sent x j) ⌝ }
+// A vote for the pair of a WRITE (NO_PAIR: none).
+pub fn vote(work: &mut [u8], plan: &[u8], from: Sender, wrote: u8)
+    requires { ⌜ (calendarSize ≤ length (now work)) × Ready (now plan) from ⌝ }
+    ensures { λ _. ⌜ Posted (now (work .entry)) (now (work .exit)) (λ x j k. eqb k (from .i) && sendsVote (now (plan .entry)) from (λ y. eqb y wrote) x j) ⌝ }
 {
-    if !is_voting(sent.wrote, sent.echoed) {
+    if PLACES <= wrote as usize {
         return;
     }
-    let sending = Sending::of(plan, delays::row_bit(links, t, i), n, t, i);
-    calendar::post_vote(work, sending, sent.wrote);
-    if sent.echoed {
-        let kept = sent.kept;
-        calendar::post_votes(work, sending, kept);
-    }
+    let sending = to_servers(plan, from);
+    calendar::post_vote(work, sending, wrote);
 }
 
-// A server's replies, if they arrive by the reads' ends.
-fn send_replies(
+// Votes for the pairs that it keeps.
+pub fn echo(work: &mut [u8], plan: &[u8], from: Sender, kept: [Stamped; DEPTH])
+    requires { ⌜ (calendarSize ≤ length (now work)) × Ready (now plan) from ⌝ }
+    ensures { λ _. ⌜ Posted (now (work .entry)) (now (work .exit)) (λ x j k. eqb k (from .i) && sendsVote (now (plan .entry)) from (λ y. member y (keys kept)) x j) ⌝ }
+{
+    let sending = to_servers(plan, from);
+    calendar::post_votes(work, sending, kept);
+}
+
+// Its pairs to some readers, if they arrive by the reads' ends.
+pub fn reply(
     work: &mut [u8],
     plan: &[u8],
-    links: Links,
-    n: usize,
-    t: usize,
-    i: usize,
-    sent: Outgoing,
+    from: Sender,
+    readers: u8,
+    kept: [Stamped; DEPTH],
     ends: [u8; READERS],
 )
-    requires { ⌜ (calendarSize ≤ length (now work)) × Linked (now plan) links n (t + 1) × (t < 128) × (i < n) ⌝ }
-    ensures { λ _. ⌜ Posted (now (work .entry)) (now (work .exit)) (λ x j k. eqb k i && sendsReply (now (plan .entry)) links n t ends i sent x j) ⌝ }
+    requires { ⌜ (calendarSize ≤ length (now work)) × Ready (now plan) from ⌝ }
+    ensures { λ _. ⌜ Posted (now (work .entry)) (now (work .exit)) (λ x j k. eqb k (from .i) && sendsReply (now (plan .entry)) from ends (λ y. bit y readers) (λ y. member y (keys kept)) x j) ⌝ }
 {
-    let readers = sent.readers;
-    let kept = sent.kept;
+    let links = from.links;
+    let n = from.n;
     let mut y: usize = 1;
     while y < PAST_READERS {
         if (readers >> y) % 2 == 1 {
             if n + y < links.parties {
-                let at = t + delays::delay(plan, links, n, t, i, n + y);
+                let at = from.t + delays::delay(plan, links, n, from.t, from.i, n + y);
                 if at <= ends[y - 1] as usize {
-                    calendar::post_kept(work, calendar::row(at, READERS_AT + y), kept, i);
+                    calendar::post_kept(work, calendar::row(at, READERS_AT + y), kept, from.i);
                 }
             }
         }
         y += 1;
-    }
-}
-
-// All that server i sends in tick t. Most often that is nothing.
-pub fn send(
-    work: &mut [u8],
-    plan: &[u8],
-    links: Links,
-    n: usize,
-    t: usize,
-    i: usize,
-    sent: Outgoing,
-    ends: [u8; READERS],
-)
-    requires { ⌜ (calendarSize ≤ length (now work)) × Linked (now plan) links n (t + 1) × (t < 128) × (i < n) ⌝ }
-    ensures { λ _. ⌜ Posted (now (work .entry)) (now (work .exit)) (λ x j k. eqb k i && sends (now (plan .entry)) links n t ends i sent x j) ⌝ }
-{
-    send_votes(work, plan, links, n, t, i, sent, ends);
-    if sent.readers != 0 {
-        send_replies(work, plan, links, n, t, i, sent, ends);
     }
 }

@@ -4,4 +4,4 @@ use Rattle.serving.proofs.Server.write.Tie as tie
 use Rattle.serving.proofs.Server.write.Statement.{statement}
 
 pub write-spec : {M : Type 1} → statement M
-write-spec = tie.close (tie.spec (λ c κs. search needs) (λ c. rw (c .insert .ensures)))
+write-spec = tie.close (tie.spec (λ c κs. search needs) (λ c. (λ m sets b. rw (c .insert .ensures .0), c .insert .ensures .1)))

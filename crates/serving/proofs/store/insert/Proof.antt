@@ -6,7 +6,7 @@ use lib.ListN.{length}
 use borrow.Author.Needs.{needs}
 use Rattle.plan.specs.Packed.{storeDepth}
 use Rattle.serving.specs.Stored.{placeOf}
-use Rattle.serving.proofs.StoreLaws.{Above, above-more, put-lower, put-same, put-none}
+use Rattle.serving.proofs.StoreLaws.{Above, above-more, no-empty, put-lower, put-same, put-none, put-valued}
 use Rattle.serving.proofs.store.insert.Statement.{statement}
 use Rattle.serving.proofs.store.insert.Tie as tie
 
@@ -20,13 +20,15 @@ returns : tie.Need-returns Inv-loop μ-loop
 returns c =
     let s = c .before .before .before .before .before .before in
     let l = c .before .before .before .before .loop in
-    put-same (s .args .p) (s .pre) storeDepth (s .args .t1) (l .inv .1) (l .i) (c .before .before .before .loop-test .taken) (l .inv .3) (rw (c .before .place2 .ensures, l .inv .2) at (c .if1 .taken))
+    (put-same (s .args .p) (no-empty (s .args .p) (s .pre)) storeDepth (s .args .t1) (l .inv .1) (l .i) (c .before .before .before .loop-test .taken) (l .inv .3) (rw (c .before .place2 .ensures, l .inv .2) at (c .if1 .taken)), λ values v f. v)
 
 returns-2 : tie.Need-returns-2 Inv-loop μ-loop
 returns-2 c =
     let s = c .before .before .before .before .before .before .before .before in
-    let l = c .before .before .before .before .before .before .loop in
-    put-lower (s .args .p) (s .pre) storeDepth (s .args .t1) (l .inv .1) (l .i) (c .before .before .before .before .before .loop-test .taken) (l .inv .3) (rw (c .before .before .before .place2 .ensures, l .inv .2) at (c .before .if2 .taken)) _ (c .put-at .ensures)
+    let l = c .before .before .before .before .before .before .loop in (
+      put-lower (s .args .p) (no-empty (s .args .p) (s .pre)) storeDepth (s .args .t1) (l .inv .1) (l .i) (c .before .before .before .before .before .loop-test .taken) (l .inv .3) (rw (c .before .before .before .place2 .ensures, l .inv .2) at (c .before .if2 .taken)) _ (c .put-at .ensures),
+      λ values. put-valued storeDepth (l .i) (s .args .p) (s .args .t1) _ values (c .put-at .ensures),
+    )
 
 loop-again : tie.Need-loop-again Inv-loop μ-loop
 loop-again c =
@@ -40,7 +42,7 @@ returns-3 c =
     let s = c .before .before .before in
     let l = c .before .loop in
     let e : l .i ≡ storeDepth = omega arith in
-    put-none (s .args .p) (s .pre) storeDepth (s .args .t1) (l .inv .1) (rw e at (l .inv .3))
+    (put-none (s .args .p) (no-empty (s .args .p) (s .pre)) storeDepth (s .args .t1) (l .inv .1) (rw e at (l .inv .3)), λ values v f. v)
 
 pub insert-spec : {M : Type 1} → statement M
 insert-spec =
