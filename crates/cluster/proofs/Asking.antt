@@ -2,14 +2,14 @@
 -- It stands on the laws of sets.
 use mathlib.Core.{Path._≡_, Path.sym, Path._∙_, List.List}
 use mathlib.Core.Bool.{Bool, true, false, _&&_, and-false, and-true, or-comm, or-false, not-eq-not, true≢false}
-use Prim.Native.Nat.{ℕ, zero, suc, _+_, _*_, _%_, _^_, _≤_, _<_}
+use Prim.Native.Nat.{ℕ, zero, suc, _+_, _*_, _%_, _^_, _<_}
 use native.Mathlib.{Omega.arith, Decide.decLe, Decide.ℕ-discrete}
 use lib.{Bits.bitOr, Dec.eqb, Dec.ltb, ListN.getD}
 use borrow.Author.Tests.{le-ltb, ne-eqb}
 use Rattle.bits.proofs.Laws.{one-shl}
 use Rattle.register.specs.Lists.{anyUpTo}
 use Rattle.register.proofs.{Logic.T-eq, Counting.anyUpTo-i}
-use Rattle.calendar.specs.{Bits.bit, Layout.places}
+use Rattle.calendar.specs.{Bits.bit, Layout.noPair}
 use Rattle.calendar.proofs.Laws.{ltb-more, bit-or, bit-pow, bit-zero}
 use Rattle.cluster.specs.Inputs.{requesters, isAsked, wroteAt, asksAt}
 
@@ -47,9 +47,9 @@ module _ (requests : List ℕ) (b : ℕ) (none : isAsked requests b ≡ false) w
   unfolding isAsked
   none-from p l = not-eq-not {b = false} .0 (λ e. true≢false (sym (T-eq _ (anyUpTo-i requesters (λ q. bit b (getD requests q 0)) p l (rw e tt))) ∙ none))
 
-  pub none-wrote : (number : ℕ) → places ≤ wroteAt requests number b
+  pub none-wrote : (number : ℕ) → wroteAt requests number b ≡ noPair
   unfolding wroteAt
-  none-wrote number = rw (none-from 0 (omega arith)) (omega arith)
+  none-wrote number = rw (none-from 0 (omega arith))
 
   pub none-asks : (x : ℕ) → asksAt requests b x ≡ false
   unfolding asksAt

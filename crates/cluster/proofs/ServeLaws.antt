@@ -1,60 +1,73 @@
--- The loop over the servers in a tick: its start, a turn, and what it has done at its end. Nothing that is sent in a tick arrives in it, so a
--- later server finds its row as it was. It stands on the calendar's laws of posting and clearing.
-use mathlib.Core.{Path._≡_, Path.refl, Path.sym, Path.subst, Path._∙_, List.List, List.[]}
-use mathlib.Core.Bool.{Bool, true, false, not, _&&_, _||_, cond, and-false, or-assoc, or-false}
-use Prim.Native.Nat.{ℕ, _+_, _-_, _/_, _%_, _≤_, _<_}
-use native.Mathlib.{Omega.arith, Decide.decLe, Decide.ℕ-discrete}
-use lib.Dec.{T, eqb, leb, ltb, eqb→eq, eqb-refl, leb→le, ltb→lt, leb·zero, T-not, not-T}
+-- What arrives at the servers: at one that is faulty or not, and the loop over them, its start and a turn. Nothing that is sent in a tick arrives in it,
+-- so a later server finds its row as it was. It stands on the calendar's laws of posting and clearing, and on IdleLaws.
+use mathlib.Core.{Path._≡_, Path.refl, Path.sym, Path.ap, Path.subst, Path._∙_, Path.fun-ext, List.List}
+use mathlib.Core.Bool.{Bool, false, true, not, _&&_, _||_, and-false, or-assoc, or-false, and-or-distrib-left}
+use Prim.Native.Nat.{ℕ, _+_, _/_, _%_, _≤_, _<_}
+use native.Mathlib.{Numerals.add-one, Omega.arith, Decide.decLe, Decide.ℕ-discrete}
+use lib.{Bits.bitAnd, Dec.eqb, Dec.ltb, Dec.leb·zero}
 use lib.{ListN.length, ListN.getD, ListN.set, ListN.length-set, Seq.getD-set-same, Seq.getD-set-other, Seq.set-getD}
-use borrow.Author.Tests.{lt-ltb, le-ltb, lt-leb, eq-eqb, ne-eqb}
-use Rattle.bits.proofs.Laws.{field-lt}
-use Rattle.register.proofs.Logic.{and-l, and-r, F-eq}
-use Rattle.calendar.specs.{Bits.bit, View.SamePast, View.Spanned, View.Posted, View.Cleared}
-use Rattle.calendar.specs.Layout.{receivers, rows, places, rowOf, sender}
+use borrow.Author.Tests.{le-ltb, eq-eqb, ne-eqb, eqb-true}
+use Rattle.register.specs.{Lists.member, Server.isFaulty}
+use Rattle.calendar.specs.{Bits.bit, View.Spanned, View.Posted}
+use Rattle.calendar.specs.Layout.{receivers, rows, places, rowOf, highOf, sender}
 use Rattle.calendar.proofs as calendar-laws
-use Rattle.serving.specs as serving-specs
-use Rattle.serving.specs.declared.Server.{Server}
-use Rattle.serving.specs.Sends.{reaches, sendsVote, sendsReply, sends}
-use Rattle.serving.specs.Stored.{Step, server, both, statusOf, keys, absent}
-use Rattle.cluster.specs as cluster-specs
-use Rattle.cluster.specs.Settled.{Settled, Calm, called, reached, CalmlyTurned, CalmlyServed, CalmlyTicked}
-use Rattle.cluster.specs.Tick.{Fed, Heard, Emptied, Stepped, Turned, TurnedFirst, endsOf, present}
-use Rattle.cluster.proofs.IdleLaws.{past-same, past-trans, unreached, idle-turned}
+use Rattle.calendar.proofs.Posting.{posted-eq, posted-trans, posted-none}
+use Rattle.serving.specs.declared.{Server.Server, Turn.Turn, Sender.Sender}
+use Rattle.serving.specs.declared as serving-structs
+use Rattle.serving.specs.Tallies.{tableSize, SameOthers}
+use Rattle.serving.specs.Stored.{Said, Both, server, statusOf, keys, Valued, absent}
+use Rattle.serving.specs.Stages.{silent, stageOne}
+use Rattle.serving.specs.{Settled.Settled, Methods.Reachable, Methods.DeliveredTo}
+use Rattle.serving.specs.Sends.{Ready, votesFor, sendsVote, sendsReply, sends}
+use Rattle.serving.proofs as serving-laws
+use Rattle.cluster.specs.declared.Feed.{Feed}
+use Rattle.cluster.specs.Inputs.{Tickable, isAsked, wroteAt, asksAt}
+use Rattle.cluster.specs.Tick.{Fed, feedOf, TurnOf, Reached, Delivered, senderAt, serverAt, firstOf, sentBy, Calm}
+use Rattle.cluster.proofs.RowLaws.{past-same, past-trans, Emptied, emptied-before, empty-row}
+use Rattle.cluster.proofs.IdleLaws.{silent-sends, none-drops, idle-one, quiet-sends}
+use Rattle.cluster.proofs.Asking.{none-wrote, none-asks}
 
--- ---- nothing arrives in the tick in which it is sent
+-- ---- at one server
 
-module _ (plan : List ℕ) (links : serving-specs.declared.Links.Links) (n t : ℕ) (ends : List ℕ) (i : ℕ) (sent : serving-specs.declared.Outgoing.Outgoing) (few : n < links .parties) (own : i < n)
-    (later : (q : ℕ) → q < links .parties → (q ≡ i → ⊥) → (q ≡ n → ⊥) → 1 ≤ serving-specs.Links.delayAt plan links t i q) where
-  other-tick : (x q : ℕ) → q < links .parties → (q ≡ i → ⊥) → (q ≡ n → ⊥) → x / receivers ≡ t % 16 → T (eqb (reaches plan links n t ends i sent q % 16) (x / receivers)) → ⊥
-  other-tick x q l d w e y =
-      let short : serving-specs.Links.delayAt plan links t i q < 16 = field-lt plan (serving-specs.Links.linkBit links t i q) 4 in
-      let p : (t + serving-specs.Links.delayAt plan links t i q) % 16 ≡ x / receivers = eqb→eq _ _ y in
-      omega (arith, later q l d w)
+module _ (plan ends values : List ℕ) (turn : Turn) (from : Sender) (s : Server) (sets work : List ℕ) where
+  -- a faulty one loses it
+  pub reached-lost : isFaulty (statusOf (s .status)) ≡ true → Reached plan ends values turn from s s sets sets work work
+  unfolding stageOne
+  reached-lost e = record {
+    out = record { server = server (turn .m) sets (turn .server) s; said = silent };
+    first = rw e refl;
+    stage = refl;
+    others = serving-laws.TallyLaws.others-none sets (turn .server);
+    valued = λ v. v;
+    posted = posted-none work _ (λ x j k l m. rw (silent-sends plan from ends x j m) (and-false (eqb k (from .i))));
+  }
 
-  no-vote : (x j : ℕ) → x / receivers ≡ t % 16 → sendsVote plan links n t ends i sent x j ≡ false
-  unfolding sendsVote
-  no-vote x j e = F-eq (sendsVote plan links n t ends i sent x j) (not-T (sendsVote plan links n t ends i sent x j) (λ y.
-      let l = ltb→lt (x % receivers) n (search and-l) in
-      let d : T (not (eqb (x % receivers) i)) = search (and-l, and-r) in
-      other-tick x (x % receivers) (omega arith) (λ w. T-not (eqb (x % receivers) i) d (rw w (eqb-refl i))) (λ w. omega arith) e (search (and-l, and-r))))
+  -- another one votes and replies
+  module _ (d : serving-structs.stages.Delivered.Delivered) (then mid : List ℕ) (alive : isFaulty (statusOf (s .status)) ≡ false) (D : DeliveredTo work values turn s d sets then)
+      (voted : Posted work mid (λ x j k. eqb k (from .i) && sendsVote plan from (λ y. eqb y (turn .wrote)) x j)) where
+    pub reached-now : (after : List ℕ) → Posted mid after (λ x j k. eqb k (from .i) && sendsReply plan from ends (λ y. bit y (d .readers)) (λ y. member y (keys (d .server .kept))) x j)
+        → Reached plan ends values turn from s (d .server) sets then work after
+    unfolding stageOne
+    reached-now after R = record {
+      out = record { server = server (turn .m) then (turn .server) (d .server); said = said };
+      first = rw alive (D .stage);
+      stage = refl;
+      others = D .others;
+      valued = D .valued;
+      posted = posted-eq work after _ _ (posted-trans work mid after _ _ voted R) (λ x j k l m.
+          rw votes (sym (and-or-distrib-left (eqb k (from .i)) (sendsVote plan from (λ y. eqb y (turn .wrote)) x j) (sendsReply plan from ends (said .readers) (λ y. member y (said .pairs)) x j))));
+    }
+      where
+        said : Said
+        said = record { wrote = turn .wrote; echoed = false; readers = λ x. bit x (d .readers); pairs = keys (d .server .kept) }
 
-  no-reply : (x j : ℕ) → x / receivers ≡ t % 16 → sendsReply plan links n t ends i sent x j ≡ false
-  unfolding sendsReply
-  no-reply x j e = F-eq (sendsReply plan links n t ends i sent x j) (not-T (sendsReply plan links n t ends i sent x j) (λ y.
-      let l = leb→le 16 (x % receivers) (search and-l) in
-      let q = n + (x % receivers - 15) in
-      other-tick x q (ltb→lt q (links .parties) (search (and-l, and-r))) (λ w. omega arith) (λ w. omega arith) e (search (and-l, and-r))))
+        votes : votesFor said ≡ (λ y. eqb y (turn .wrote))
+        votes = fun-ext (λ y. or-false (eqb y (turn .wrote)))
 
-  none-now : (x j : ℕ) → x / receivers ≡ t % 16 → sends plan links n t ends i sent x j ≡ false
-  none-now x j e = rw (no-vote x j e, no-reply x j e)
-
--- the same of the servers before b
-pub none-before : (F : Fed) (ends : List ℕ) → cluster-specs.Inputs.Tickable (F .plan) (F .work) (F .t) (F .rules) (F .known) (F .links) → (b : ℕ) → b < F .rules .n → (i x j : ℕ) (sent : serving-specs.declared.Outgoing.Outgoing) → i < b
-    → x / receivers ≡ F .t % 16 → sends (F .plan) (F .links) (F .rules .n) (F .t) ends i sent x j ≡ false
-none-before F ends Z b l i x j sent h e =
-    none-now (F .plan) (F .links) (F .rules .n) (F .t) ends i sent (Z .linked .writer) (omega arith) (λ q u v w. Z .delays i q (omega arith) u v w) x j e
-
--- ---- one server
+    pub reached-unread : d .readers ≡ 0 → Reached plan ends values turn from s (d .server) sets then work mid
+    reached-unread e = reached-now mid (posted-none mid _ (λ x j k l m.
+        rw (serving-laws.SendLaws.reply-none plan from ends (λ y. bit y (d .readers)) (λ y. member y (keys (d .server .kept))) x j (λ y. rw e (calendar-laws.Laws.bit-zero y)))
+        (and-false (eqb k (from .i)))))
 
 -- the feed of a later server: the workspace as the servers before it leave it
 abbrev pub feedAt : Fed → List ℕ → Fed
@@ -63,187 +76,227 @@ feedAt F work = record {
   work = work;
   t = F .t;
   rules = F .rules;
-  known = F .known;
+  m = F .m;
   links = F .links;
   arrivals = F .arrivals;
   movement = F .movement;
 }
 
--- what arrived is cleared, and what it sends is posted
-pub turned-here : (F : Fed) (ends : List ℕ) (b : ℕ) (s : Server) (o : Step) (cleared after : List ℕ) → Spanned (F .work)
-    → (Settled (F .known .m) (F .rules .echo) (F .rules .reply) (server s) → Stepped (F .work) b (F .arrivals) (F .movement) (F .t) (F .rules) (F .known .m) (server s) (both o))
-    → Cleared (F .work) cleared (rowOf (F .t) b) → Posted cleared after (λ x j k. eqb k b && sends (F .plan) (F .links) (F .rules .n) (F .t) ends b (o .sent) x j)
-    → CalmlyTurned F ends b s (o .server) after
-turned-here F ends b s o cleared after S T C P = record {
-  rest = past-trans (F .work) cleared after (C .rest) (P .rest);
-  spans = calendar-laws.Spans.posted-spanned cleared after _ P (calendar-laws.Spans.cleared-spanned (F .work) cleared (rowOf (F .t) b) C S);
-  turned = λ K. record {
-    out = o;
-    done = T K;
-    next = refl;
-    cells = λ x j i h m. P .cells x j i h m ∙ rw (calendar-laws.Spans.cleared-cells (F .work) cleared (rowOf (F .t) b) C S x j i h m);
-  };
-}
+-- server b has what arrives, and what it sends is posted; its row is not cleared yet
+pub record Served (F : Fed) (ends values : List ℕ) (b : ℕ) (s q : Server) (sets then mid : List ℕ) : Type 0 where
+  pub stage : server (F .m) then b q ≡ firstOf F b (server (F .m) sets b s) .server
+  pub others : SameOthers sets then b
+  pub valued : Valued values (s .kept) → Valued values (q .kept)
+  pub posted : Posted (F .work) mid (λ x j k. eqb k b && sentBy F ends b (firstOf F b (server (F .m) sets b s) .said) x j)
+
+-- one that something reaches
+module _ (plan work : List ℕ) (feed : Feed) (ends values : List ℕ) (b : ℕ) (s q : Server) (sets then mid : List ℕ) where
+  abbrev turnTo : ℕ → Turn
+  turnTo asks = record {
+    server = b;
+    row = rowOf (feed .t) b;
+    wrote = wroteAt (feed .arrivals .requests) (feed .arrivals .number) b;
+    asks = asks;
+    live = feed .arrivals .live;
+    m = feed .m;
+    rules = feed .rules;
+  }
+
+  abbrev by : Sender
+  by = senderAt (feed .links) (feed .rules) (feed .t) b
+
+  served-at : (asks : ℕ) → _≡_ {A = ℕ → Bool} (λ x. bit x asks) (asksAt (feed .arrivals .requests) b) → Reached plan ends values (turnTo asks) by s q sets then work mid
+      → Served (feedOf plan work feed) ends values b s q sets then mid
+  served-at asks e R =
+      let first : R .out ≡ firstOf (feedOf plan work feed) b (server (feed .m) sets b s) = rw e at (R .first) in
+      record {
+        stage = R .stage ∙ ap (λ (o : Both). o .server) first;
+        others = R .others;
+        valued = R .valued;
+        posted = subst (λ (o : Both). Posted work mid (λ x j k. eqb k b && sends plan by ends (o .said) x j)) first (R .posted);
+      }
+
+  pub served-now : (turn : Turn) (from : Sender) → TurnOf feed b turn → from ≡ senderAt (feed .links) (feed .rules) (feed .t) b
+      → Reached plan ends values turn from s q sets then work mid → Served (feedOf plan work feed) ends values b s q sets then mid
+  served-now turn from T e R = served-at (turn .asks) (T .asks)
+      (subst (λ (y : Sender). Reached plan ends values (turnTo (turn .asks)) y s q sets then work mid) e
+      (subst (λ (x : Turn). Reached plan ends values x from s q sets then work mid) (T .turn) R))
+
+-- what it needs
+pub deliver-needs : (plan work : List ℕ) (feed : Feed) (values : List ℕ) (b : ℕ) (s : Server) (sets : List ℕ) (turn : Turn) (from : Sender)
+    → Tickable plan work (feed .t) (feed .rules) (feed .m) (feed .links) → b < feed .rules .n → length sets ≡ tableSize → length values ≡ places
+    → Settled (feed .m) (feed .rules .echo) (feed .rules .reply) (server (feed .m) sets b s) → TurnOf feed b turn → from ≡ senderAt (feed .links) (feed .rules) (feed .t) b
+    → Reachable work sets values turn × Ready plan from × Settled (turn .m) (turn .rules .echo) (turn .rules .reply) (server (turn .m) sets (turn .server) s)
+deliver-needs plan work feed values b s sets turn from Z own size known K T e =
+    let few : b < 16 = omega (arith, Z .servers) in (
+      subst (λ (x : Turn). Reachable work sets values x) (sym (T .turn))
+          (record { room = Z .room; spans = Z .spans; table = size; known = known; server = few; row = omega arith; pairs = Z .pairs }),
+      subst (λ (x : Sender). Ready plan x) (sym e) (record { linked = rw (add-one (feed .t)) (Z .linked); tick = Z .tick; sender = own }),
+      subst (λ (x : Turn). Settled (x .m) (x .rules .echo) (x .rules .reply) (server (x .m) sets (x .server) s)) (sym (T .turn)) K,
+    )
+
+-- one that nothing reaches stays, and sends nothing
+pub served-idle : (F : Fed) (ends values : List ℕ) (b : ℕ) (s : Server) (sets : List ℕ) → b < 16 → F .m ≤ places → Spanned (F .work) → highOf (F .work) (rowOf (F .t) b) ≡ 0
+    → isAsked (F .arrivals .requests) b ≡ false → bitAnd (s .pending) (F .arrivals .live) ≡ s .pending
+    → Settled (F .m) (F .rules .echo) (F .rules .reply) (server (F .m) sets b s) → Served F ends values b s s sets sets (F .work)
+served-idle F ends values b s sets l few S none unasked goes K =
+    let p = server (F .m) sets b s in
+    let w = wroteAt (F .arrivals .requests) (F .arrivals .number) b in
+    let asks : ℕ → Bool = asksAt (F .arrivals .requests) b in
+    let live : ℕ → Bool = λ x. bit x (F .arrivals .live) in
+    let got : ℕ → ℕ → Bool = sender (F .work) (rowOf (F .t) b) in
+    let empty : (j i : ℕ) → j < F .m → got j i ≡ false = λ j i h. empty-row (F .work) (rowOf (F .t) b) S (omega arith) none j i (omega arith) in
+    let far : places ≤ w = omega (arith, none-wrote (F .arrivals .requests) b unasked (F .arrivals .number)) in
+    let quiet = none-asks (F .arrivals .requests) b unasked in
+    let lasts = none-drops (s .pending) (F .arrivals .live) goes in
+    let e = idle-one (F .m) (F .rules .echo) (F .rules .reply) w got asks live p K few empty far quiet lasts in
+    record {
+      stage = rw e;
+      others = serving-laws.TallyLaws.others-none sets b;
+      valued = λ v. v;
+      posted = posted-none (F .work) _ (λ x j k h m.
+          rw (e, quiet-sends (F .m) (F .rules .echo) (F .rules .reply) w got asks live p K few empty far quiet lasts (F .plan) (senderAt (F .links) (F .rules) (F .t) b) ends (isFaulty (p .status)) x j m)
+          (and-false (eqb k b)));
+    }
+
+-- the same in the array of the servers
+pub record Passed (F : Fed) (ends values : List ℕ) (b : ℕ) (r after : List Server) (sets then mid : List ℕ) : Type 0 where
+  pub next : Server
+  pub put : after ≡ set r b next
+  pub served : Served F ends values b (getD r b absent) next sets then mid
+
+pub passed-idle : (F : Fed) (ends values : List ℕ) (b : ℕ) (r : List Server) (sets : List ℕ) → Served F ends values b (getD r b absent) (getD r b absent) sets sets (F .work)
+    → Passed F ends values b r r sets sets (F .work)
+passed-idle F ends values b r sets S = record { next = getD r b absent; put = sym (set-getD r b absent); served = S }
+
+-- ---- nothing arrives in the tick in which it is sent
+
+pub none-sent : (F : Fed) (ends : List ℕ) → Tickable (F .plan) (F .work) (F .t) (F .rules) (F .m) (F .links) → (i x j : ℕ) (said : Said) → i < F .rules .n
+    → x / receivers ≡ F .t % 16 → sentBy F ends i said x j ≡ false
+none-sent F ends Z i x j said h e =
+    serving-laws.SendLaws.none-now (F .plan) (senderAt (F .links) (F .rules) (F .t) i) (Z .linked .writer) h (λ q u v w. Z .delays i q h u v w) ends said x j e
 
 -- ---- the loop over the servers
 
--- before any server has done the tick
-noStep : Step
-noStep = record { server = absent; sent = record { wrote = 0; echoed = false; readers = 0; kept = [] } }
+module _ (F : Fed) (ends values : List ℕ) (c : List Server) (sets : List ℕ) where
+  -- what server i sends
+  abbrev posts : ℕ → ℕ → ℕ → Bool
+  posts i x j = sentBy F ends i (firstOf F i (serverAt (F .m) sets c i) .said) x j
 
-module _ (F : Fed) (ends : List ℕ) (c : List Server) where
-  abbrev posts : ℕ → serving-specs.declared.Outgoing.Outgoing → ℕ → ℕ → Bool
-  posts i sent x j = sends (F .plan) (F .links) (F .rules .n) (F .t) ends i sent x j
+  -- the first n servers have what arrives; the others are as they were
+  pub record Serving (r : List Server) (then work : List ℕ) (n : ℕ) : Type 0 where
+    pub done : Delivered F ends values c r sets then work n
+    pub rest : (k : ℕ) → n ≤ k → getD r k absent ≡ getD c k absent
+    pub votes : (k : ℕ) (s : Server) → n ≤ k → k < 16 → server (F .m) then k s ≡ server (F .m) sets k s
 
-  -- the first n servers have done the tick, if all were settled; the others are as they were
-  pub record Serving (r : List Server) (work : List ℕ) (n : ℕ) : Type 0 where
-    pub past : SamePast (F .work) work
-    pub spans : Spanned work
-    pub rest : (b : ℕ) → n ≤ b → getD r b absent ≡ getD c b absent
-    pub served : Calm (F .rules) (F .known) c → TurnedFirst F ends c r work n
-
-  pub serving-none : Spanned (F .work) → Serving c (F .work) 0
+  pub serving-none : Spanned (F .work) → Serving c sets (F .work) 0
   serving-none S = record {
-    past = past-same (F .work);
-    spans = S;
-    rest = λ b l. refl;
-    served = λ calm. record {
-      outs = λ b. noStep;
+    done = record {
+      rest = past-same (F .work);
+      spans = S;
       size = refl;
-      done = λ b l. absurd (omega arith);
-      next = λ b l. absurd (omega arith);
+      servers = refl;
+      each = λ b l. absurd (omega arith);
+      named = λ k l. refl;
+      valued = λ v. v;
       cells = λ x j i l m.
           rw (le-ltb (x % receivers) 0 (omega arith), le-ltb i 0 (omega arith), and-false (eqb (x / receivers) (F .t % 16))) (sym (or-false (sender (F .work) x j i)));
     };
+    rest = λ k l. refl;
+    votes = λ k s l m. refl;
   }
 
-  module _ (r : List Server) (work : List ℕ) (b : ℕ) (l : b < 16) (size : length c ≡ 16) (H : Serving r work b)
-      (now : (i x j : ℕ) (sent : serving-specs.declared.Outgoing.Outgoing) → i < b → x / receivers ≡ F .t % 16 → posts i sent x j ≡ false) where
-    same : getD r b absent ≡ getD c b absent
-    same = H .rest b (omega arith)
+  module _ (Z : Tickable (F .plan) (F .work) (F .t) (F .rules) (F .m) (F .links)) (r : List Server) (then work : List ℕ) (b : ℕ) (own : b < F .rules .n) (size : length c ≡ 16)
+      (H : Serving r then work b) where
+    abbrev D : Delivered F ends values c r sets then work b
+    D = H .done
 
-    module _ (calm : Calm (F .rules) (F .known) c) where
-      abbrev S : TurnedFirst F ends c r work b
-      S = H .served calm
+    few : b < 16
+    few = omega (arith, Z .servers)
 
-      -- no server before it has sent anything that arrives now
-      none-yet : (x j i : ℕ) → x / receivers ≡ F .t % 16 → ltb i b && posts i (S .outs i .sent) x j ≡ false
-      none-yet x j i e = elim (decLe b i) [ yes d ↦ rw (le-ltb i b d) | no d ↦ rw (now i x j (S .outs i .sent) (omega arith) e) (and-false (ltb i b)) ]
+    same : server (F .m) then b (getD r b absent) ≡ serverAt (F .m) sets c b
+    same = rw (H .rest b (omega arith)) (H .votes b (getD c b absent) (omega arith) few)
 
-      -- its row is as it was
-      still : (j i : ℕ) → j < places → sender work (rowOf (F .t) b) j i ≡ sender (F .work) (rowOf (F .t) b) j i
-      still j i m =
-          let e : rowOf (F .t) b / receivers ≡ F .t % 16 = omega arith in
-          let d : rowOf (F .t) b % receivers ≡ b = omega arith in
-          S .cells (rowOf (F .t) b) j i (omega arith) m
-          ∙ rw (none-yet (rowOf (F .t) b) j i e, d, le-ltb b b (omega arith), and-false (eqb (rowOf (F .t) b / receivers) (F .t % 16)))
-          (or-false (sender (F .work) (rowOf (F .t) b) j i))
+    -- no server before n has sent anything that arrives now
+    none-yet : (n x j i : ℕ) → n ≤ F .rules .n → x / receivers ≡ F .t % 16 → ltb i n && posts i x j ≡ false
+    none-yet n x j i h e = elim (decLe n i) [
+      | yes d ↦ rw (le-ltb i n d)
+      | no d ↦ rw (none-sent F ends Z i x j (firstOf F i (serverAt (F .m) sets c i) .said) (omega arith) e) (and-false (ltb i n))
+    ]
 
-      module _ (q : Server) (after : List ℕ) (T : Turned (feedAt F work) ends b (getD r b absent) q after) where
-        abbrev outs : ℕ → Step
-        outs i = cond (eqb i b) (T .out) (S .outs i)
+    -- its row is as it was
+    still : (j i : ℕ) → j < places → sender work (rowOf (F .t) b) j i ≡ sender (F .work) (rowOf (F .t) b) j i
+    still j i m =
+        let l = few in
+        let e : rowOf (F .t) b / receivers ≡ F .t % 16 = omega arith in
+        let d : rowOf (F .t) b % receivers ≡ b = omega arith in
+        D .cells (rowOf (F .t) b) j i (omega arith) m
+        ∙ rw (none-yet b (rowOf (F .t) b) j i (omega arith) e, d, le-ltb b b (omega arith), and-false (eqb (rowOf (F .t) b / receivers) (F .t % 16)))
+        (or-false (sender (F .work) (rowOf (F .t) b) j i))
 
-        stepped : Stepped (F .work) b (F .arrivals) (F .movement) (F .t) (F .rules) (F .known .m) (server (getD c b absent)) (both (T .out))
-        stepped = let U = rw same at (T .done) in
-            record { votes = U .votes; came = λ h j i m n. U .came h j i m n ∙ rw (still j i m); stages = U .stages }
+    first : firstOf (feedAt F work) b (server (F .m) then b (getD r b absent)) ≡ firstOf F b (serverAt (F .m) sets c b)
+    first = rw same (serving-laws.StageLaws.one-alike (F .m) (F .rules .echo) (F .rules .reply) (wroteAt (F .arrivals .requests) (F .arrivals .number) b)
+        (sender work (rowOf (F .t) b)) (sender (F .work) (rowOf (F .t) b)) (asksAt (F .arrivals .requests) b) (λ x. bit x (F .arrivals .live)) (serverAt (F .m) sets c b)
+        (λ j i l. still j i (omega (arith, Z .pairs))))
 
-        by-all : (x j i : ℕ) → (ltb i b && posts i (S .outs i .sent) x j) || (eqb i b && posts b (T .out .sent) x j) ≡ ltb i (b + 1) && posts i (outs i .sent) x j
-        by-all x j i = elim (ℕ-discrete i b) [
-          | yes e ↦ rw (e, le-ltb b b (omega arith), eq-eqb b b refl, lt-ltb b (b + 1) (omega arith))
-          | no d ↦ rw (ne-eqb i b d) (rw (ne-eqb i b d) at (calendar-laws.Laws.ltb-more i b (posts i (S .outs i .sent) x j)))
-        ]
+    by-all : (x j i : ℕ) → (ltb i b && posts i x j) || (eqb i b && posts b x j) ≡ ltb i (b + 1) && posts i x j
+    by-all x j i = rw (calendar-laws.Laws.under (eqb i b) (posts b x j) (posts i x j) (λ e. rw (eqb-true i b e))) (calendar-laws.Laws.ltb-more i b (posts i x j))
 
+    pub serving-settled : Calm F sets c → Settled (F .m) (F .rules .echo) (F .rules .reply) (server (F .m) then b (getD r b absent))
+    serving-settled calm = rw same (calm b own)
+
+    module _ (r' : List Server) (next mid : List ℕ) (M : Passed (feedAt F work) ends values b r r' then next mid) where
+      abbrev T : Served (feedAt F work) ends values b (getD r b absent) (M .next) then next mid
+      T = M .served
+
+      pub served-spans : Spanned mid
+      served-spans = calendar-laws.Spans.posted-spanned work mid _ (T .posted) (D .spans)
+
+      -- its row is empty if it was
+      pub served-empty : highOf work (rowOf (F .t) b) ≡ 0 → Emptied mid mid (rowOf (F .t) b)
+      served-empty none =
+          let l = few in
+          let row = rowOf (F .t) b in
+          let quiet : (j i : ℕ) → j < places → eqb i b && sentBy (feedAt F work) ends b (firstOf (feedAt F work) b (server (F .m) then b (getD r b absent)) .said) row j ≡ false =
+          λ j i m. rw (none-sent F ends Z b row j (firstOf (feedAt F work) b (server (F .m) then b (getD r b absent)) .said) own (omega arith)) (and-false (eqb i b)) in
+          emptied-before mid row served-spans (omega arith) (T .posted .still row (omega arith) quiet .1 ∙ none)
+
+      module _ (after : List ℕ) (E : Emptied mid after (rowOf (F .t) b)) where
         cells : (x j i : ℕ) → x < rows → j < places
-            → sender after x j i ≡ (not (eqb (x / receivers) (F .t % 16) && ltb (x % receivers) (b + 1)) && sender (F .work) x j i) || (ltb i (b + 1) && posts i (outs i .sent) x j)
+            → sender after x j i ≡ (not (eqb (x / receivers) (F .t % 16) && ltb (x % receivers) (b + 1)) && sender (F .work) x j i) || (ltb i (b + 1) && posts i x j)
         cells x j i h m =
+            let l = few in
             let more = rw leb·zero at (calendar-laws.Clearing.row-more (F .t) 0 b x (sender (F .work) x j i) h (omega arith) (omega arith)) in
-            T .cells x j i h m ∙ rw (S .cells x j i h m, ← more, ← by-all x j i) (elim (ℕ-discrete x (rowOf (F .t) b)) [
-              | yes e ↦ rw (eq-eqb x (rowOf (F .t) b) e, none-yet x j i (omega arith))
-              | no d ↦ rw (ne-eqb x (rowOf (F .t) b) d) (or-assoc (not (eqb (x / receivers) (F .t % 16) && ltb (x % receivers) b) && sender (F .work) x j i)
-                  (ltb i b && posts i (S .outs i .sent) x j) (eqb i b && posts b (T .out .sent) x j))
+            E .cells x j i h m ∙ rw (← more) (elim (ℕ-discrete x (rowOf (F .t) b)) [
+              | yes e ↦ rw (eq-eqb x (rowOf (F .t) b) e, none-yet (b + 1) x j i (omega arith) (omega arith))
+              | no d ↦ rw (ne-eqb x (rowOf (F .t) b) d, T .posted .cells x j i h m, first, D .cells x j i h m, ← by-all x j i)
+                  (or-assoc (not (eqb (x / receivers) (F .t % 16) && ltb (x % receivers) b) && sender (F .work) x j i) (ltb i b && posts i x j) (eqb i b && posts b x j))
             ])
 
-        served-turn : TurnedFirst F ends c (set r b q) after (b + 1)
-        served-turn = record {
-          outs = outs;
-          size = length-set r b q ∙ S .size;
-          done = λ i h. elim (ℕ-discrete i b) [ yes e ↦ rw (e, eq-eqb b b refl) stepped | no d ↦ rw (ne-eqb i b d) (S .done i (omega arith)) ];
-          next = λ i h. elim (ℕ-discrete i b) [
-            | yes e ↦ rw (e, eq-eqb b b refl) (getD-set-same r b q absent (omega (arith, S .size)) ∙ T .next)
-            | no d ↦ rw (ne-eqb i b d) (getD-set-other r b i q absent d ∙ S .next i (omega arith))
-          ];
-          cells = cells;
+        others : (k : ℕ) (s : Server) → (k ≡ b → ⊥) → k < 16 → server (F .m) next k s ≡ server (F .m) then k s
+        others k s d h = serving-laws.TallyLaws.others-same then next b k (F .m) s (T .others) d few h (Z .pairs)
+
+        turned : Serving (set r b (M .next)) next after (b + 1)
+        turned = record {
+          done = record {
+            rest = past-trans (F .work) mid after (past-trans (F .work) work mid (D .rest) (T .posted .rest)) (E .rest);
+            spans = E .spans;
+            size = T .others .size ∙ D .size;
+            servers = length-set r b (M .next) ∙ D .servers;
+            each = λ i h. elim (ℕ-discrete i b) [
+              | yes e ↦ rw (e, getD-set-same r b (M .next) absent (omega (arith, D .servers, few))) (T .stage ∙ ap (λ (o : Both). o .server) first)
+              | no d ↦ rw (getD-set-other r b i (M .next) absent d) (others i (getD r i absent) d (omega (arith, few)) ∙ D .each i (omega arith))
+            ];
+            named = λ k l. serving-laws.TallyLaws.named-same then next b (T .others) few k l ∙ D .named k l;
+            valued = λ v i h. elim (ℕ-discrete i b) [
+              | yes e ↦ rw (e, getD-set-same r b (M .next) absent (omega (arith, D .servers, few))) (T .valued (rw (H .rest b (omega arith)) (v b own)))
+              | no d ↦ rw (getD-set-other r b i (M .next) absent d) (D .valued v i h)
+            ];
+            cells = cells;
+          };
+          rest = λ k h. getD-set-other r b k (M .next) absent (λ e. omega arith) ∙ H .rest k (omega arith);
+          votes = λ k s h l. others k s (λ e. omega arith) l ∙ H .votes k s (omega arith) l;
         }
 
-    -- a server that something reaches
-    pub serving-turn : b < F .rules .n → (q : Server) (after : List ℕ) → CalmlyTurned (feedAt F work) ends b (getD r b absent) q after → Serving (set r b q) after (b + 1)
-    serving-turn own q after T = record {
-      past = past-trans (F .work) work after (H .past) (T .rest);
-      spans = T .spans;
-      rest = λ i h. getD-set-other r b i q absent (λ e. omega arith) ∙ H .rest i (omega arith);
-      served = λ calm. served-turn calm q after (T .turned (rw same (calm b own)));
-    }
-
-    -- a server that nothing new reaches
-    pub serving-idle : b < F .rules .n → F .known .m ≤ places → (due : ℕ) → bit b due ≡ cluster-specs.Inputs.isAsked (F .arrivals .requests) b → (busy any : Bool)
-        → busy ≡ called b due (F .arrivals .live) (F .movement .moving) (F .t) (F .rules .delta) (statusOf (getD r b absent .status)) (getD r b absent .pending)
-        → any ≡ reached busy work (rowOf (F .t) b) (statusOf (getD r b absent .status)) (keys (getD r b absent .kept)) → any ≡ false
-        → (after : List ℕ) → Emptied work after (rowOf (F .t) b) → Serving r after (b + 1)
-    serving-idle own few due all busy any q e none after E = record {
-      past = past-trans (F .work) work after (H .past) (E .rest);
-      spans = E .spans;
-      rest = λ i h. H .rest i (omega arith);
-      served = λ calm. subst (λ (x : List Server). TurnedFirst F ends c x after (b + 1)) (set-getD r b absent) (served-turn calm (getD r b absent) after
-          (idle-turned (feedAt F work) ends b (getD r b absent) l (H .spans) few (unreached work b (F .arrivals) (F .movement) (F .t) (F .rules .delta) _ _ _ due all busy q (sym e ∙ none))
-          (rw same (calm b own)) after E));
-    }
-
--- ---- the whole tick
-
-pub sized-after : (plan work after : List ℕ) (t : ℕ) (rules : serving-specs.declared.Rules.Rules) (known : cluster-specs.declared.Known.Known) (links : serving-specs.declared.Links.Links)
-    → cluster-specs.Inputs.Tickable plan work t rules known links → SamePast work after → Spanned after → cluster-specs.Inputs.Tickable plan after t rules known links
-sized-after plan work after t rules known links Z P S = record {
-  room = omega (arith, Z .room, P .size);
-  spans = S;
-  tick = Z .tick;
-  servers = Z .servers;
-  delta = Z .delta;
-  pairs = Z .pairs;
-  echo = Z .echo;
-  reply = Z .reply;
-  linked = Z .linked;
-  delays = Z .delays;
-}
-
-two-taken : (a b c s : Bool) → not (a && b) && (not (a && c) && s) ≡ not (a && (b || c)) && s
-two-taken true true c s = refl
-two-taken true false c s = refl
-two-taken false b c s = refl
-
--- a server's row is not a reader's, so it is as it was before the readers heard
-pub calmly-ticked : (F : Fed) (c : cluster-specs.declared.Cluster.Cluster) (heard : List cluster-specs.declared.Reader.Reader) (served : List Server) (noted work : List ℕ) → F .rules .n ≤ 16 → length (c .servers) ≡ 16
-    → Heard (F .work) noted (F .t) (c .readers) heard → CalmlyServed (feedAt F noted) (endsOf (c .readers)) (c .servers) served work
-    → CalmlyTicked F c (record { servers = served; readers = heard }) work
-unfolding present
-calmly-ticked F c heard served noted work few size H Z = record {
-  rest = past-trans (F .work) noted work (H .rest) (Z .rest);
-  spans = Z .spans;
-  ticked = λ calm.
-      let S = Z .served calm in
-      record {
-        outs = S .outs;
-        servers = S .size ∙ size;
-        done = λ b l.
-            let T = S .done b l in
-            let d : rowOf (F .t) b % receivers ≡ b = omega arith in
-            record {
-              votes = T .votes;
-              came = λ h j i m n. T .came h j i m n ∙ rw (H .cells (rowOf (F .t) b) j i (omega arith) m, d, lt-leb 16 b (omega arith), and-false (eqb (rowOf (F .t) b / receivers) (F .t % 16)));
-              stages = T .stages;
-            };
-        next = S .next;
-        heard = H .readers;
-        cells = λ x j i l m. S .cells x j i l m
-            ∙ rw (H .cells x j i l m, two-taken (eqb (x / receivers) (F .t % 16)) (ltb (x % receivers) (F .rules .n)) (leb 16 (x % receivers)) (sender (F .work) x j i));
-      };
-}
+        pub serving-turn : Serving r' next after (b + 1)
+        serving-turn = subst (λ (x : List Server). Serving x next after (b + 1)) (sym (M .put)) turned

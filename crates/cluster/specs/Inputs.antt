@@ -60,13 +60,13 @@ asksAt requests b x = ltb x requesters && (ltb 0 x && bit b (getD requests x 0))
 -- ---- what a tick is fed
 
 -- what a tick's code needs of the sizes
-pub record Tickable (plan work : List ℕ) (t : ℕ) (rules : Rules) (known : Known) (links : Links) : Type 0 where
+pub record Tickable (plan work : List ℕ) (t : ℕ) (rules : Rules) (m : ℕ) (links : Links) : Type 0 where
   pub room : calendarSize ≤ length work
   pub spans : Spanned work
   pub tick : t < 128
   pub servers : rules .n ≤ mostServers
   pub delta : rules .delta ≤ 15
-  pub pairs : known .m ≤ places
+  pub pairs : m ≤ places
   pub echo : 1 ≤ rules .echo
   pub reply : 1 ≤ rules .reply
   pub linked : Linked plan links (rules .n) (suc t)
@@ -74,7 +74,7 @@ pub record Tickable (plan work : List ℕ) (t : ℕ) (rules : Rules) (known : Kn
   pub delays : (i q : ℕ) → i < rules .n → q < links .parties → (q ≡ i → ⊥) → (q ≡ rules .n → ⊥) → 1 ≤ delayAt plan links t i q
 
 -- what is handed to tick t is what the plan, whose pairs are g 0, g 1 .., says of it
-pub record Fits (P : Plan) (g : ℕ → ℕ) (t : ℕ) (plan : List ℕ) (rules : Rules) (known : Known) (links : Links) (arrivals : Arrivals) (movement : Movement) : Type 0 where
+pub record Fits (P : Plan) (g : ℕ → ℕ) (t : ℕ) (plan : List ℕ) (rules : Rules) (m : ℕ) (links : Links) (arrivals : Arrivals) (movement : Movement) : Type 0 where
   pub n : rules .n ≡ P .n
   pub delta : rules .delta ≡ P .delta
   pub two : rules .two ≡ eqb (kk P) 2
@@ -85,7 +85,7 @@ pub record Fits (P : Plan) (g : ℕ → ℕ) (t : ℕ) (plan : List ℕ) (rules 
   pub replies : (i : ℕ) (r : Read) → i < P .n → In r (P .reads) → (P .n + r .reader < links .parties) × (delayAt plan links t i (P .n + r .reader) ≡ P .delay t i (P .n + r .reader))
   pub moving : movement .moving ≡ isMove P t
   pub faulty : isMove P t ≡ true → (b : ℕ) → b < P .n → bit (mostServers - 1 - b) (movement .faulty) ≡ P .placed (t / P .period) b
-  pub wrote : (b j : ℕ) → b < P .n → j < known .m → member (g j) (writesIn P t b) ≡ eqb j (wroteAt (arrivals .requests) (arrivals .number) b)
+  pub wrote : (b j : ℕ) → b < P .n → j < m → member (g j) (writesIn P t b) ≡ eqb j (wroteAt (arrivals .requests) (arrivals .number) b)
   pub asks : (b : ℕ) (r : Read) → b < P .n → In r (P .reads) → r .begun < t → t ≤ readEnd P r
       → any (sameRead r) (readsIn P t b) ≡ asksAt (arrivals .requests) b (r .reader)
   pub lasting : (r : Read) → In r (P .reads) → suc (r .begun) < t → t ≤ readEnd P r → bit (r .reader) (arrivals .live) ≡ true

@@ -1,3 +1,2 @@
-pub mod Tick
-pub mod Settled
 pub mod Inputs
+pub mod Tick
