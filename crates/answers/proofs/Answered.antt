@@ -17,7 +17,7 @@ use Rattle.register.proofs as register-laws
 use Rattle.register.proofs.Good.{Good}
 use Rattle.register.proofs.ReadSafety.{quorum-genuine, answer-from}
 use Rattle.cluster.specs.Inputs.{Knows}
-use Rattle.states.proofs.RepLaws.{count-cut}
+use Rattle.serving.proofs.BitLaws.{count-cut}
 use Rattle.answers.specs.declared.Choice.{Choice}
 use Rattle.answers.specs.Choosing.{highestOf, answerBy}
 

@@ -1,25 +1,25 @@
--- The highest number with a quorum: a turn of its loop, and that it is a known pair's.
-use mathlib.Core.Path.{_≡_}
-use mathlib.Core.Bool.{Bool, true, cond}
-use Prim.Native.Nat.{ℕ, zero, suc, _+_, _≤_, _<_}
+-- The highest number with a quorum, looked for from the top down, and that it is a known pair's.
+use mathlib.Core.Path.{_≡_, sym, _∙_}
+use mathlib.Core.Bool.{Bool, true}
+use Prim.Native.Nat.{ℕ, zero, suc, _≤_, _<_}
 use native.Mathlib.Omega.{arith}
-use native.Mathlib.Numerals.{add-one}
 use lib.Dec.{leb}
-use lib.ListN.{getD}
+use borrow.Author.Tests.{le-leb, lt-leb}
 use Rattle.register.specs.Lists.{count}
 use Rattle.register.proofs.Logic.{cond-e}
-use Rattle.calendar.specs.Bits.{bit}
 use Rattle.calendar.specs.Layout.{places}
-use Rattle.serving.specs.declared.Voters.{Voters}
-use Rattle.serving.specs.Bits.{listed, sets}
 use Rattle.answers.specs.declared.Choice.{Choice}
 use Rattle.answers.specs.Choosing.{highestOf}
 
-pub highest-more : (names : Voters) (reply j v : ℕ) (best r : Choice) → v ≡ getD (listed names) j 0 → best ≡ highestOf (sets names) reply j
-    → r ≡ cond (leb reply (count (λ i. bit i v) 16)) (record { found = true; number = j; count = count (λ i. bit i v) 16 }) best
-    → r ≡ highestOf (sets names) reply (j + 1)
-unfolding highestOf
-highest-more names reply j v best r at e q = rw (add-one j, ← e) (rw at at q)
+-- no pair above j has a quorum; pair j has one, or it has none either
+module _ (named : ℕ → ℕ → Bool) (reply m j n : ℕ) (above : highestOf named reply m ≡ highestOf named reply (suc j)) (is : n ≡ count (named j) 16) where
+  pub highest-here : reply ≤ n → record { found = true; number = j; count = n } ≡ highestOf named reply m
+  unfolding highestOf
+  highest-here h = sym (above ∙ rw (← is, le-leb reply n h))
+
+  pub highest-below : n < reply → highestOf named reply m ≡ highestOf named reply j
+  unfolding highestOf
+  highest-below h = above ∙ rw (← is, lt-leb reply n h)
 
 -- what is chosen is one of the known pairs, or 0
 pub choice-below : (named : ℕ → ℕ → Bool) (reply m : ℕ) → m ≤ places → highestOf named reply m .number < places

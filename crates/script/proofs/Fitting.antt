@@ -62,7 +62,7 @@ module _ (s before after : List ℕ) (r : script-specs.declared.Script.Script) (
         ap (λ (f : ℕ → Bool). f (q .reader)) (comes .live)
         ∙ rw (lt-ltb (q .reader) cluster-specs.Inputs.requesters (omega arith), lt-ltb 0 (q .reader) (omega arith), open-ends q (record { listed = iq; begun = begun; lasts = lasts }))
 
-    pub script-fits : cluster-specs.Inputs.Fits (planOf w s) (cluster-specs.Inputs.pairAt w (r .writes .known)) t s (r .rules) (r .writes .known) (r .links) arrivals movement
+    pub script-fits : cluster-specs.Inputs.Fits (planOf w s) (cluster-specs.Inputs.pairAt w (r .writes .known)) t s (r .rules) (r .writes .known .m) (r .links) arrivals movement
     unfolding planOf register-specs.Plan.isMove cluster-specs.Inputs.wroteAt cluster-specs.Inputs.asksAt
     script-fits = record {
       n = R .rules .n;
@@ -98,7 +98,7 @@ module _ (s before after : List ℕ) (r : script-specs.declared.Script.Script) (
     }
 
   pub script-sized : (work : List ℕ) (t : ℕ) → t < headerOf w s .ticks → script-specs.Forged.entriesEnd ≤ length work → calendar-specs.View.Spanned work
-      → cluster-specs.Inputs.Tickable s work t (r .rules) (r .writes .known) (r .links)
+      → cluster-specs.Inputs.Tickable s work t (r .rules) (r .writes .known .m) (r .links)
   script-sized work t below room spans =
       let H = plan-laws.Accept.in-range w s A in
       record {

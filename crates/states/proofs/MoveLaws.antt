@@ -7,7 +7,7 @@ use native.Mathlib.Omega.{arith}
 use lib.Dec.{T, ltb, eqb}
 use Rattle.register.specs.Lists.{any, member}
 use Rattle.register.specs.Plan.{Plan, kk, isMove}
-use Rattle.register.specs.Server.{Status, faulty, cured, isFaulty, isCorrect, Claim, has, Server, Out, stage3, stage4, blank, moved}
+use Rattle.register.specs.Server.{Status, faulty, cured, isFaulty, isCorrect, has, Server, Out, stage3, stage4, blank, moved}
 use Rattle.register.proofs.Logic.{T-eq, F-eq, cond-e}
 use Rattle.register.proofs.Lists.{any-append}
 use Rattle.register.proofs.Rising.{member-map}
@@ -17,33 +17,33 @@ use Rattle.states.specs.State.{Votes, Rep}
 use Rattle.states.proofs.Told.{both-cond, Mid, End}
 
 module _ (P : Plan) (g : ℕ → ℕ) (rising : (i j : ℕ) → i < j → g i < g j) (m : ℕ) where
-  no-votes : (l : List ℕ) → Votes P g m l [] noVotes
+  no-votes : Votes P g m [] noVotes
   unfolding has any
-  no-votes l j i h n = sym (and-false (ltb i (P .n)))
+  no-votes j i h = sym (and-false (ltb i (P .n)))
 
   blank-rep : (t : ℕ) (s : Status) → Rep P g m t (blank s) (blankAs s)
-  unfolding any
+  unfolding has any
   blank-rep t s = record {
     status = refl;
     kept = refl;
     short = omega arith;
-    fresh = no-votes [];
-    old = no-votes [];
+    fresh = no-votes;
+    recent = no-votes;
     heard = λ r i a b. refl;
     unheard = λ r i a. refl;
     empty = λ y. (refl, refl);
   }
 
   moved-rep : (t : ℕ) (h : Bool) (x : Server) (s : Plain) → Rep P g m (suc t) x s → Rep P g m (suc t) (moved P t h x) (movedOn (eqb (kk P) 2) h t s)
-  unfolding moved movedOn
+  unfolding moved movedOn has any
   moved-rep t true x s R = blank-rep (suc t) faulty
   moved-rep t false x s R =
       rw (R .status) (both-cond (Rep P g m (suc t)) (isFaulty (s .status)) (blank (cured t)) _ (blankAs (cured t)) _ (λ y. blank-rep (suc t) (cured t)) (λ h. record {
         status = refl;
         kept = R .kept;
         short = R .short;
-        fresh = no-votes (x .kept);
-        old = both-cond (λ (l : List Claim) (f : ℕ → ℕ → Bool). Votes P g m (x .kept) l f) (eqb (kk P) 2) (x .fresh) [] (s .fresh) noVotes (λ y. R .fresh) (λ y. no-votes (x .kept));
+        fresh = no-votes;
+        recent = both-cond (Votes P g m) (eqb (kk P) 2) (x .fresh) [] (s .fresh) noVotes (λ y. R .fresh) (λ y. no-votes);
         heard = R .heard;
         unheard = R .unheard;
         empty = λ y. absurd (rw h at y);
@@ -89,7 +89,7 @@ module _ (P : Plan) (g : ℕ → ℕ) (rising : (i j : ℕ) → i < j → g i < 
       -- with the votes vs
       ends : (vs : List ℕ) → ((j : ℕ) → j < m → member (g j) vs ≡ eqb j (q .said .wrote) || (isCorrect (ms .status) && member j (q .said .pairs)))
           → End P g m t (record { server = mb; sent = record { votes = vs; replyTo = o .sent .replyTo; replyWith = o .sent .replyWith } }) (stageFour (eqb (kk P) 2) h t q)
-      ends vs e = record { server = R; sent = record { votes = e; readers = M .sent .readers; pairs = M .sent .pairs; early = M .sent .early } }
+      ends vs e = record { server = R; sent = record { votes = e; readers = M .sent .readers; pairs = M .sent .pairs } }
 
   pub still-rep : (t b : ℕ) (o : Out) (q : Both) → T (not (isMove P t)) → Mid P g m t o q → End P g m t (stage4 P t (stage3 P t b o)) q
   unfolding stage4 stage3

@@ -15,11 +15,11 @@ use Rattle.register.specs.Lists.{In, flat}
 use Rattle.register.specs.Server.{insert, insertAll, takeIn}
 use Rattle.register.proofs.Logic.{or-e, or-l, or-r, T-eq}
 use Rattle.register.proofs.Lists.{in-flat, flat-in}
-use Rattle.register.proofs.Rising.{take-map, insert-map, same-map}
+use Rattle.register.proofs.Rising.{take-map, insert-map}
 use Rattle.register.proofs.Stores.{Falling, in-insertAll, falling-insertAll, insertAll-in}
 use Rattle.plan.specs.Packed.{storeDepth}
-use Rattle.serving.specs.Stages.{isNew, taken}
-use Rattle.cluster.proofs.Settled.{put-cut}
+use Rattle.serving.specs.Stages.{taken}
+use Rattle.serving.proofs.Settled.{put-cut}
 
 -- two falling lists with the same members are equal
 falling-ext : (l m : List ℕ) → Falling l → Falling m → ((q : ℕ) → In q l → In q m) → ((q : ℕ) → In q m → In q l) → l ≡ m
@@ -75,10 +75,6 @@ in-picked c g m q i = let (j, h, k) = in-flat q m (λ j. cond (c j) (g j ∷ [])
 -- ---- the engine's stores have the numbers of known pairs, pair j is g j
 
 module _ (g : ℕ → ℕ) (rising : (i j : ℕ) → i < j → g i < g j) where
-  pub new-number : (j : ℕ) (l : List ℕ) → isNew (g j) (map g l) ≡ isNew j l
-  unfolding isNew
-  new-number j l = rw (insert-map g rising j l, take-map g storeDepth (insert j l), same-map g rising (take storeDepth (insert j l)) l)
-
   put-number : (j : ℕ) (l : List ℕ) → map g (take storeDepth (insert j l)) ≡ take storeDepth (insert (g j) (map g l))
   put-number j l = rw (insert-map g rising j l, take-map g storeDepth (insert j l))
 

@@ -1,18 +1,22 @@
--- The reads of one reader, and the ends that the readers wait for.
-use mathlib.Core.Path.{_≡_}
+-- The reads of one reader, and the servers' rows of the table.
+use mathlib.Core.Path.{_≡_, fun-ext}
 use mathlib.Core.Bool.{Bool, _&&_}
 use mathlib.Core.Logic.{_⊎_, inl, inr}
 use mathlib.Core.List.{List}
-use Prim.Native.Nat.{ℕ}
+use Prim.Native.Nat.{ℕ, _+_, _≤_, _<_}
 use native.Mathlib.Omega.{arith}
 use native.Mathlib.Decide.{decLe}
 use lib.Dec.{eqb, leb, ltb, eqb→eq, eqb-refl, leb→le, le→leb, ltb→lt, lt→ltb, T-not}
-use lib.ListN.{getD, List·getD-map}
+use lib.ListN.{getD}
+use borrow.Author.Tests.{le-ltb}
 use Rattle.register.specs.Lists.{any}
 use Rattle.register.specs.Plan.{Plan, Read, readEnd}
 use Rattle.register.proofs.Logic.{and-l, and-r, and-i, test}
 use Rattle.register.proofs.Lists.{any-in, in-any}
-use Rattle.cluster.specs as cluster-specs
+use Rattle.calendar.specs.Layout.{mostServers, places}
+use Rattle.serving.specs.declared.Server.{Server}
+use Rattle.serving.specs.Tallies.{recentAt, namedAt, ofServer, rowOfSets}
+use Rattle.cluster.specs.Tick.{serverAt}
 use Rattle.states.specs.State.{Open, Idle}
 
 -- a reader has an open read or none
@@ -30,5 +34,10 @@ open-or-idle P t x = elim (test (any isOpen (P .reads))) [
     isOpen : Read → Bool
     isOpen r = eqb (r .reader) x && (ltb (r .begun) t && leb t (readEnd P r))
 
-pub end-of : (rs : List cluster-specs.declared.Reader.Reader) (k : ℕ) → getD (cluster-specs.Tick.endsOf rs) k 0 ≡ getD rs k cluster-specs.Tick.noReader .end
-end-of rs k = List·getD-map (λ (r : cluster-specs.declared.Reader.Reader). r .end) rs k cluster-specs.Tick.noReader
+-- the rows of server b lie before those of the readers
+pub votes-stay : (m : ℕ) (sets then : List ℕ) (c : List Server) (b : ℕ) → m ≤ places → b < mostServers → ((k : ℕ) → k < namedAt → getD then k 0 ≡ getD sets k 0)
+    → serverAt m then c b ≡ serverAt m sets c b
+votes-stay m sets then c b few l same = rw (row (ofServer b) (omega arith), row (recentAt + ofServer b) (omega arith))
+  where
+    row : (at : ℕ) → at + places ≤ namedAt → rowOfSets m then at ≡ rowOfSets m sets at
+    row at h = fun-ext (λ j. fun-ext (λ i. elim (decLe m j) [ yes d ↦ rw (le-ltb j m d) | no d ↦ rw (same (at + j) (omega arith)) ]))

@@ -2,12 +2,12 @@
 -- end of the tick, and of what arrives at it.
 use mathlib.Core.Path.{_≡_, refl}
 use mathlib.Core.Bool.{Bool, true, false, not, _&&_, _||_, cond}
-use mathlib.Core.List.{List, _++_, map}
+use mathlib.Core.List.{List, map}
 use Prim.Native.Nat.{ℕ, suc, _≤_, _<_}
 use lib.Dec.{T, eqb}
 use Rattle.register.specs.Lists.{any, In, member}
 use Rattle.register.specs.Plan.{Plan, Read, readEnd}
-use Rattle.register.specs.Server.{isFaulty, Claim, Server, Sent, Out}
+use Rattle.register.specs.Server.{isFaulty, Claim, Sent, Out}
 use Rattle.register.specs.Reading.{sameRead}
 use Rattle.serving.specs.Stored.{Said, Both}
 use Rattle.states.specs.State.{Votes, Rep}
@@ -22,7 +22,6 @@ module _ (P : Plan) (g : ℕ → ℕ) (m : ℕ) where
     pub votes : (j : ℕ) → j < m → member (g j) (o .votes) ≡ eqb j (q .wrote) || (q .echoed && member j (q .pairs))
     pub readers : (r : Read) → In r (P .reads) → r .begun < t → t ≤ readEnd P r → any (sameRead r) (o .replyTo) ≡ q .readers (r .reader)
     pub pairs : o .replyWith ≡ map g (q .pairs)
-    pub early : (r : Read) → In r (P .reads) → t ≤ r .begun → any (sameRead r) (o .replyTo) ≡ false
 
   -- after stages 1 and 2
   pub record Mid (t : ℕ) (o : Out) (q : Both) : Type 0 where
@@ -36,11 +35,10 @@ module _ (P : Plan) (g : ℕ → ℕ) (m : ℕ) where
     pub server : Rep P g m (suc t) (o .server) (q .server)
     pub sent : Told t (o .sent) (q .said)
 
-  -- what arrives in tick t: the number w of the WRITE, the votes with those that were there, the readers asking, and those whose read did
-  -- not begin in tick t - 1
-  pub record Came (t : ℕ) (x : Server) (ws : List ℕ) (vs : List Claim) (rs : List Read) (w : ℕ) (votes : ℕ → ℕ → Bool) (asks live : ℕ → Bool) : Type 0 where
+  -- what arrives in tick t: the number w of the WRITE, the votes, the readers asking, and those whose read did not begin in tick t - 1
+  pub record Came (t : ℕ) (ws : List ℕ) (vs : List Claim) (rs : List Read) (w : ℕ) (got : ℕ → ℕ → Bool) (asks live : ℕ → Bool) : Type 0 where
     pub wrote : (j : ℕ) → j < m → member (g j) ws ≡ eqb j w
-    pub tally : isFaulty (x .status) ≡ false → Votes P g m (x .kept) (x .fresh ++ vs) votes
+    pub votes : Votes P g m vs got
     pub asking : (r : Read) → In r (P .reads) → r .begun < t → t ≤ readEnd P r → any (sameRead r) rs ≡ asks (r .reader)
     pub later : (r : Read) → In r (P .reads) → t ≤ r .begun → any (sameRead r) rs ≡ false
     pub lasting : (r : Read) → In r (P .reads) → suc (r .begun) < t → t ≤ readEnd P r → live (r .reader) ≡ true
