@@ -1,4 +1,4 @@
--- Reads by their cursors: the reads of a range, the answers placed one by one, the readers set up one by one.
+-- Reads by their cursors: the reads of a range, the answers placed one by one, the readers' ends and rows set up one by one.
 -- It stands on the definitions alone.
 use mathlib.Core.Path.{_≡_, refl, ap, _∙_}
 use mathlib.Core.List.{List, [], _++_, append-nil}
@@ -9,16 +9,17 @@ use native.Mathlib.Decide.{decLe, ℕ-discrete}
 use lib.ListN.{length, getD, set, take, drop, length-set, length-drop, drop-of-length-le}
 use lib.Seq.{getD-set-same, getD-set-other}
 use mathlib.Core.Bool.{true, false}
+use mathlib.Core.Logic.{inl, inr}
 use borrow.Rule.Slice.PartMut.{putMid}
 use borrow.Author.Tests.{lt-ltb, ltb-false}
 use Rattle.register.specs.Plan.{stamped}
 use Rattle.cluster.specs.declared.Known.{Known}
-use Rattle.cluster.specs.declared.Reader.{Reader}
 use Rattle.cluster.specs.Inputs.{pairAt}
+use Rattle.calendar.specs.Layout.{places}
+use Rattle.serving.specs.Tallies.{ofReader, Outside, Emptied}
 use Rattle.answers.specs.declared.Choice.{Choice}
 use Rattle.answers.specs.Choosing.{answerBy}
-use Rattle.cluster.specs.Tick.{noReader}
-use Rattle.reading.specs.Reading.{Until, There, isBefore, placedAt, placed, freshReader, begunBy}
+use Rattle.reading.specs.Reading.{Until, There, isBefore, placedAt, placed, begunBy, SetUp}
 
 -- ---- cursors
 
@@ -102,7 +103,7 @@ placed-on w f a k (suc n) b =
 
 -- ---- begins
 
-module _ (by : List ℕ) (end k : ℕ) (rs : List Reader) where
+module _ (by : List ℕ) (end k : ℕ) (rs : List ℕ) where
   pub begun-size : (n : ℕ) → length (begunBy by end k n rs) ≡ length rs
   unfolding begunBy
   begun-size zero = refl
@@ -112,28 +113,48 @@ module _ (by : List ℕ) (end k : ℕ) (rs : List Reader) where
   unfolding begunBy
   begun-none = let z : k - k ≡ 0 = omega arith in rw z
 
-  pub begun-other : (x n : ℕ) → ((i : ℕ) → k ≤ i → i < k + n → x ≡ getD by i 0 - 1 → ⊥) → getD (begunBy by end k n rs) x noReader ≡ getD rs x noReader
+  pub begun-other : (x n : ℕ) → ((i : ℕ) → k ≤ i → i < k + n → x ≡ getD by i 0 - 1 → ⊥) → getD (begunBy by end k n rs) x 0 ≡ getD rs x 0
   unfolding begunBy
   begun-other x zero h = refl
   begun-other x (suc n) h =
-      getD-set-other (begunBy by end k n rs) (getD by (k + n) 0 - 1) x (freshReader end) noReader (h (k + n) (omega arith) (omega arith))
-      ∙ begun-other x n (λ i a l. h i a (omega arith))
+      getD-set-other (begunBy by end k n rs) (getD by (k + n) 0 - 1) x end 0 (h (k + n) (omega arith) (omega arith)) ∙ begun-other x n (λ i a l. h i a (omega arith))
 
-  pub begun-there : (x n i : ℕ) → k ≤ i → i < k + n → x ≡ getD by i 0 - 1 → x < length rs → getD (begunBy by end k n rs) x noReader ≡ freshReader end
+  pub begun-there : (x n i : ℕ) → k ≤ i → i < k + n → x ≡ getD by i 0 - 1 → x < length rs → getD (begunBy by end k n rs) x 0 ≡ end
   unfolding begunBy
   begun-there x zero i a l e h = absurd (omega arith)
   begun-there x (suc n) i a l e h = elim (ℕ-discrete x (getD by (k + n) 0 - 1)) [
-    | yes d ↦ rw (← d) (getD-set-same (begunBy by end k n rs) x (freshReader end) noReader (omega (arith, begun-size n)))
+    | yes d ↦ rw (← d) (getD-set-same (begunBy by end k n rs) x end 0 (omega (arith, begun-size n)))
     | no d ↦ (
         let z : i < k + n = elim (ℕ-discrete i (k + n)) [ yes z ↦ absurd (d (rw z at e)) | no z ↦ omega arith ] in
-        getD-set-other (begunBy by end k n rs) (getD by (k + n) 0 - 1) x (freshReader end) noReader d ∙ begun-there x n i a z e h
+        getD-set-other (begunBy by end k n rs) (getD by (k + n) 0 - 1) x end 0 d ∙ begun-there x n i a z e h
         )
   ]
 
-  pub begun-more : (i : ℕ) (a r : List Reader) → k ≤ i → a ≡ begunBy by end k (i - k) rs → r ≡ set a (getD by i 0 - 1) (freshReader end)
-      → r ≡ begunBy by end k (i + 1 - k) rs
+  pub begun-more : (i : ℕ) (a r : List ℕ) → k ≤ i → a ≡ begunBy by end k (i - k) rs → r ≡ set a (getD by i 0 - 1) end → r ≡ begunBy by end k (i + 1 - k) rs
   unfolding begunBy
   begun-more i a r h e q =
       let z : i + 1 - k ≡ suc (i - k) = omega arith in
       let y : k + (i - k) ≡ i = omega arith in
       rw (z, y, ← e) q
+
+-- the rows of the table
+module _ (by : List ℕ) (k : ℕ) (sets : List ℕ) where
+  pub set-up-none : SetUp by k (k - k) sets sets
+  set-up-none = record { size = refl; votes = λ c l. refl; none = λ i a l. absurd (omega arith); rest = λ x h j l. refl }
+
+  -- the row of the reader of read i is emptied
+  pub set-up-more : (i : ℕ) (a r : List ℕ) → k ≤ i → SetUp by k (i - k) sets a → Emptied a r (ofReader (getD by i 0 - 1)) → SetUp by k (i + 1 - k) sets r
+  set-up-more i a r h S E = record {
+    size = E .size ∙ S .size;
+    votes = λ c l. E .rest c (inl (omega arith)) ∙ S .votes c l;
+    none = λ u lo hi j l. elim (ℕ-discrete (getD by u 0 - 1) (getD by i 0 - 1)) [
+      | yes e ↦ rw e (E .each j l)
+      | no d ↦ E .rest (ofReader (getD by u 0 - 1) + j) (apart (getD by u 0 - 1) (getD by i 0 - 1) j l d)
+          ∙ S .none u lo (elim (ℕ-discrete u i) [ yes e ↦ absurd (d (ap (λ (v : ℕ). getD by v 0 - 1) e)) | no e ↦ omega arith ]) j l
+    ];
+    rest = λ x q j l. E .rest (ofReader x + j) (apart x (getD by i 0 - 1) j l (q i h (omega arith))) ∙ S .rest x (λ u lo hi. q u lo (omega arith)) j l;
+  }
+    where
+      -- the rows of two readers share no cell
+      apart : (x y j : ℕ) → j < places → (x ≡ y → ⊥) → Outside (ofReader y) (ofReader x + j)
+      apart x y j l d = elim (decLe x y) [ yes h ↦ inl (omega arith) | no h ↦ inr (omega arith) ]

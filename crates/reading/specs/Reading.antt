@@ -4,12 +4,11 @@ use mathlib.Core.Bool.{Bool, _&&_}
 use mathlib.Core.List.{List, _++_}
 use Prim.Native.Nat.{ℕ, zero, suc, _+_, _*_, _-_, _≤_, _<_}
 use lib.Dec.{ltb}
-use lib.ListN.{getD, set, take, drop}
+use lib.ListN.{length, getD, set, take, drop}
 use Rattle.calendar.specs.Layout.{mostReaders, places}
 use Rattle.cluster.specs.declared.Known.{Known}
-use Rattle.cluster.specs.declared.Reader.{Reader}
-use Rattle.serving.specs.Bits.{sets, noVoters}
-use Rattle.cluster.specs.{Inputs.pairAt, Inputs.Narrow, Tick.noReader, Tick.endsOf}
+use Rattle.serving.specs.Tallies.{namedAt, ofReader, holds}
+use Rattle.cluster.specs.Inputs.{pairAt, Narrow}
 use Rattle.script.specs.declared.operations.Reads.{Reads}
 use Rattle.script.specs.declared.Script.{Script}
 use Rattle.script.specs.Script.{widthIn}
@@ -40,9 +39,9 @@ pub record There (by : List ℕ) (from to : ℕ) : Type 0 where
 -- ---- answers
 
 -- the bytes of read i's answer: its reader chooses of what it has noted; values have w bits
-abbrev pub chosenBytes : ℕ → List Reader → Reads → Known → ℕ → ℕ → List ℕ
-chosenBytes w readers reads known reply i =
-    answerBytes w (readAt reads i) (answerBy (pairAt w known) (highestOf (sets (getD readers (getD (reads .reader) i 0 - 1) noReader .named)) reply (known .m)))
+abbrev pub chosenBytes : ℕ → List ℕ → Reads → Known → ℕ → ℕ → List ℕ
+chosenBytes w sets reads known reply i =
+    answerBytes w (readAt reads i) (answerBy (pairAt w known) (highestOf (λ j k. holds sets (ofReader (getD (reads .reader) i 0 - 1) + j) k) reply (known .m)))
 
 -- the buffer with the answer i at its own bytes
 abbrev pub placedAt : ℕ → ℕ → List ℕ → List ℕ → List ℕ
@@ -55,14 +54,17 @@ placed w f k (suc n) b = placedAt w (k + n) (f (k + n)) (placed w f k n b)
 
 -- ---- begins
 
--- a reader whose read ends in this tick and has noted nothing
-abbrev pub freshReader : ℕ → Reader
-freshReader end = record { end = end; named = noVoters }
+-- the ends of the readers' reads with those of the reads from k on, n of them
+unfoldable pub begunBy : List ℕ → ℕ → ℕ → ℕ → List ℕ → List ℕ
+begunBy by end k zero ends = ends
+begunBy by end k (suc n) ends = set (begunBy by end k n ends) (getD by (k + n) 0 - 1) end
 
--- the readers with those of the reads from k on, n of them, set up
-unfoldable pub begunBy : List ℕ → ℕ → ℕ → ℕ → List Reader → List Reader
-begunBy by end k zero rs = rs
-begunBy by end k (suc n) rs = set (begunBy by end k n rs) (getD by (k + n) 0 - 1) (freshReader end)
+-- the readers of these reads have noted nothing; all other rows of the table stay
+pub record SetUp (by : List ℕ) (k n : ℕ) (sets then : List ℕ) : Type 0 where
+  pub size : length then ≡ length sets
+  pub votes : (c : ℕ) → c < namedAt → getD then c 0 ≡ getD sets c 0
+  pub none : (i : ℕ) → k ≤ i → i < k + n → (j : ℕ) → j < places → getD then (ofReader (getD by i 0 - 1) + j) 0 ≡ 0
+  pub rest : (x : ℕ) → ((i : ℕ) → k ≤ i → i < k + n → x ≡ getD by i 0 - 1 → ⊥) → (j : ℕ) → j < places → getD then (ofReader x + j) 0 ≡ getD sets (ofReader x + j) 0
 
 -- ---- both in a tick
 
@@ -81,10 +83,10 @@ pub record Begun (r : Script) (p : Reading) : Type 0 where
   pub answered : p .answered ≤ r .reads .m
 
 -- the reads that end in tick t are answered, those that begin in it are set up, and their READs are under way
-pub record WentOn (plan : List ℕ) (r : Script) (t : ℕ) (p q : Reading) (answers₀ answers₁ work₀ work₁ : List ℕ) : Type 0 where
+pub record WentOn (plan : List ℕ) (r : Script) (t : ℕ) (p q : Reading) (answers₀ answers₁ work₀ work₁ sets₀ sets₁ : List ℕ) : Type 0 where
   pub ended : Until (r .reads .begun) (r .reads .m) (p .answered) (t + 1 - 2 * r .rules .delta) (q .answered)
   pub began : Until (r .reads .begun) (r .reads .m) (p .begun) (t + 1) (q .begun)
-  pub answers : answers₁ ≡ placed (widthIn r) (chosenBytes (widthIn r) (p .readers) (r .reads) (r .writes .known) (r .rules .reply)) (p .answered) (q .answered - p .answered) answers₀
-  pub readers : q .readers ≡ begunBy (r .reads .reader) (t + 2 * r .rules .delta) (p .begun) (q .begun - p .begun) (p .readers)
-  pub ends : q .ends ≡ endsOf (q .readers)
+  pub answers : answers₁ ≡ placed (widthIn r) (chosenBytes (widthIn r) sets₀ (r .reads) (r .writes .known) (r .rules .reply)) (p .answered) (q .answered - p .answered) answers₀
+  pub ends : q .ends ≡ begunBy (r .reads .reader) (t + 2 * r .rules .delta) (p .begun) (q .begun - p .begun) (p .ends)
+  pub table : SetUp (r .reads .reader) (p .begun) (q .begun - p .begun) sets₀ sets₁
   pub asked : Asked work₀ work₁ (askedBetween plan (r .links) (r .rules .n) t (r .reads .reader) (p .begun) (q .begun))

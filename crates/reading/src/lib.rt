@@ -4,24 +4,23 @@ ghost use mathlib.Core.Bool.{_||_};
 ghost use mathlib.Core.List.{_++_};
 ghost use Prim.Native.Nat.{_+_, _*_, _-_, _≤_, _<_};
 ghost use lib.ListN.{length, drop};
-ghost use Rattle.calendar.specs.Layout.{places};
-ghost use Rattle.serving.specs.{Bits.sets, Links.Linked};
-ghost use Rattle.cluster.specs.{Inputs.pairAt, Inputs.Narrow, Tick.endsOf};
+ghost use Rattle.calendar.specs.Layout.{mostReaders, places};
+ghost use Rattle.serving.specs.{Tallies.tableSize, Tallies.ofReader, Tallies.holds, Links.Linked};
+ghost use Rattle.cluster.specs.Inputs.{pairAt, Narrow};
 ghost use Rattle.answers.specs.Answers.{answerSize, answerBytes};
 ghost use Rattle.answers.specs.Choosing.{highestOf, answerBy};
 ghost use Rattle.plan.specs.Form.{mostWidth};
 ghost use Rattle.requests.specs.Requests.{requestsEnd};
 ghost use Rattle.script.specs.Script.{widthIn};
-ghost use Rattle.reading.specs.Reading.{Until, There, chosenBytes, placed, begunBy, isBefore, Begun, WentOn};
+ghost use Rattle.reading.specs.Reading.{Until, There, chosenBytes, placed, begunBy, SetUp, isBefore, Begun, WentOn};
 use calendar::READERS;
 use cluster::Known;
-use cluster::Reader;
 use script::Script;
 use script::operations::TABLE_READS;
+use serving::tallies;
 
-// The readers, the ticks in which their last reads end, and how many reads have begun and been answered.
+// The ticks in which the readers' last reads end, and how many reads have begun and been answered.
 pub struct Reading {
-    pub readers: [Reader; READERS],
     pub ends: [u8; READERS],
     pub begun: usize,
     pub answered: usize,
@@ -32,19 +31,6 @@ pub fn size_of(x: u8) -> usize
     ensures { λ r. ⌜ r ≡ x ⌝ }
 {
     x as usize
-}
-
-// These readers, after so many reads have begun and been answered.
-pub fn of(readers: [Reader; READERS], begun: usize, answered: usize) -> Reading
-    ensures { λ r. ⌜ r ≡ record { readers = readers; ends = endsOf readers; begun = begun; answered = answered } ⌝ }
-{
-    let ends = cluster::tick::ends_of(readers);
-    Reading {
-        readers,
-        ends,
-        begun,
-        answered,
-    }
 }
 
 // The first read from read k on that begins in tick u or later.
@@ -63,20 +49,13 @@ pub fn first_from(begun: &[u8; TABLE_READS], m: usize, k: usize, u: usize) -> us
 }
 
 // Writes the answer of a read at the start of its part of the answer buffer: its reader chooses of what it has noted.
-fn answer(
-    out: &mut [u8],
-    width: u8,
-    names: serving::Voters,
-    known: Known,
-    reply: u32,
-    begun: u8,
-    reader: u8,
-)
-    requires { ⌜ (answerSize width ≤ length (now out)) × (width ≤ mostWidth) × (known .m ≤ places) × Narrow width known ⌝ }
+fn answer(out: &mut [u8], width: u8, sets: &[u16], known: Known, reply: u32, begun: u8, reader: u8)
+    requires { ⌜ (answerSize width ≤ length (now out)) × (width ≤ mostWidth) × (known .m ≤ places) × Narrow width known × (1 ≤ reader) × (reader ≤ mostReaders) × (length (now sets) ≡ tableSize) ⌝ }
     ensures { λ _. ⌜ now (out .exit) ≡ answerBytes width (record { begun = begun; reader = reader })
-        (answerBy (pairAt width known) (highestOf (sets names) reply (known .m))) ++ drop (answerSize width) (now (out .entry)) ⌝ }
+        (answerBy (pairAt width known) (highestOf (λ j k. holds (now (sets .entry)) (ofReader (reader - 1) + j) k) reply (known .m))) ++ drop (answerSize width) (now (out .entry)) ⌝ }
 {
-    let choice = answers::choose::chosen(names, known.m, reply);
+    let at = tallies::of_reader(size_of(reader) - 1);
+    let choice = answers::choose::chosen(sets, at, known.m, reply);
     if !choice.found {
         answers::write(out, width, begun, reader, 0, 0, 0);
         return;
@@ -94,16 +73,10 @@ fn answer(
 }
 
 // Writes the answers of the reads from .. to - 1, each at its own bytes.
-pub fn end_all(
-    answers: &mut [u8],
-    readers: [Reader; READERS],
-    script: Script,
-    from: usize,
-    to: usize,
-)
+pub fn end_all(answers: &mut [u8], sets: &[u16], script: Script, from: usize, to: usize)
     requires { ⌜ There (script .reads .reader) from to × (script .writes .known .m ≤ places) × (widthIn script ≤ mostWidth) × Narrow (widthIn script) (script .writes .known)
-        × (answerSize (widthIn script) * to ≤ length (now answers)) ⌝ }
-    ensures { λ _. ⌜ now (answers .exit) ≡ placed (widthIn script) (chosenBytes (widthIn script) readers (script .reads) (script .writes .known) (script .rules .reply)) from (to - from) (now (answers .entry)) ⌝ }
+        × (answerSize (widthIn script) * to ≤ length (now answers)) × (length (now sets) ≡ tableSize) ⌝ }
+    ensures { λ _. ⌜ now (answers .exit) ≡ placed (widthIn script) (chosenBytes (widthIn script) (now (sets .entry)) (script .reads) (script .writes .known) (script .rules .reply)) from (to - from) (now (answers .entry)) ⌝ }
 {
     let reads = script.reads;
     let writes = script.writes;
@@ -115,12 +88,10 @@ pub fn end_all(
     while i < to {
         let reader = reads.reader[i];
         let begun = reads.begun[i];
-        let r = readers[size_of(reader) - 1];
-        let names = r.named;
         answer(
             &mut answers[size * i..],
             width,
-            names,
+            sets,
             known,
             reply,
             begun,
@@ -132,25 +103,25 @@ pub fn end_all(
 
 // The readers of the reads from .. to - 1 have noted nothing yet, and their reads end in tick `end`.
 pub fn begin_all(
-    readers: [Reader; READERS],
+    before: [u8; READERS],
+    sets: &mut [u16],
     by: &[u8; TABLE_READS],
     from: usize,
     to: usize,
     end: u8,
-) -> [Reader; READERS]
-    requires { ⌜ There (now by) from to ⌝ }
-    ensures { λ r. ⌜ r ≡ begunBy (now (by .entry)) end from (to - from) readers ⌝ }
+) -> [u8; READERS]
+    requires { ⌜ There (now by) from to × (length (now sets) ≡ tableSize) ⌝ }
+    ensures { λ r. ⌜ (r ≡ begunBy (now (by .entry)) end from (to - from) before) × SetUp (now (by .entry)) from (to - from) (now (sets .entry)) (now (sets .exit)) ⌝ }
 {
-    let named = serving::Voters::none();
-    let fresh = Reader { end, named };
-    let mut rs = readers;
+    let mut ends = before;
     let mut i = from;
     while i < to {
         let x = size_of(by[i]) - 1;
-        rs[x] = fresh;
+        tallies::empty(sets, tallies::of_reader(x));
+        ends[x] = end;
         i += 1;
     }
-    rs
+    ends
 }
 
 // The reads that begin before it end by tick t.
@@ -200,21 +171,23 @@ pub fn go_on(
     answers: &mut [u8],
     work: &mut [u8],
     plan: &[u8],
+    sets: &mut [u16],
     script: Script,
     t: u8,
 ) -> Reading
-    requires { ⌜ Begun script r × Linked (now plan) (script .links) (script .rules .n) (t + 1) × (script .rules .delta ≤ 15) × (answerSize (widthIn script) * script .reads .m ≤ length (now answers)) × (requestsEnd ≤ length (now work)) ⌝ }
-    ensures { λ q. ⌜ WentOn (now (plan .entry)) script t r q (now (answers .entry)) (now (answers .exit)) (now (work .entry)) (now (work .exit)) ⌝ }
+    requires { ⌜ Begun script r × Linked (now plan) (script .links) (script .rules .n) (t + 1) × (script .rules .delta ≤ 15) × (answerSize (widthIn script) * script .reads .m ≤ length (now answers))
+        × (requestsEnd ≤ length (now work)) × (length (now sets) ≡ tableSize) ⌝ }
+    ensures { λ q. ⌜ WentOn (now (plan .entry)) script t r q (now (answers .entry)) (now (answers .exit)) (now (work .entry)) (now (work .exit)) (now (sets .entry)) (now (sets .exit)) ⌝ }
 {
     let rules = script.rules;
     let delta = rules.delta;
     let reads = script.reads;
-    let readers = r.readers;
     let ended = first_from(&reads.begun, reads.m, r.answered, ended_by(t, delta));
-    end_all(answers, readers, script, r.answered, ended);
+    end_all(answers, sets, script, r.answered, ended);
     let from = r.begun;
+    let before = r.ends;
     let began = first_from(&reads.begun, reads.m, from, size_of(t) + 1);
-    let after = begin_all(readers, &reads.reader, from, began, t + 2 * delta);
+    let ends = begin_all(before, sets, &reads.reader, from, began, t + 2 * delta);
     asking::ask_all(
         work,
         plan,
@@ -225,9 +198,7 @@ pub fn go_on(
         from,
         began,
     );
-    let ends = cluster::tick::ends_of(after);
     Reading {
-        readers: after,
         ends,
         begun: began,
         answered: ended,
