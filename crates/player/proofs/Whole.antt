@@ -3,12 +3,13 @@
 use mathlib.Core.{Path._≡_, Path.refl, Path.ap, Path._∙_, Logic.inr, List.List, List._++_}
 use Prim.Native.Nat.{ℕ, zero, suc, _+_, _*_, _-_, _≤_, _<_}
 use native.Mathlib.{Nat.mul-zero, Numerals.add-one, Omega.arith, Decide.decLe}
-use lib.{ListN.length, ListN.getD, ListN.take, ListN.drop, Seq.take-all}
+use lib.{ListN.length, ListN.getD, ListN.take, ListN.drop, ListN.replicate, Seq.take-all}
+use Rattle.register.proofs.Lists.{getD-replicate-same}
 use Rattle.plan.specs as plan-specs
 use Rattle.plan.{specs.Packed.planOf, proofs.Tests.getD-in, proofs.AcceptReads.read-stands}
 use Rattle.requests.{specs.Requests.SameBehind, proofs.Requesting.behind-trans}
 use Rattle.states.proofs as states-laws
-use Rattle.serving.specs.Stored.{absent}
+use Rattle.serving.specs.{Tallies.tableSize, Stored.absent}
 use Rattle.script.specs as script-specs
 use Rattle.script.specs.Script.{widthIn}
 use Rattle.answers.specs as answers-specs
@@ -18,6 +19,7 @@ use Rattle.reading.proofs.Cursors.{until-none, placed-none, placed-on}
 use Rattle.player.specs as player-specs
 use Rattle.player.specs.Run.{Decoded, Ready, PlayedTo, Fresh, answerIn, Went}
 use Rattle.player.proofs as player-laws
+use Rattle.player.proofs.Shown.{pairs-are}
 
 pub ready-kept : (s a b : List ℕ) (r : script-specs.declared.Script.Script) → SameBehind a b → Ready s a r → Ready s b r
 ready-kept s a b r K R = record {
@@ -28,29 +30,36 @@ ready-kept s a b r K R = record {
 
 -- ---- the start, and one tick more
 
+-- a table of sets in which nobody is
+pub blank-table : (n k : ℕ) → _≡_ {A = ℕ} (getD (replicate n 0) k 0) 0
+blank-table n k = getD-replicate-same {A = ℕ} n k 0
+
 module _ (s : List ℕ) (r : script-specs.declared.Script.Script) where
-  pub played-none : (before work : List ℕ) (p : player-specs.declared.Playing.Playing) → Decoded s r → Fresh before work r p → PlayedTo s work r p
-  played-none before work p D E =
+  pub played-none : (before work sets : List ℕ) (p : player-specs.declared.Playing.Playing) → Decoded s r → Fresh before work r p → length sets ≡ tableSize → ((k : ℕ) → getD sets k 0 ≡ 0)
+      → PlayedTo s work sets r p
+  played-none before work sets p D E size blank =
       rw (E .first) (record {
         size = E .started .size;
-        state = states-laws.StateLaws.first-state (planOf (widthIn r) s) _ (r .writes .known .m) (player-laws.Tables.knows s r D) (p .cluster) work (E .started) (E .empty);
+        table = size;
+        state = states-laws.StateLaws.first-state (planOf (widthIn r) s) _ (r .writes .known .m) (player-laws.Tables.knows s r D) (p .cluster) sets work (E .started) blank (E .empty);
+        valued = λ b l. E .started .valued (r .writes .known .values) refl b (omega (arith, player-laws.Tables.servers-same s r D, player-laws.Tables.few-servers s r D));
         requested = states-laws.RequestLaws.requested-none (planOf (widthIn r) s) work (E .unasked);
         written = record { below = omega (arith, D .scripted .writes .count); before = λ h. absurd (omega arith); last = λ j a b. omega arith };
         begun = until-none (r .reads .begun) (r .reads .m) 0 refl;
         answered = until-none (r .reads .begun) (r .reads .m) (0 - 2 * r .rules .delta) (omega arith);
       })
 
-  pub went-none : (work answers : List ℕ) (p : player-specs.declared.Playing.Playing) → PlayedTo s work r p → Went s work work answers answers r p p
-  went-none work answers p L = record {
+  pub went-none : (work sets answers : List ℕ) (p : player-specs.declared.Playing.Playing) → PlayedTo s work sets r p → Went s work work sets sets answers answers r p p
+  went-none work sets answers p L = record {
     kept = record { size = refl; behind = λ k l. refl };
     played = L;
     ordered = omega arith;
     answers = placed-none (widthIn r) (answerIn (widthIn r) s) (p .answered) answers;
   }
 
-  pub went-on : (work now work₁ answers then answers₁ : List ℕ) (p q z : player-specs.declared.Playing.Playing) → Went s work now answers then r p q → Went s now work₁ then answers₁ r q z
-      → Went s work work₁ answers answers₁ r p z
-  went-on work now work₁ answers then answers₁ p q z A W =
+  pub went-on : (work now work₁ sets here sets₁ answers then answers₁ : List ℕ) (p q z : player-specs.declared.Playing.Playing) → Went s work now sets here answers then r p q
+      → Went s now work₁ here sets₁ then answers₁ r q z → Went s work work₁ sets sets₁ answers answers₁ r p z
+  went-on work now work₁ sets here sets₁ answers then answers₁ p q z A W =
       let from : p .answered + (q .answered - p .answered) ≡ q .answered = omega (arith, A .ordered) in
       let all : (q .answered - p .answered) + (z .answered - q .answered) ≡ z .answered - p .answered = omega (arith, A .ordered, W .ordered) in
       record {
@@ -92,10 +101,10 @@ module _ (s before after started : List ℕ) (r : script-specs.declared.Script.S
   pub ready : Ready s started r
   ready = record { decoded = decoded; room = omega (arith, scripted .forged .filled .size, fresh .kept .size); kept = fresh .kept }
 
-  pub begun : PlayedTo s started r first
-  begun = played-none s r after started first decoded fresh
+  pub begun : (sets : List ℕ) → length sets ≡ tableSize → ((k : ℕ) → getD sets k 0 ≡ 0) → PlayedTo s started sets r first
+  begun sets size blank = played-none s r after started sets first decoded fresh size blank
 
-  module _ (work answers answers₁ : List ℕ) (p : player-specs.declared.Playing.Playing) (W : Went s started work answers answers₁ r first p) where
+  module _ (work sets sets₁ answers answers₁ : List ℕ) (p : player-specs.declared.Playing.Playing) (W : Went s started work sets sets₁ answers answers₁ r first p) where
     all-zeroed : (end : List ℕ) → end ≡ answers-specs.Workspace.zeroed work → end ≡ answers-specs.Workspace.zeroed before
     all-zeroed end e =
         let K = W .kept in
@@ -103,11 +112,18 @@ module _ (s before after started : List ℕ) (r : script-specs.declared.Script.S
         (λ x l. K .behind x (omega arith) ∙ (fresh .kept .behind x (omega arith) ∙ scripted .forged .filled .other x (inr (omega (arith, player-laws.Feeding.range s r decoded .forgeries-hi)))))
 
     -- a server after the last of the ticks
-    pub seen : (b t : ℕ) (end : List ℕ) → b < plan-specs.Header.headerOf w s .n → p .tick ≡ suc t → end ≡ answers-specs.Workspace.zeroed work → player-specs.Player.Viewed w s b t (record { server = getD (p .cluster .servers) b absent; known = r .writes .known }) before end
+    pub seen : (b t : ℕ) (end : List ℕ) → b < plan-specs.Header.headerOf w s .n → p .tick ≡ suc t → end ≡ answers-specs.Workspace.zeroed work → player-specs.Player.Viewed w s b t (getD (p .cluster .servers) b absent) before end
     unfolding planOf
     seen b t end l e z =
         let R = rw e at (W .played .state .servers b (rw (read .1) l)) in
-        rw (← read .1) (record { status = R .status; kept = R .kept; narrow = scripted .writes .small; workspace = all-zeroed end z })
+        let v = W .played .valued b (omega (arith, scripted .rules .n, rw (← read .1) at l)) in
+        rw (← read .1)
+        (record {
+          status = R .status;
+          kept = R .kept ∙ pairs-are (widthIn r) (r .writes .known) _ v;
+          narrow = λ q i h. rw (v q i h) (scripted .writes .small (q .number));
+          workspace = all-zeroed end z;
+        })
 
     -- after all ticks no read is left
     none-left : p .tick ≡ r .shape .ticks → p .answered < r .reads .m → ⊥

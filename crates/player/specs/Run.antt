@@ -1,12 +1,13 @@
 -- Playing the ticks of a plan that can be played: what is needed, and the state that is reached.
 use mathlib.Core.Path.{_≡_}
 use mathlib.Core.List.{List}
-use Prim.Native.Nat.{ℕ, _*_, _-_, _≤_}
+use Prim.Native.Nat.{ℕ, _*_, _-_, _≤_, _<_}
 use lib.ListN.{length, getD}
 use Rattle.register.specs.Reading.{answerOf}
 use Rattle.plan.specs.{Packed.planOf, Playable.Playable}
 use Rattle.calendar.specs.{Layout.mostServers, View.Empty}
 use Rattle.requests.specs.Requests.{SameBehind, Unasked}
+use Rattle.serving.specs.{Tallies.tableSize, Stored.Valued, Stored.absent}
 use Rattle.cluster.specs.declared.Feed.{Feed}
 use Rattle.cluster.specs.{Inputs.pairAt, Tick.Started}
 use Rattle.states.specs.State.{State}
@@ -36,14 +37,17 @@ pub record Ready (s work : List ℕ) (r : Script) : Type 0 where
 
 -- what tick t is fed
 pub record FedBy (s work : List ℕ) (r : Script) (number : ℕ) (ends : List ℕ) (t : ℕ) (f : Feed) : Type 0 where
-  pub same : f ≡ record { t = t; rules = r .rules; known = r .writes .known; links = r .links; arrivals = f .arrivals; movement = f .movement }
+  pub same : f ≡ record { t = t; rules = r .rules; m = r .writes .known .m; links = r .links; arrivals = f .arrivals; movement = f .movement }
   pub comes : Arrive work number ends t (r .rules .delta) (f .arrivals)
   pub moves : Moves (widthIn r) s (r .shape .period) t (f .movement)
 
 -- the ticks below t are played: what has begun, and what has ended
-pub record PlayedTo (s work : List ℕ) (r : Script) (p : Playing) : Type 0 where
+pub record PlayedTo (s work sets : List ℕ) (r : Script) (p : Playing) : Type 0 where
   pub size : length (p .cluster .servers) ≡ mostServers
-  pub state : State (planOf (widthIn r) s) (pairAt (widthIn r) (r .writes .known)) (r .writes .known .m) (p .tick) (p .cluster) work
+  pub table : length sets ≡ tableSize
+  pub state : State (planOf (widthIn r) s) (pairAt (widthIn r) (r .writes .known)) (r .writes .known .m) (p .tick) (p .cluster) sets work
+  -- the pairs of a store have the values of the known ones
+  pub valued : (b : ℕ) → b < r .rules .n → Valued (r .writes .known .values) (getD (p .cluster .servers) b absent .kept)
   pub requested : Requested (planOf (widthIn r) s) (p .tick) work
   pub written : LatestWrite (r .writes .begun) (r .writes .known .m) (p .tick) (p .written)
   pub begun : Until (r .reads .begun) (r .reads .m) 0 (p .tick) (p .begun)
@@ -54,9 +58,9 @@ abbrev pub answerIn : ℕ → List ℕ → ℕ → List ℕ
 answerIn w s i = answerBytes w (getD (planOf w s .reads) i noRead) (answerOf (planOf w s) (getD (planOf w s .reads) i noRead))
 
 -- the ticks from p on are played up to q: the workspace past the calendar and the requests stays, and the reads that end in them are answered
-pub record Went (s work₀ work₁ answers₀ answers₁ : List ℕ) (r : Script) (p q : Playing) : Type 0 where
+pub record Went (s work₀ work₁ sets₀ sets₁ answers₀ answers₁ : List ℕ) (r : Script) (p q : Playing) : Type 0 where
   pub kept : SameBehind work₀ work₁
-  pub played : PlayedTo s work₁ r q
+  pub played : PlayedTo s work₁ sets₁ r q
   pub ordered : p .answered ≤ q .answered
   pub answers : answers₁ ≡ placed (widthIn r) (answerIn (widthIn r) s) (p .answered) (q .answered - p .answered) answers₀
 
@@ -66,4 +70,4 @@ pub record Fresh (work₀ work₁ : List ℕ) (r : Script) (p : Playing) : Type 
   pub empty : Empty work₁
   pub unasked : Unasked work₁
   pub first : p ≡ record { cluster = p .cluster; written = 0; begun = 0; answered = 0; tick = 0 }
-  pub started : Started (p .cluster)
+  pub started : Started (getD (r .writes .known .values) 0 0) (p .cluster)

@@ -11,10 +11,10 @@ ghost use Rattle.script.specs.Forged.{entriesEnd};
 ghost use Rattle.player.specs.Run.{Fresh};
 ghost use Rattle.player.specs.Player.{AllAnswered, Viewed};
 use cluster::Cluster;
-use cluster::Known;
 use plan::header::Shape;
 use script::Script;
 use serving::Server;
+use serving::tallies::CELLS;
 
 pub mod run;
 pub mod tick;
@@ -28,12 +28,6 @@ pub struct Playing {
     pub tick: u8,
 }
 
-// A server, and the known pairs: their table has the values of the pairs that it keeps.
-pub struct View {
-    pub server: Server,
-    pub known: Known,
-}
-
 // The answers of all reads of a plan, if no one asks for them.
 const UNASKED: usize = answers::MOST_SIZE * Shape::MOST_READS;
 
@@ -44,7 +38,9 @@ fn begin(work: &mut [u8], script: Script) -> Playing
 {
     calendar::start(work);
     requests::start(work);
-    let cluster = cluster::tick::start();
+    let writes = script.writes;
+    let known = writes.known;
+    let cluster = cluster::tick::start(known.values[0]);
     Playing {
         cluster,
         written: 0,
@@ -62,12 +58,21 @@ pub fn play(plan: &[u8], width: u8, answers: &mut [u8], work: &mut [u8])
 {
     let script = script::read(plan, width, work);
     let start = begin(work, script);
-    let _end = run::run(start, plan, answers, work, script, script.shape.ticks);
+    let mut sets = [0u16; CELLS];
+    let _end = run::run(
+        start,
+        plan,
+        answers,
+        work,
+        &mut sets,
+        script,
+        script.shape.ticks,
+    );
     answers::zero(work);
 }
 
 // A server after a tick; the workspace is zeroed.
-pub fn look(plan: &[u8], width: u8, work: &mut [u8], server: usize, tick: u8) -> View
+pub fn look(plan: &[u8], width: u8, work: &mut [u8], server: usize, tick: u8) -> Server
     requires { ⌜ Playable width (now plan) × (width ≤ mostWidth) × (workspaceSize ≤ length (now work))
         × (server < headerOf width (now plan) .n) × (tick < headerOf width (now plan) .ticks) ⌝ }
     ensures { λ r. ⌜ Viewed width (now (plan .entry)) server tick r (now (work .entry)) (now (work .exit)) ⌝ }
@@ -75,15 +80,9 @@ pub fn look(plan: &[u8], width: u8, work: &mut [u8], server: usize, tick: u8) ->
     let script = script::read(plan, width, work);
     let start = begin(work, script);
     let mut unasked = [0u8; UNASKED];
-    let before = run::run(start, plan, &mut unasked, work, script, tick);
-    let end = tick::next(before, plan, &mut unasked, work, script);
+    let mut sets = [0u16; CELLS];
+    let end = run::run(start, plan, &mut unasked, work, &mut sets, script, tick + 1);
     answers::zero(work);
     let c = end.cluster;
-    let seen = c.servers[server];
-    let writes = script.writes;
-    let known = writes.known;
-    View {
-        server: seen,
-        known: known,
-    }
+    c.servers[server]
 }

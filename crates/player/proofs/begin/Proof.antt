@@ -7,8 +7,8 @@ use Rattle.player.proofs.begin.Tie as tie
 
 returns : tie.Need-returns
 returns c =
-    let calendar = c .before .before .before .before .before .before .before .start .ensures in
-    let requests = c .before .before .before .start2 .ensures in
+    let calendar = c .before .before .before .before .before .before .before .before .before .before .start .ensures in
+    let requests = c .before .before .before .before .before .before .start2 .ensures in
     record {
       kept = behind-trans _ _ _ (past-behind _ _ (calendar .0)) (requests .0 .rest);
       empty = outside-empty _ _ (requests .0) (calendar .1);
@@ -18,4 +18,4 @@ returns c =
     }
 
 pub begin-spec : {M : Type 1} → statement M
-begin-spec = tie.close (tie.spec (search needs) (search needs) (search needs) (search needs) returns)
+begin-spec = tie.close (tie.spec (search needs) (search needs) (search needs) (search needs) (search needs) returns)

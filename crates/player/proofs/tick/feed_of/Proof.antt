@@ -8,5 +8,5 @@ use Rattle.player.proofs.tick.feed_of.Tie as tie
 pub feed-of-spec : {M : Type 1} → statement M
 feed-of-spec =
     tie.close
-    (tie.spec (search needs) (λ c κs. let s = c .before .before .before .before .before .before .before in movement-there _ _ (s .pre .0) _ (s .pre .1))
+    (tie.spec (search needs) (λ c κs. let s = c .before .before .before .before .before in movement-there _ _ (s .pre .0) _ (s .pre .1))
     (λ c. record { same = refl; comes = c .before .arrivals .ensures; moves = c .movement .ensures }))

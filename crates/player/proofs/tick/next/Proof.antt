@@ -1,6 +1,6 @@
 -- `tick::next` meets its contract: a walk of its MIR, by hand. The local is lent as `&mut` for a lifetime that is made for the call, the
--- answers and the workspace are lent on for good, `tick` is called, the lifetime ends, and the local is back at what `tick` left there.
--- All that is known of `tick` is its contract.
+-- answers, the workspace and the table of sets are lent on for good, `tick` is called, the lifetime ends, and the local is back at what `tick`
+-- left there. All that is known of `tick` is its contract.
 use mathlib.Core.Path.{_≡_, refl, sym, ap, subst}
 use Prim.Native.Nat.{ℕ, suc, _*_, _≤_, _<_}
 use mathlib.Core.List.{[], _∷_, List}
@@ -28,7 +28,7 @@ use denote.RattleType.{owns}
 use denote.Laws.{Is, shows}
 use denote.Memory.{mem, partAt}
 use denote.Plain.{Nothing}
-use denote.Builtin.{u8}
+use denote.Builtin.{u8, u16}
 use denote.Ref.{RefT, MutRef, now}
 use denote.Slice.{sliceVal, MutSlice, ShrSlice, Room, finally, slice-vals, mut-slice-tells, shr-slice-tells, shr-slice-lawful, shr-slice-copy}
 use denote.Signature.{plain}
@@ -65,29 +65,29 @@ use Rattle.player.proofs.tick.next.Code as code
 abbrev stayed : Stays (next.ended .signature .params) (next.ended .kept)
 stayed = (
   stay-none (λ _. T.the-row) yes,
-  (stay-none-slice (0 ∷ []) tt (plain (λ _. u8)) yes, (gave-slice (1 ∷ []) tt (plain (λ _. u8)), (gave-slice (2 ∷ []) tt (plain (λ _. u8)), (stay-none (λ _. S.the-row) yes, tt)))),
+  (stay-none-slice (0 ∷ []) tt (plain (λ _. u8)) yes, (gave-slice (1 ∷ []) tt (plain (λ _. u8)), (gave-slice (2 ∷ []) tt (plain (λ _. u8)), (gave-slice (3 ∷ []) tt (plain (λ _. u16)), (stay-none (λ _. S.the-row) yes, tt))))),
 )
 
 abbrev mach : Playing → Val
 mach = LL.val T.the-type T′.the-laws
 
--- what is asked of `tick`, and what it says of the state, the answers and the workspace that it leaves
-abbrev Asked : Playing → RefT (List ℕ) → RefT (List ℕ) → RefT (List ℕ) → Script → Type 0
-Asked h p a w s = Ready (now p) (now w) s × PlayedTo (now p) (now w) s h × (h .tick < s .shape .ticks) × (answerSize (widthIn s) * s .reads .m ≤ length (now a))
+-- what is asked of `tick`, and what it says of the state, the answers, the workspace and the table of sets that it leaves
+abbrev Asked : Playing → RefT (List ℕ) → RefT (List ℕ) → RefT (List ℕ) → RefT (List ℕ) → Script → Type 0
+Asked h p a w t s = Ready (now p) (now w) s × PlayedTo (now p) (now w) (now t) s h × (h .tick < s .shape .ticks) × (answerSize (widthIn s) * s .reads .m ≤ length (now a))
 
-abbrev Said : Playing → RefT (List ℕ) → RefT (List ℕ) → RefT (List ℕ) → Script → Playing → List ℕ → List ℕ → Type 0
-Said h p a w s r ys zs = Went (now p) (now w) zs (now a) ys s h r × (r .tick ≡ suc (h .tick))
+abbrev Said : Playing → RefT (List ℕ) → RefT (List ℕ) → RefT (List ℕ) → RefT (List ℕ) → Script → Playing → List ℕ → List ℕ → List ℕ → Type 0
+Said h p a w t s r ys zs ts = Went (now p) (now w) zs (now t) ts (now a) ys s h r × (r .tick ≡ suc (h .tick))
 
 abbrev Tick : {M : Type 1} (𝓤 : URA M) (H : Heap 𝓤) (A : Atoms 𝓤) (at-mem : Memory → SProp 𝓤) (run : Routine → Fun 𝓤) → Contract 𝓤
 Tick 𝓤 H A at-mem run = tripleOf 𝓤 H A tick.signature (tick.spec 𝓤 H A at-mem run)
 
 module _ {M : Type 1} (𝓤 : URA M) (H : Heap 𝓤) (A : Atoms 𝓤) (W : Given 𝓤 H A) (at-mem : Memory → SProp 𝓤) (run : Routine → Fun 𝓤)
-    (κ₁ κ₂ κ₃ : Lft) (q₁ q₂ q₃ : Share) (h : Playing) (p a w : RefT (List ℕ)) (s : Script) (is : Is T.the-row h (mach h ∷ [])) (is-s : Is S.the-row s (LL.vals S.the-type S′.the-laws s)) where
+    (κ₁ κ₂ κ₃ κ₄ : Lft) (q₁ q₂ q₃ q₄ : Share) (h : Playing) (p a w t : RefT (List ℕ)) (s : Script) (is : Is T.the-row h (mach h ∷ [])) (is-s : Is S.the-row s (LL.vals S.the-type S′.the-laws s)) where
   abbrev Arg : Type 0
-  Arg = Playing × (RefT (List ℕ) × (RefT (List ℕ) × (RefT (List ℕ) × (Script × Unit {0}))))
+  Arg = Playing × (RefT (List ℕ) × (RefT (List ℕ) × (RefT (List ℕ) × (RefT (List ℕ) × (Script × Unit {0})))))
 
   abbrev x : Arg
-  x = (h, (p, (a, (w, (s, tt)))))
+  x = (h, (p, (a, (w, (t, (s, tt))))))
 
   -- the machine values of the slices and of the script
   abbrev pv : Val
@@ -99,6 +99,9 @@ module _ {M : Type 1} (𝓤 : URA M) (H : Heap 𝓤) (A : Atoms 𝓤) (W : Given
   abbrev wv : Val
   wv = sliceVal (w .ptr) (length (w .now))
 
+  abbrev tv : Val
+  tv = sliceVal (t .ptr) (length (t .now))
+
   abbrev sv : Val
   sv = LL.val S.the-type S′.the-laws s
 
@@ -107,22 +110,22 @@ module _ {M : Type 1} (𝓤 : URA M) (H : Heap 𝓤) (A : Atoms 𝓤) (W : Given
 
   -- what `tick` is passed beside the state
   abbrev Rest : Fml
-  Rest = fsep OwnP (fsep (MutSlice (named 1) κ₂ u8 .own a (av ∷ [])) (fsep (MutSlice (named 2) κ₃ u8 .own w (wv ∷ [])) (fsep (S.the-row .own s (sv ∷ [])) ftrue)))
+  Rest = fsep OwnP (fsep (MutSlice (named 1) κ₂ u8 .own a (av ∷ [])) (fsep (MutSlice (named 2) κ₃ u8 .own w (wv ∷ [])) (fsep (MutSlice (named 3) κ₄ u16 .own t (tv ∷ [])) (fsep (S.the-row .own s (sv ∷ [])) ftrue))))
 
-  abbrev at : List Val × (List Val × (List Val × (List Val × (List Val × Unit {0}))))
-  at = (mach h ∷ [], (pv ∷ [], (av ∷ [], (wv ∷ [], (sv ∷ [], tt)))))
+  abbrev at : List Val × (List Val × (List Val × (List Val × (List Val × (List Val × Unit {0})))))
+  at = (mach h ∷ [], (pv ∷ [], (av ∷ [], (wv ∷ [], (tv ∷ [], (sv ∷ [], tt))))))
 
   abbrev Post : Val → SProp 𝓤
-  Post = walkOf 𝓤 H A next.ended stayed (next.clauses 𝓤 H A at-mem run) .post (((κ₁, (κ₂, (κ₃, tt))), (q₁, (q₂, (q₃, tt))), tt, x, at), tt)
+  Post = walkOf 𝓤 H A next.ended stayed (next.clauses 𝓤 H A at-mem run) .post (((κ₁, (κ₂, (κ₃, (κ₄, tt)))), (q₁, (q₂, (q₃, (q₄, tt)))), tt, x, at), tt)
 
-  exits : (r : Playing) (v : Val) (ys zs : List ℕ) → Said h p a w s r ys zs → length ys ≡ length (now a) → length zs ≡ length (now w)
-      → ent 𝓤 (⋆ 𝓤 H A (‵ (T.the-row .own r (v ∷ [])) ∷ (‵ (flft κ₁ q₁) ⊛ (‵ (flft κ₂ q₂) ⊛ (‵ (flft κ₃ q₃) ⊛ ‵ ftrue))) ∷ ‵ (finally u8 (a .name) ys) ∷ ‵ (finally u8 (w .name) zs) ∷ ‵ OwnP ∷ [])) (Post v)
-  exits r v ys zs e l m =
-      qed W (‵ (T.the-row .own r (v ∷ [])) ∷ (‵ (flft κ₁ q₁) ⊛ (‵ (flft κ₂ q₂) ⊛ (‵ (flft κ₃ q₃) ⊛ ‵ ftrue))) ∷ ‵ (finally u8 (a .name) ys) ∷ ‵ (finally u8 (w .name) zs) ∷ ‵ OwnP ∷ []) ∵
-      suffices ! _ (ends-at 𝓤 H A next.ended stayed (next.clauses 𝓤 H A at-mem run) W (((κ₁, (κ₂, (κ₃, tt))), (q₁, (q₂, (q₃, tt))), tt, x, at), tt) v r (tt, (tt, (ys, (zs, (tt, tt))))) (tt, (tt, (l, (m, (tt, tt)))))) $
+  exits : (r : Playing) (v : Val) (ys zs ts : List ℕ) → Said h p a w t s r ys zs ts → length ys ≡ length (now a) → length zs ≡ length (now w) → length ts ≡ length (now t)
+      → ent 𝓤 (⋆ 𝓤 H A (‵ (T.the-row .own r (v ∷ [])) ∷ (‵ (flft κ₁ q₁) ⊛ (‵ (flft κ₂ q₂) ⊛ (‵ (flft κ₃ q₃) ⊛ (‵ (flft κ₄ q₄) ⊛ ‵ ftrue)))) ∷ ‵ (finally u8 (a .name) ys) ∷ ‵ (finally u8 (w .name) zs) ∷ ‵ (finally u16 (t .name) ts) ∷ ‵ OwnP ∷ [])) (Post v)
+  exits r v ys zs ts e l m n =
+      qed W (‵ (T.the-row .own r (v ∷ [])) ∷ (‵ (flft κ₁ q₁) ⊛ (‵ (flft κ₂ q₂) ⊛ (‵ (flft κ₃ q₃) ⊛ (‵ (flft κ₄ q₄) ⊛ ‵ ftrue)))) ∷ ‵ (finally u8 (a .name) ys) ∷ ‵ (finally u8 (w .name) zs) ∷ ‵ (finally u16 (t .name) ts) ∷ ‵ OwnP ∷ []) ∵
+      suffices ! _ (ends-at 𝓤 H A next.ended stayed (next.clauses 𝓤 H A at-mem run) W (((κ₁, (κ₂, (κ₃, (κ₄, tt)))), (q₁, (q₂, (q₃, (q₄, tt)))), tt, x, at), tt) v r (tt, (tt, (ys, (zs, (ts, (tt, tt)))))) (tt, (tt, (l, (m, (n, (tt, tt))))))) $
       says ! e $ move ! (1 ∷ []) $ frame ! $
-      -- [what r owns; the last answers; the last workspace; the plan]
-      nothing ! $ owned ! S.the-row (Is S.the-row) (LL.makes S.the-type S′.the-plain 𝓤 H A) s (sv ∷ []) is-s $ fjoin ! $ move ! (3 ∷ 0 ∷ []) $ fjoin ! $ move ! (2 ∷ 0 ∷ []) $ fjoin ! $ move ! (2 ∷ 0 ∷ []) $ fjoin ! $
+      -- [what r owns; the last answers; the last workspace; the last table of sets; the plan]
+      nothing ! $ owned ! S.the-row (Is S.the-row) (LL.makes S.the-type S′.the-plain 𝓤 H A) s (sv ∷ []) is-s $ fjoin ! $ move ! (4 ∷ 0 ∷ []) $ fjoin ! $ move ! (3 ∷ 0 ∷ []) $ fjoin ! $ move ! (2 ∷ 0 ∷ []) $ fjoin ! $ move ! (2 ∷ 0 ∷ []) $ fjoin ! $
       owned ! T.the-row (Is T.the-row) (LL.makes T.the-type T′.the-plain 𝓤 H A) h (mach h ∷ []) is $ fjoin ! $ done !
 
   -- the local at (l, 0), lent for the lifetime α under the name γ
@@ -133,82 +136,86 @@ module _ {M : Type 1} (𝓤 : URA M) (H : Heap 𝓤) (A : Atoms 𝓤) (W : Given
   own-at l α γ = MutRef (named 0) (α ∷ []) T.the-row .own (lent l γ) (vptr l 0 ∷ [])
 
   abbrev to-tick : ℕ → ℕ → GName → Tick 𝓤 H A at-mem run .Ghost
-  to-tick l α γ = (((α ∷ [], (κ₁, (κ₂, (κ₃, tt)))), (fullShare, (q₁, (q₂, (q₃, tt)))), tt, (lent l γ, (p, (a, (w, (s, tt))))), (vptr l 0 ∷ [], (pv ∷ [], (av ∷ [], (wv ∷ [], (sv ∷ [], tt)))))), tt)
+  to-tick l α γ = (((α ∷ [], (κ₁, (κ₂, (κ₃, (κ₄, tt))))), (fullShare, (q₁, (q₂, (q₃, (q₄, tt))))), tt, (lent l γ, (p, (a, (w, (t, (s, tt)))))), (vptr l 0 ∷ [], (pv ∷ [], (av ∷ [], (wv ∷ [], (tv ∷ [], (sv ∷ [], tt))))))), tt)
 
-  goes-tick : (l α : ℕ) (γ : GName) → Asked h p a w s
-      → ent 𝓤 (sep 𝓤 (sep 𝓤 (A .lft (α ∷ []) fullShare) (sep 𝓤 (A .lft κ₁ q₁) (sep 𝓤 (A .lft κ₂ q₂) (sep 𝓤 (A .lft κ₃ q₃) (sem 𝓤 H A ftrue))))) (sep 𝓤 (sem 𝓤 H A (own-at l α γ)) (sem 𝓤 H A Rest))) (Tick 𝓤 H A at-mem run .pre (to-tick l α γ))
+  goes-tick : (l α : ℕ) (γ : GName) → Asked h p a w t s
+      → ent 𝓤 (sep 𝓤 (sep 𝓤 (A .lft (α ∷ []) fullShare) (sep 𝓤 (A .lft κ₁ q₁) (sep 𝓤 (A .lft κ₂ q₂) (sep 𝓤 (A .lft κ₃ q₃) (sep 𝓤 (A .lft κ₄ q₄) (sem 𝓤 H A ftrue)))))) (sep 𝓤 (sem 𝓤 H A (own-at l α γ)) (sem 𝓤 H A Rest))) (Tick 𝓤 H A at-mem run .pre (to-tick l α γ))
   goes-tick l α γ pre =
-      qed W ((‵ (flft (α ∷ []) fullShare) ⊛ (‵ (flft κ₁ q₁) ⊛ (‵ (flft κ₂ q₂) ⊛ (‵ (flft κ₃ q₃) ⊛ ‵ ftrue)))) ∷ ‵ (own-at l α γ) ∷ ‵ Rest ∷ []) ∵ says ! pre $ frame ! $ fjoin ! $ done !
+      qed W ((‵ (flft (α ∷ []) fullShare) ⊛ (‵ (flft κ₁ q₁) ⊛ (‵ (flft κ₂ q₂) ⊛ (‵ (flft κ₃ q₃) ⊛ (‵ (flft κ₄ q₄) ⊛ ‵ ftrue))))) ∷ ‵ (own-at l α γ) ∷ ‵ Rest ∷ []) ∵ says ! pre $ frame ! $ fjoin ! $ done !
 
   -- the last values of `tick`'s parameters
   abbrev Lasts : Type 0
-  Lasts = Playing × (Unit {0} × (List ℕ × (List ℕ × (Unit {0} × Unit {0}))))
+  Lasts = Playing × (Unit {0} × (List ℕ × (List ℕ × (List ℕ × (Unit {0} × Unit {0})))))
 
   module _ (C : Calls 𝓤 H) (Λ : Loops 𝓤 H) (fm : FmC 𝓤 H (W .laws) C) (known : Triple 𝓤 (C #tick) (Tick 𝓤 H A at-mem run)) where
-    walk : Is (ShrSlice (named 0) κ₁ u8) p (pv ∷ []) → Room u8 (length (now a)) → Room u8 (length (now w)) → Asked h p a w s
-        → ent 𝓤 (onEntry 𝓤 H A next.signature (κ₁, (κ₂, (κ₃, tt))) (q₁, (q₂, (q₃, tt))) x at) (WpFn 𝓤 H C Λ code.function (mach h ∷ pv ∷ av ∷ wv ∷ sv ∷ []) Post)
-    walk is-p room-a room-w pre =
-        qed W ((‵ (flft κ₁ q₁) ⊛ (‵ (flft κ₂ q₂) ⊛ (‵ (flft κ₃ q₃) ⊛ ‵ ftrue))) ∷ ‵ (owns (T.the-row ∷ ShrSlice (named 0) κ₁ u8 ∷ MutSlice (named 1) κ₂ u8 ∷ MutSlice (named 2) κ₃ u8 ∷ S.the-row ∷ []) x at) ∷ []) ∵
+    walk : Is (ShrSlice (named 0) κ₁ u8) p (pv ∷ []) → Room u8 (length (now a)) → Room u8 (length (now w)) → Room u16 (length (now t)) → Asked h p a w t s
+        → ent 𝓤 (onEntry 𝓤 H A next.signature (κ₁, (κ₂, (κ₃, (κ₄, tt)))) (q₁, (q₂, (q₃, (q₄, tt)))) x at) (WpFn 𝓤 H C Λ code.function (mach h ∷ pv ∷ av ∷ wv ∷ tv ∷ sv ∷ []) Post)
+    walk is-p room-a room-w room-t pre =
+        qed W ((‵ (flft κ₁ q₁) ⊛ (‵ (flft κ₂ q₂) ⊛ (‵ (flft κ₃ q₃) ⊛ (‵ (flft κ₄ q₄) ⊛ ‵ ftrue)))) ∷ ‵ (owns (T.the-row ∷ ShrSlice (named 0) κ₁ u8 ∷ MutSlice (named 1) κ₂ u8 ∷ MutSlice (named 2) κ₃ u8 ∷ MutSlice (named 3) κ₄ u16 ∷ S.the-row ∷ []) x at) ∷ []) ∵
         move ! (1 ∷ []) $ fsplit ! $ drop ! $ fsplit ! $
         -- [the plan; the other slices and the script; the tokens]
         use1 W (‵ OwnP ⊛ ‵ OwnP) (shr-slice-copy 𝓤 H A W (named 0) κ₁ u8 .twice p (pv ∷ [])) $ split ! $ move ! (1 ∷ 2 ∷ []) $ fjoin ! $
         -- [the rest; the plan; the tokens]
-        enter ! C Λ code.function (mach h ∷ pv ∷ av ∷ wv ∷ sv ∷ []) _ $
-        alloc1 ! (λ l₀. alloc1 ! (λ l₁. alloc1 ! (λ l₂. alloc1 ! (λ l₃. alloc1 ! (λ l₄. alloc1 ! (λ l₅. alloc1 ! (λ l₆. alloc1 ! (λ l₇. alloc1 ! (λ l₈. alloc1 ! (λ l₉. alloc1 ! (λ l₁₀. alloc1 ! (λ l₁₁. alloc1 ! (λ l₁₂. alloc0 ! $ params1 ! $
-        pass1 ! (init ! 22 refl (LL.lawful T.the-type T′.the-laws 𝓤 H A W .typed h _ is .0)) $ pass1 ! (init ! 20 refl (shr-slice-lawful 𝓤 H A W (named 0) κ₁ u8 .typed p (pv ∷ []) is-p .0)) $
-        pass1 ! (init ! 18 refl (tt, (tt, (record { fits = room-a .0 }, tt)))) $ pass1 ! (init ! 16 refl (tt, (tt, (record { fits = room-w .0 }, tt)))) $
-        pass1 ! (init ! 14 refl (LL.lawful S.the-type S′.the-laws 𝓤 H A W .typed s _ is-s .0)) $ pass0 ! $
-        -- [_12; …; _11; …; _10; …; .. ; _2; …; _1; …; room for _0; …; the rest; the plan; the tokens]
-        assigns ! (of-opd ! (load ! (from ! (stop !)) (look ! 22 refl))) (from ! (stop !)) (init ! 12 refl (LL.lawful T.the-type T′.the-laws 𝓤 H A W .typed h _ is .0)) $
-        assigns ! (addr ! (from ! (stop !))) (from ! (stop !)) (init ! 8 refl (tt, tt)) $
-        -- the answers are lent on, then the workspace
-        assigns ! (addr ! (from ! (fld ! refl (hop ! (look-in ! 18 (sub ! 0 refl (whole !))) (stop !))))) (from ! (stop !)) (init ! 6 refl (tt, tt)) $
-        assigns ! (agg ! (and-then ! (load ! (from ! (stop !)) (look ! 6 refl)) (and-then ! (load ! (from ! (fld ! refl (stop !))) (look-in ! 18 (sub ! 1 refl (whole !)))) (no-more !)))) (from ! (stop !)) (init ! 4 refl (tt, (tt, (record { fits = room-a .0 }, tt)))) $
-        assigns ! (addr ! (from ! (fld ! refl (hop ! (look-in ! 16 (sub ! 0 refl (whole !))) (stop !))))) (from ! (stop !)) (init ! 2 refl (tt, tt)) $
-        assigns ! (agg ! (and-then ! (load ! (from ! (stop !)) (look ! 2 refl)) (and-then ! (load ! (from ! (fld ! refl (stop !))) (look-in ! 16 (sub ! 1 refl (whole !)))) (no-more !)))) (from ! (stop !)) (init ! 0 refl (tt, (tt, (record { fits = room-w .0 }, tt)))) $
-        -- _6 is lent
-        owned ! T.the-row (Is T.the-row) (LL.makes T.the-type T′.the-plain 𝓤 H A) h (mach h ∷ []) is $ move ! (13 ∷ 0 ∷ []) $ use2 W (‵ (partAt T.the-row fullShare h l₆ 0)) (part-in 𝓤 H A W T.the-row refl fullShare h l₆ 0 (mach h)) $
+        enter ! C Λ code.function (mach h ∷ pv ∷ av ∷ wv ∷ tv ∷ sv ∷ []) _ $
+        alloc1 ! (λ l₀. alloc1 ! (λ l₁. alloc1 ! (λ l₂. alloc1 ! (λ l₃. alloc1 ! (λ l₄. alloc1 ! (λ l₅. alloc1 ! (λ l₆. alloc1 ! (λ l₇. alloc1 ! (λ l₈. alloc1 ! (λ l₉. alloc1 ! (λ l₁₀. alloc1 ! (λ l₁₁. alloc1 ! (λ l₁₂. alloc1 ! (λ l₁₃. alloc1 ! (λ l₁₄. alloc1 ! (λ l₁₅. alloc0 ! $ params1 ! $
+        pass1 ! (init ! 28 refl (LL.lawful T.the-type T′.the-laws 𝓤 H A W .typed h _ is .0)) $ pass1 ! (init ! 26 refl (shr-slice-lawful 𝓤 H A W (named 0) κ₁ u8 .typed p (pv ∷ []) is-p .0)) $
+        pass1 ! (init ! 24 refl (tt, (tt, (record { fits = room-a .0 }, tt)))) $ pass1 ! (init ! 22 refl (tt, (tt, (record { fits = room-w .0 }, tt)))) $ pass1 ! (init ! 20 refl (tt, (tt, (record { fits = room-t .0 }, tt)))) $
+        pass1 ! (init ! 18 refl (LL.lawful S.the-type S′.the-laws 𝓤 H A W .typed s _ is-s .0)) $ pass0 ! $
+        -- [_15; …; _14; …; _13; …; .. ; _2; …; _1; …; room for _0; …; the rest; the plan; the tokens]
+        assigns ! (of-opd ! (load ! (from ! (stop !)) (look ! 28 refl))) (from ! (stop !)) (init ! 16 refl (LL.lawful T.the-type T′.the-laws 𝓤 H A W .typed h _ is .0)) $
+        assigns ! (addr ! (from ! (stop !))) (from ! (stop !)) (init ! 12 refl (tt, tt)) $
+        -- the answers are lent on, then the workspace, then the table of sets
+        assigns ! (addr ! (from ! (fld ! refl (hop ! (look-in ! 24 (sub ! 0 refl (whole !))) (stop !))))) (from ! (stop !)) (init ! 10 refl (tt, tt)) $
+        assigns ! (agg ! (and-then ! (load ! (from ! (stop !)) (look ! 10 refl)) (and-then ! (load ! (from ! (fld ! refl (stop !))) (look-in ! 24 (sub ! 1 refl (whole !)))) (no-more !)))) (from ! (stop !)) (init ! 8 refl (tt, (tt, (record { fits = room-a .0 }, tt)))) $
+        assigns ! (addr ! (from ! (fld ! refl (hop ! (look-in ! 22 (sub ! 0 refl (whole !))) (stop !))))) (from ! (stop !)) (init ! 6 refl (tt, tt)) $
+        assigns ! (agg ! (and-then ! (load ! (from ! (stop !)) (look ! 6 refl)) (and-then ! (load ! (from ! (fld ! refl (stop !))) (look-in ! 22 (sub ! 1 refl (whole !)))) (no-more !)))) (from ! (stop !)) (init ! 4 refl (tt, (tt, (record { fits = room-w .0 }, tt)))) $
+        assigns ! (addr ! (from ! (fld ! refl (hop ! (look-in ! 20 (sub ! 0 refl (whole !))) (stop !))))) (from ! (stop !)) (init ! 2 refl (tt, tt)) $
+        assigns ! (agg ! (and-then ! (load ! (from ! (stop !)) (look ! 2 refl)) (and-then ! (load ! (from ! (fld ! refl (stop !))) (look-in ! 20 (sub ! 1 refl (whole !)))) (no-more !)))) (from ! (stop !)) (init ! 0 refl (tt, (tt, (record { fits = room-t .0 }, tt)))) $
+        -- _7 is lent
+        owned ! T.the-row (Is T.the-row) (LL.makes T.the-type T′.the-plain 𝓤 H A) h (mach h ∷ []) is $ move ! (17 ∷ 0 ∷ []) $ use2 W (‵ (partAt T.the-row fullShare h l₇ 0)) (part-in 𝓤 H A W T.the-row refl fullShare h l₇ 0 (mach h)) $
         lft-new ! tt (λ α. move ! (1 ∷ []) $
-        use1 W (later (some (λ (γ : GName). ‵ (own-at l₆ α γ) ⊛ ‵ (flent (α ∷ []) (Body (mem T.the-row) l₆ 0 γ))))) (lends-ref 𝓤 H A W T.the-row (named 0) (α ∷ []) h l₆ 0) $ await ! tt $ pick ! (λ γ. split ! $
-        move ! (2 ∷ 30 ∷ []) $ join ! $ move ! (0 ∷ 1 ∷ 28 ∷ []) $ use3 W (raw (Tick 𝓤 H A at-mem run .pre (to-tick l₆ α γ))) (goes-tick l₆ α γ pre) $
-        -- [what tick asks; the lender's part; _12; …; .. ; _7; …; (_6's) …; _5; …; .. ; _1; …; room for _0; …; the plan]
-        calls-at ! fm (Tick 𝓤 H A at-mem run) known (to-tick l₆ α γ)
-        (and-then ! (load ! (from ! (stop !)) (look ! 10 refl)) (and-then ! (load ! (from ! (stop !)) (look ! 21 refl)) (and-then ! (load ! (from ! (stop !)) (look ! 6 refl)) (and-then ! (load ! (from ! (stop !)) (look ! 2 refl)) (and-then ! (load ! (from ! (stop !)) (look ! 15 refl)) (no-more !)))))) (λ v.
-        use1 W (later (some (λ (u : Unit {0}). ((‵ (flft (α ∷ []) fullShare) ⊛ (‵ (flft κ₁ q₁) ⊛ (‵ (flft κ₂ q₂) ⊛ (‵ (flft κ₃ q₃) ⊛ ‵ ftrue)))) ⊛ ‵ (Nothing .own u (v ∷ []))) ⊛ raw (ensured 𝓤 H A tick.ended (tick.clauses 𝓤 H A at-mem run) (α ∷ [], (κ₁, (κ₂, (κ₃, tt)))) (lent l₆ γ, (p, (a, (w, (s, tt))))) tt u)))) (id⊢ 𝓤 _) $ await ! tt $ pick ! (λ u.
+        use1 W (later (some (λ (γ : GName). ‵ (own-at l₇ α γ) ⊛ ‵ (flent (α ∷ []) (Body (mem T.the-row) l₇ 0 γ))))) (lends-ref 𝓤 H A W T.the-row (named 0) (α ∷ []) h l₇ 0) $ await ! tt $ pick ! (λ γ. split ! $
+        move ! (2 ∷ 36 ∷ []) $ join ! $ move ! (0 ∷ 1 ∷ 34 ∷ []) $ use3 W (raw (Tick 𝓤 H A at-mem run .pre (to-tick l₇ α γ))) (goes-tick l₇ α γ pre) $
+        -- [what tick asks; the lender's part; _15; …; .. ; _8; …; (_7's) …; _6; …; .. ; _1; …; room for _0; …; the plan]
+        calls-at ! fm (Tick 𝓤 H A at-mem run) known (to-tick l₇ α γ)
+        (and-then ! (load ! (from ! (stop !)) (look ! 14 refl)) (and-then ! (load ! (from ! (stop !)) (look ! 27 refl)) (and-then ! (load ! (from ! (stop !)) (look ! 10 refl)) (and-then ! (load ! (from ! (stop !)) (look ! 6 refl)) (and-then ! (load ! (from ! (stop !)) (look ! 2 refl)) (and-then ! (load ! (from ! (stop !)) (look ! 19 refl)) (no-more !))))))) (λ v.
+        use1 W (later (some (λ (u : Unit {0}). ((‵ (flft (α ∷ []) fullShare) ⊛ (‵ (flft κ₁ q₁) ⊛ (‵ (flft κ₂ q₂) ⊛ (‵ (flft κ₃ q₃) ⊛ (‵ (flft κ₄ q₄) ⊛ ‵ ftrue))))) ⊛ ‵ (Nothing .own u (v ∷ []))) ⊛ raw (ensured 𝓤 H A tick.ended (tick.clauses 𝓤 H A at-mem run) (α ∷ [], (κ₁, (κ₂, (κ₃, (κ₄, tt))))) (lent l₇ γ, (p, (a, (w, (t, (s, tt)))))) tt u)))) (id⊢ 𝓤 _) $ await ! tt $ pick ! (λ u.
         split ! $ move ! (1 ∷ []) $
-        use1 W (some (λ (ws : Lasts). ‵ (lasts tick.ended (α ∷ [], (κ₁, (κ₂, (κ₃, tt)))) (lent l₆ γ, (p, (a, (w, (s, tt))))) ws) ⊛ raw (fact 𝓤 (Said h p a w s (ws .0) (ws .1 .1 .0) (ws .1 .1 .1 .0))))) (id⊢ 𝓤 _) $ pick ! (λ ws.
-        split ! $ move ! (1 ∷ []) $ heard ! (Said h p a w s (ws .0) (ws .1 .1 .0) (ws .1 .1 .1 .0)) (λ e. fsplit ! $ move ! (1 ∷ []) $ fsplit ! $ drop ! $ fsplit ! $ fsplit ! $ move ! (1 ∷ []) $ feqL ! (λ l.
-        -- [the last answers; what is said of the workspace and the script; the last state; the tokens and the unit; the lender's part; ..]
+        use1 W (some (λ (ws : Lasts). ‵ (lasts tick.ended (α ∷ [], (κ₁, (κ₂, (κ₃, (κ₄, tt))))) (lent l₇ γ, (p, (a, (w, (t, (s, tt)))))) ws) ⊛ raw (fact 𝓤 (Said h p a w t s (ws .0) (ws .1 .1 .0) (ws .1 .1 .1 .0) (ws .1 .1 .1 .1 .0))))) (id⊢ 𝓤 _) $ pick ! (λ ws.
+        split ! $ move ! (1 ∷ []) $ heard ! (Said h p a w t s (ws .0) (ws .1 .1 .0) (ws .1 .1 .1 .0) (ws .1 .1 .1 .1 .0)) (λ e. fsplit ! $ move ! (1 ∷ []) $ fsplit ! $ drop ! $ fsplit ! $ fsplit ! $ move ! (1 ∷ []) $ feqL ! (λ l.
+        -- [the last answers; what is said of the workspace, the table of sets and the script; the last state; the tokens and the unit; the lender's part; ..]
         move ! (1 ∷ []) $ fsplit ! $ fsplit ! $ move ! (1 ∷ []) $ feqL ! (λ m.
-        -- [the last workspace; …; the last answers; the last state; the tokens and the unit; the lender's part; ..]
-        move ! (1 ∷ []) $ drop ! $ move ! (3 ∷ []) $ split ! $ split ! $ move ! (2 ∷ []) $ feqL ! (λ z.
-        -- [the token; the tokens; the last workspace; the last answers; the last state; the lender's part; _12; …; .. ; room for _0; …; the plan]
-        land ! (from ! (stop !)) (init ! 16 refl (subst (λ (y : Val). So (hasTy tyUnit y) × WT y) (sym (ap only z)) (tt, tt))) $
-        lft-end ! tt $ move ! (0 ∷ 5 ∷ 4 ∷ []) $ use3 W (later (‵ (partAt T.the-row fullShare (ws .0) l₆ 0))) (ref-back 𝓤 H A W T.the-row (α ∷ []) γ (ws .0) l₆ 0) $ await ! tt $
-        use1 W (some (λ (v : Val). ‵ (fat fullShare T′.mir l₆ 0 v) ⊛ ‵ (T.the-row .own (ws .0) (v ∷ [])))) (part-out 𝓤 H A W T.the-row refl fullShare (ws .0) l₆ 0) $ pick ! (λ v. split ! $ move ! (1 ∷ []) $
+        -- [the last workspace; what is said of the table of sets and the script; the last answers; the last state; the tokens and the unit; the lender's part; ..]
+        move ! (1 ∷ []) $ fsplit ! $ fsplit ! $ move ! (1 ∷ []) $ feqL ! (λ n.
+        -- [the last table of sets; …; the last workspace; the last answers; the last state; the tokens and the unit; the lender's part; ..]
+        move ! (1 ∷ []) $ drop ! $ move ! (4 ∷ []) $ split ! $ split ! $ move ! (2 ∷ []) $ feqL ! (λ z.
+        -- [the token; the tokens; the last table of sets; the last workspace; the last answers; the last state; the lender's part; _15; …; .. ; room for _0; …; the plan]
+        land ! (from ! (stop !)) (init ! 21 refl (subst (λ (y : Val). So (hasTy tyUnit y) × WT y) (sym (ap only z)) (tt, tt))) $
+        lft-end ! tt $ move ! (0 ∷ 6 ∷ 5 ∷ []) $ use3 W (later (‵ (partAt T.the-row fullShare (ws .0) l₇ 0))) (ref-back 𝓤 H A W T.the-row (α ∷ []) γ (ws .0) l₇ 0) $ await ! tt $
+        use1 W (some (λ (v : Val). ‵ (fat fullShare T′.mir l₇ 0 v) ⊛ ‵ (T.the-row .own (ws .0) (v ∷ [])))) (part-out 𝓤 H A W T.the-row refl fullShare (ws .0) l₇ 0) $ pick ! (λ v. split ! $ move ! (1 ∷ []) $
         peeks ! T.the-row (Is T.the-row) (shows 𝓤 H A T.the-row) (ws .0) (v ∷ []) (λ is′.
-        -- [what the last state owns; _6; the tokens; the last workspace; the last answers; _12; …; .. ; _7; …; (_6's) …; _5; …; .. ; room for _0; …; the plan]
-        assigns ! (of-opd ! (load ! (from ! (stop !)) (look ! 1 refl))) (from ! (stop !)) (init ! 28 refl (LL.lawful T.the-type T′.the-laws 𝓤 H A W .typed (ws .0) _ is′ .0)) $
-        returns ! (look ! 28 refl) $ forget ! 1 refl $ forget ! 5 refl $ forget ! 7 refl $ forget ! 9 refl $ forget ! 11 refl $ forget ! 13 refl $ forget ! 15 refl $ forget ! 18 refl $ forget ! 20 refl $ forget ! 22 refl $ forget ! 24 refl $ forget ! 26 refl $ forget ! 28 refl $
-        move ! (28 ∷ 29 ∷ []) $ free1 ! $ move ! (26 ∷ 27 ∷ []) $ free1 ! $ move ! (24 ∷ 25 ∷ []) $ free1 ! $ move ! (22 ∷ 23 ∷ []) $ free1 ! $ move ! (20 ∷ 21 ∷ []) $ free1 ! $ move ! (18 ∷ 19 ∷ []) $ free1 ! $ move ! (1 ∷ 17 ∷ []) $ free1 ! $
-        move ! (14 ∷ 15 ∷ []) $ free1 ! $ move ! (12 ∷ 13 ∷ []) $ free1 ! $ move ! (10 ∷ 11 ∷ []) $ free1 ! $ move ! (8 ∷ 9 ∷ []) $ free1 ! $ move ! (6 ∷ 7 ∷ []) $ free1 ! $ move ! (4 ∷ 5 ∷ []) $ free1 ! $ free0 ! $
-        keep ! (0 ∷ 1 ∷ 3 ∷ 2 ∷ 4 ∷ []) $ by ! (exits (ws .0) v (ws .1 .1 .0) (ws .1 .1 .1 .0) e l m)))))))))))))))))))))))))
+        -- [what the last state owns; _7; the tokens; the last table of sets; the last workspace; the last answers; _15; …; .. ; _8; …; (_7's) …; _6; …; .. ; room for _0; …; the plan]
+        assigns ! (of-opd ! (load ! (from ! (stop !)) (look ! 1 refl))) (from ! (stop !)) (init ! 35 refl (LL.lawful T.the-type T′.the-laws 𝓤 H A W .typed (ws .0) _ is′ .0)) $
+        returns ! (look ! 35 refl) $ forget ! 1 refl $ forget ! 6 refl $ forget ! 8 refl $ forget ! 10 refl $ forget ! 12 refl $ forget ! 14 refl $ forget ! 16 refl $ forget ! 18 refl $ forget ! 20 refl $ forget ! 23 refl $ forget ! 25 refl $ forget ! 27 refl $ forget ! 29 refl $ forget ! 31 refl $ forget ! 33 refl $ forget ! 35 refl $
+        move ! (35 ∷ 36 ∷ []) $ free1 ! $ move ! (33 ∷ 34 ∷ []) $ free1 ! $ move ! (31 ∷ 32 ∷ []) $ free1 ! $ move ! (29 ∷ 30 ∷ []) $ free1 ! $ move ! (27 ∷ 28 ∷ []) $ free1 ! $ move ! (25 ∷ 26 ∷ []) $ free1 ! $ move ! (23 ∷ 24 ∷ []) $ free1 ! $ move ! (1 ∷ 22 ∷ []) $ free1 ! $
+        move ! (19 ∷ 20 ∷ []) $ free1 ! $ move ! (17 ∷ 18 ∷ []) $ free1 ! $ move ! (15 ∷ 16 ∷ []) $ free1 ! $ move ! (13 ∷ 14 ∷ []) $ free1 ! $ move ! (11 ∷ 12 ∷ []) $ free1 ! $ move ! (9 ∷ 10 ∷ []) $ free1 ! $ move ! (7 ∷ 8 ∷ []) $ free1 ! $ move ! (5 ∷ 6 ∷ []) $ free1 ! $ free0 ! $
+        keep ! (0 ∷ 1 ∷ 4 ∷ 3 ∷ 2 ∷ 5 ∷ []) $ by ! (exits (ws .0) v (ws .1 .1 .0) (ws .1 .1 .1 .0) (ws .1 .1 .1 .1 .0) e l m n)))))))))))))))))))))))))))))
 
 module _ {M : Type 1} (𝓤 : URA M) (H : Heap 𝓤) (A : Atoms 𝓤) (W : Given 𝓤 H A) (at-mem : Memory → SProp 𝓤) (run : Routine → Fun 𝓤) where
   next-walks : (C : Calls 𝓤 H) (Λ : Loops 𝓤 H) → FmC 𝓤 H (W .laws) C → Triple 𝓤 (C #tick) (Tick 𝓤 H A at-mem run) → Walks 𝓤 H A next.ended stayed (WpFn 𝓤 H C Λ code.function) (next.clauses 𝓤 H A at-mem run)
   next-walks C Λ fm known = walked 𝓤 H A next.ended stayed (next.clauses 𝓤 H A at-mem run) (WpFn 𝓤 H C Λ code.function)
-      (λ κs. (LL.vals T.the-type T′.the-laws, (slice-vals, (slice-vals, (slice-vals, (LL.vals S.the-type S′.the-laws, tt))))))
-      (λ κs. (LL.tells T.the-type T′.the-laws, (shr-slice-tells (named 0) (κs .0) u8, (mut-slice-tells (named 1) (κs .1 .0) u8, (mut-slice-tells (named 2) (κs .1 .1 .0) u8, (LL.tells S.the-type S′.the-laws, tt))))))
-      (λ κs qs bounds a _ are. needs 𝓤 (Asked (a .0) (a .1 .0) (a .1 .1 .0) (a .1 .1 .1 .0) (a .1 .1 .1 .1 .0)) _ (λ pre.
-      walk 𝓤 H A W at-mem run (κs .0) (κs .1 .0) (κs .1 .1 .0) (qs .0) (qs .1 .0) (qs .1 .1 .0) (a .0) (a .1 .0) (a .1 .1 .0) (a .1 .1 .1 .0) (a .1 .1 .1 .1 .0) (are .0) (are .1 .1 .1 .1 .0)
-      C Λ fm known (are .1 .0) (are .1 .1 .0 .0 .1) (are .1 .1 .1 .0 .0 .1) pre))
+      (λ κs. (LL.vals T.the-type T′.the-laws, (slice-vals, (slice-vals, (slice-vals, (slice-vals, (LL.vals S.the-type S′.the-laws, tt)))))))
+      (λ κs. (LL.tells T.the-type T′.the-laws, (shr-slice-tells (named 0) (κs .0) u8, (mut-slice-tells (named 1) (κs .1 .0) u8, (mut-slice-tells (named 2) (κs .1 .1 .0) u8, (mut-slice-tells (named 3) (κs .1 .1 .1 .0) u16, (LL.tells S.the-type S′.the-laws, tt)))))))
+      (λ κs qs bounds a _ are. needs 𝓤 (Asked (a .0) (a .1 .0) (a .1 .1 .0) (a .1 .1 .1 .0) (a .1 .1 .1 .1 .0) (a .1 .1 .1 .1 .1 .0)) _ (λ pre.
+      walk 𝓤 H A W at-mem run (κs .0) (κs .1 .0) (κs .1 .1 .0) (κs .1 .1 .1 .0) (qs .0) (qs .1 .0) (qs .1 .1 .0) (qs .1 .1 .1 .0) (a .0) (a .1 .0) (a .1 .1 .0) (a .1 .1 .1 .0) (a .1 .1 .1 .1 .0) (a .1 .1 .1 .1 .1 .0) (are .0) (are .1 .1 .1 .1 .1 .0)
+      C Λ fm known (are .1 .0) (are .1 .1 .0 .0 .1) (are .1 .1 .1 .0 .0 .1) (are .1 .1 .1 .1 .0 .0 .1) pre))
 
-  goes : AllGo 𝓤 H A W 3 (next.signature .params) (next.ended .kept) stayed
+  goes : AllGo 𝓤 H A W 4 (next.signature .params) (next.ended .kept) stayed
   goes = (
-    goes-none 𝓤 H A W 3 (λ _. T.the-row) yes (λ κs x f. refl),
+    goes-none 𝓤 H A W 4 (λ _. T.the-row) yes (λ κs x f. refl),
     (
-      goes-none-slice 𝓤 H A W 3 (0 ∷ []) tt (plain (λ _. u8)) yes,
-      (goes-gave-slice 𝓤 H A W 3 1 tt (plain (λ _. u8)), (goes-gave-slice 𝓤 H A W 3 2 tt (plain (λ _. u8)), (goes-none 𝓤 H A W 3 (λ _. S.the-row) yes (λ κs x f. refl), tt))),
+      goes-none-slice 𝓤 H A W 4 (0 ∷ []) tt (plain (λ _. u8)) yes,
+      (goes-gave-slice 𝓤 H A W 4 1 tt (plain (λ _. u8)), (goes-gave-slice 𝓤 H A W 4 2 tt (plain (λ _. u8)), (goes-gave-slice 𝓤 H A W 4 3 tt (plain (λ _. u16)), (goes-none 𝓤 H A W 4 (λ _. S.the-row) yes (λ κs x f. refl), tt)))),
     ),
   )
 
