@@ -3,9 +3,11 @@
 use mathlib.Core.Path.{_≡_, refl}
 use mathlib.Core.Bool.{Bool, true, false, cond}
 use mathlib.Core.List.{List, [], _∷_, _++_, map}
-use Prim.Native.Nat.{ℕ, zero, suc, _-_, _≤_, _<_}
-use lib.ListN.{length, getD, replicate}
-use borrow.Author.Tests.{lt-ltb, le-ltb}
+use mathlib.Core.Logic.{inl, inr}
+use Prim.Native.Nat.{ℕ, zero, suc, _-_, _^_, _≤_, _<_}
+use lib.Dec.{eqb}
+use lib.ListN.{length, replicate}
+use borrow.Author.Tests.{lt-ltb, le-ltb, eqb-false}
 use Rattle.register.specs as register-specs
 use Rattle.register.specs.Server.{Server, Status, faulty, cured, correct}
 use Rattle.plan.specs.Form.{widthOf}
@@ -13,13 +15,12 @@ use Rattle.plan.specs.Header.{headerOf}
 use Rattle.plan.specs as plan-specs
 use Rattle.register.proofs.Stamped.{value-stamped, number-stamped}
 use Rattle.calendar.specs.declared.Stamped.{Stamped as Kept}
-use Rattle.cluster.specs.declared.Known.{Known}
-use Rattle.cluster.specs.Inputs.{pairAt, Narrow}
+use Rattle.calendar.specs.Layout.{noPair}
 use Rattle.simulator.specs as simulator-specs
-use Rattle.serving.specs.Stored.{keys}
+use Rattle.serving.specs.Stored.{pairsIn}
 use Rattle.answers.specs.Workspace.{workspaceSize, zeroed}
 use Rattle.simulator.specs.Look.{Stamped, conditionOf, shownBy, placeWith, emptyPlace, placesOf, Looked, lookShown, lookRefused, lookAfter, lookIn}
-use Rattle.simulator.specs.Numbered.{valuedPlace, shownIn, lookedAs, seenOf}
+use Rattle.simulator.specs.Numbered.{storedIn, shownIn, lookedAs, seenOf}
 
 -- In a form, whose values have w bits.
 module _ (form : ℕ) (s workspace : List ℕ) (b t : ℕ) where
@@ -54,28 +55,25 @@ module _ (form : ℕ) (s workspace : List ℕ) (b t : ℕ) where
         unfolding lookIn lookAfter
         look-done h x e = rw (accepted, le-ltb (length workspace) workspaceSize room, lt-ltb b (headerOf w s .n) server, lt-ltb t (headerOf w s .ticks) h) e
 
--- the pairs of a plan with the known pairs, by their numbers
-module _ (w : ℕ) (known : Known) (narrow : Narrow w known) where
+-- a store shows its pairs, if their values have w bits
+module _ (w : ℕ) where
   shows : ℕ → Stamped
   shows k = record { value = register-specs.Plan.valueOf w k; number = register-specs.Plan.numberOf w k }
 
-  shown-keys : (ps : List Kept) → map shows (map (pairAt w known) (keys ps)) ≡ shownIn (map (valuedPlace (known .values)) ps)
-  unfolding keys shownIn shows
-  shown-keys [] = refl
-  shown-keys (p ∷ ps) = go (p .kept) (shown-keys ps)
+  abbrev NarrowIn : List Kept → Type 0
+  NarrowIn kept = (p : Kept) → register-specs.Lists.In p kept → (p .number ≡ noPair → ⊥) → p .value < 2 ^ w
+
+  shown-stored : (ps : List Kept) → NarrowIn ps → map shows (pairsIn w ps) ≡ storedIn ps
+  unfolding pairsIn storedIn shows
+  shown-stored [] narrow = refl
+  shown-stored (p ∷ ps) narrow = go (eqb (p .number) noPair) refl (shown-stored ps (λ q i. narrow q (inr i)))
     where
-      pair : Stamped
-      pair = record { value = getD (known .values) (p .number) 0; number = p .number }
-
-      first : shows (pairAt w known (p .number)) ≡ pair
-      first =
-          let v = getD (known .values) (p .number) 0 in
-          rw (value-stamped w v (p .number) (narrow (p .number)), number-stamped w v (p .number) (narrow (p .number)))
-
-      go : (c : Bool) → map shows (map (pairAt w known) (keys ps)) ≡ shownIn (map (valuedPlace (known .values)) ps)
-          → map shows (map (pairAt w known) (cond c (p .number ∷ keys ps) [])) ≡ cond c (pair ∷ shownIn (map (valuedPlace (known .values)) ps)) []
-      go true e = rw (first, e)
-      go false e = refl
+      go : (b : Bool) → eqb (p .number) noPair ≡ b → map shows (pairsIn w ps) ≡ storedIn ps
+          → map shows (cond b [] (register-specs.Plan.stamped w (p .value) (p .number) ∷ pairsIn w ps)) ≡ cond b [] (record { value = p .value; number = p .number } ∷ storedIn ps)
+      go true n e = refl
+      go false n e =
+          let l : p .value < 2 ^ w = narrow p (inl refl) (eqb-false (p .number) noPair n) in
+          rw (value-stamped w (p .value) (p .number) l, number-stamped w (p .value) (p .number) l, e)
 
 shown-as : (x : Status) (pairs : List Stamped) → lookedAs pairs (seenOf x) ≡ plan-specs.Check.result (record { condition = conditionOf x; pairs = pairs })
 unfolding conditionOf
@@ -93,10 +91,9 @@ shown-places pairs = go pairs (plan-specs.Packed.storeDepth - length pairs)
     go [] (suc m) = refl
     go (p ∷ pairs) m = rw (go pairs m)
 
-module _ (w : ℕ) (x : Server) (status : Status) (kept : List Kept) (known : Known) (es : x .status ≡ status) (ek : x .kept ≡ map (pairAt w known) (keys kept))
-    (narrow : Narrow w known) where
-  pub shown : (seen : simulator-specs.declared.look.Seen.Seen) (valued places : List simulator-specs.declared.look.Place.Place) (a v : List ℕ) → seen ≡ seenOf status → valued ≡ map (valuedPlace (known .values)) kept → places ≡ placesOf (shownIn valued) → a ≡ v
+module _ (w : ℕ) (x : Server) (status : Status) (kept : List Kept) (es : x .status ≡ status) (ek : x .kept ≡ pairsIn w kept) (narrow : NarrowIn w kept) where
+  pub shown : (seen : simulator-specs.declared.look.Seen.Seen) (places : List simulator-specs.declared.look.Place.Place) (a v : List ℕ) → seen ≡ seenOf status → places ≡ placesOf (storedIn kept) → a ≡ v
       → record { outcome = lookedAs (shownIn places) seen; places = places; workspace = a } ≡ lookShown (shownBy w x) v
   unfolding shownBy shows
-  shown seen valued places a v e d p z =
-      rw (p, e, z, d, shown-places (shownIn (map (valuedPlace (known .values)) kept)), shown-as status (shownIn (map (valuedPlace (known .values)) kept)), es, ek, shown-keys w known narrow kept)
+  shown seen places a v e p z =
+      rw (p, e, z, shown-places (storedIn kept), shown-as status (storedIn kept), es, ek, shown-stored w kept narrow)

@@ -6,8 +6,9 @@ use Prim.Native.Nat.{ℕ}
 use Rattle.register.specs.Server.{Status, faulty, cured, correct}
 use Rattle.plan.specs.Check.{Outcome, refused, result}
 use Rattle.plan.specs.Numbered.{refusalNumber}
-use lib.ListN.{getD}
+use lib.Dec.{eqb}
 use Rattle.calendar.specs.declared.Stamped.{Stamped as Kept}
+use Rattle.calendar.specs.Layout.{noPair}
 use Rattle.simulator.specs.declared.look.{Place.Place, Seen.Seen, Looked.Looked}
 use Rattle.simulator.specs.declared.play.Played.{Played}
 use Rattle.simulator.specs.declared.play.Played.the-variants as P
@@ -24,9 +25,10 @@ abbrev pub played : Played → Outcome ℕ
 played (P.Reads m) = result m
 played (P.Refused r) = refused (refusalNumber r)
 
--- a place of a store with the value of its pair, from the table of the known pairs
-abbrev pub valuedPlace : List ℕ → Kept → Place
-valuedPlace values p = record { kept = p .kept; number = p .number; value = getD values (p .number) 0 }
+-- the pairs of a store, before its first empty place
+unfoldable pub storedIn : List Kept → List Stamped
+storedIn [] = []
+storedIn (p ∷ ps) = cond (eqb (p .number) noPair) [] (record { value = p .value; number = p .number } ∷ storedIn ps)
 
 -- the pairs in the places before the first empty one
 unfoldable pub shownIn : List Place → List Stamped

@@ -1,12 +1,11 @@
 // What Look returns, made of a server's condition and its store.
 ghost use mathlib.Core.Path.{_≡_};
-ghost use mathlib.Core.List.{[], map};
-ghost use lib.ListN.{getD};
+ghost use mathlib.Core.List.{[]};
 ghost use Rattle.serving.specs.Stored.{statusOf};
 ghost use Rattle.simulator.specs.Look.{placesOf};
-ghost use Rattle.simulator.specs.Numbered.{seenOf, valuedPlace, shownIn};
+ghost use Rattle.simulator.specs.Numbered.{seenOf, storedIn};
 use calendar::DEPTH;
-use calendar::PLACES;
+use calendar::NO_PAIR;
 use calendar::Stamped;
 use plan::Refusal;
 use serving::Status;
@@ -53,47 +52,22 @@ fn empty_places() -> [Place; DEPTH]
     [empty; DEPTH]
 }
 
-// The value of a known pair, by its number.
-fn value_of(values: [u32; PLACES], number: u8) -> u32
-    ensures { λ r. ⌜ r ≡ getD values number 0 ⌝ }
-{
-    let at = number as usize;
-    if at < PLACES {
-        return values[at];
-    }
-    0
-}
-
-// A store's places with the values of their pairs.
-pub fn valued(kept: [Stamped; DEPTH], values: [u32; PLACES]) -> [Place; DEPTH]
-    ensures { λ r. ⌜ r ≡ map (valuedPlace values) kept ⌝ }
-{
-    let mut places = empty_places();
-    let mut i: usize = 0;
-    while i < DEPTH {
-        let p = kept[i];
-        places[i] = Place {
-            kept: p.kept,
-            number: p.number,
-            value: value_of(values, p.number),
-        };
-        i += 1;
-    }
-    places
-}
-
 // The pairs of a store, which stand before its first empty place, and nothing behind them.
-pub fn shown_places(kept: [Place; DEPTH]) -> [Place; DEPTH]
-    ensures { λ r. ⌜ r ≡ placesOf (shownIn kept) ⌝ }
+pub fn shown_places(kept: [Stamped; DEPTH]) -> [Place; DEPTH]
+    ensures { λ r. ⌜ r ≡ placesOf (storedIn kept) ⌝ }
 {
     let mut shown = empty_places();
     let mut i: usize = 0;
     while i < DEPTH {
         let p = kept[i];
-        if !p.kept {
+        if p.number == NO_PAIR {
             return shown;
         }
-        shown[i] = p;
+        shown[i] = Place {
+            kept: true,
+            number: p.number,
+            value: p.value,
+        };
         i += 1;
     }
     shown

@@ -83,9 +83,6 @@ look-requires c κs =
 condition-requires : tie.Need-condition-requires
 condition-requires c κs = search needs
 
-valued-requires : tie.Need-valued-requires
-valued-requires c κs = search needs
-
 shown-places-requires : tie.Need-shown-places-requires
 shown-places-requires c κs = search needs
 
@@ -98,14 +95,15 @@ same-length c = search needs
 
 returns-5 : tie.Need-returns-5
 returns-5 c =
-    let l = c .before .before .before .before .before .before .before .before .before .before .before .before .before .before .before in
+    let d = c .before .before .before .before .before in
+    let tick = d .before .before in
+    let server = tick .before .before in
+    let l = server .before .before in
     let n = ap (λ (h : Header). h .n) (header l) in
     let t = ap (λ (h : Header). h .ticks) (header l) in
-    let d = c .before .before .before .before .before .before .before .before .before .look in
-    let x = rw (l .before .width .ensures .0) at (d .ensures) in
-    look-done _ _ _ _ _ _ (accepted (l .before .before .before)) (l .before .before .if1 .left) (omega (arith, n, c .before .before .before .before .before .before .before .before .before .before .before .before .before .if2 .left)) (omega (arith, t, c .before .before .before .before .before .before .before .before .before .before .before .if3 .left)) _
-    (shown _ _ _ (d .result .server .kept) (d .result .known) (x .status) (x .kept) (x .narrow) _ _ _ _ _ (c .before .before .condition .ensures) (c .before .valued .ensures)
-    (c .shown-places .ensures) (x .workspace))
+    let x = rw (l .before .width .ensures .0) at (d .look .ensures) in
+    look-done _ _ _ _ _ _ (accepted (l .before .before .before)) (l .before .before .if1 .left) (omega (arith, n, server .if2 .left)) (omega (arith, t, tick .if3 .left)) _
+    (shown _ _ _ (d .look .result .kept) (x .status) (x .kept) (x .narrow) _ _ _ _ (c .before .condition .ensures) (c .shown-places .ensures) (x .workspace))
 
 pub look-spec : {M : Type 1} → statement M
 look-spec =
@@ -128,7 +126,6 @@ look-spec =
     cast-look
     look-requires
     condition-requires
-    valued-requires
     shown-places-requires
     returns-4
     same-length

@@ -1,42 +1,44 @@
 -- `look::shown_places` meets its contract. The loop's invariant: the places passed have pairs, and the array has these and no other.
 use mathlib.Core.Path.{_≡_, ap, _∙_}
+use mathlib.Core.List.{map}
 use Prim.Native.Nat.{_-_, _≤_, _<_}
 use native.Mathlib.Omega.{arith}
+use lib.ListN.{length}
 use borrow.Author.Needs.{needs}
-use borrow.Author.Tests.{not-true, not-false}
 use Rattle.plan.specs.Packed.{storeDepth}
 use Rattle.simulator.specs.Look.{placesOf}
-use Rattle.simulator.proofs.ShownPlaces.{Passed, passed, none-passed, one-more, placed-more, at-empty, at-end}
+use Rattle.simulator.proofs.ShownPlaces.{placeIn, Passed, passed, none-passed, store-more, store-placed, store-empty, store-end}
 use Rattle.simulator.proofs.look.shown_places.Statement.{statement}
 use Rattle.simulator.proofs.look.shown_places.Tie as tie
 
 abbrev Inv-loop : tie.InvT-loop
-Inv-loop kept shown₀ i₀ shown i = (i ≤ storeDepth) × Passed kept i × (shown ≡ placesOf (passed kept i))
+Inv-loop kept shown₀ i₀ shown i = (i ≤ storeDepth) × (length kept ≡ storeDepth) × Passed (map placeIn kept) i × (shown ≡ placesOf (passed (map placeIn kept) i))
 
 abbrev μ-loop : tie.MeasureT-loop
 μ-loop kept shown₀ i₀ shown i = storeDepth - i
 
 loop-holds : tie.Need-loop-holds Inv-loop μ-loop
-loop-holds c = (search needs, none-passed _, c .empty-places .ensures)
+loop-holds c = (search needs, c .before .good .0 .1 .0 .1, none-passed _, c .empty-places .ensures)
 
 returns : tie.Need-returns Inv-loop μ-loop
 returns c =
-    let h = c .before .before .before .before .loop .inv in
-    let n = c .before .before .before .before .before .before .good .0 .1 .0 .1 in
-    h .2 ∙ ap placesOf (at-empty _ _ (h .1) _ (omega (arith, n)) (not-true _ (c .if1 .taken)) .1)
+    let l = c .before .before .before .before .loop in
+    let ps = c .before .before .before .before .before .before .args .t1 in
+    l .inv .3 ∙ ap placesOf (store-empty ps (l .i) (l .inv .2) (omega (arith, l .inv .1)) (c .if1 .taken))
 
 loop-again : tie.Need-loop-again Inv-loop μ-loop
 loop-again c =
-    let h = c .before .before .before .before .loop .inv in
-    let n = c .before .before .before .before .before .before .good .0 .1 .0 .1 in
-    let at : c .before .before .before .before .loop .i < storeDepth = omega arith in
-    (omega arith, one-more _ _ (h .1) _ (omega (arith, n)) (not-false _ (c .if1 .left)), rw (h .2) (placed-more _ _ (h .1) _ (omega (arith, n)) (not-false _ (c .if1 .left)) at))
+    let l = c .before .before .before .before .loop in
+    let ps = c .before .before .before .before .before .before .args .t1 in
+    let at : l .i < storeDepth = omega arith in
+    let in-store : l .i < length ps = omega (arith, l .inv .1) in
+    (omega arith, l .inv .1, store-more ps (l .i) (l .inv .2) in-store (c .if1 .left), rw (l .inv .3) (store-placed ps (l .i) (l .inv .2) in-store (c .if1 .left) at))
 
 returns-2 : tie.Need-returns-2 Inv-loop μ-loop
 returns-2 c =
-    let h = c .before .loop .inv in
-    let n = c .before .before .before .good .0 .1 .0 .1 in
-    h .2 ∙ ap placesOf (at-end _ _ (h .1) (omega (arith, n)) .1)
+    let l = c .before .loop in
+    let ps = c .before .before .before .args .t1 in
+    l .inv .3 ∙ ap placesOf (store-end ps (l .i) (l .inv .2) (omega (arith, l .inv .1)))
 
 pub shown-places-spec : {M : Type 1} → statement M
 shown-places-spec =
