@@ -66,17 +66,14 @@ module _ (plan : List ℕ) (s : Sender) where
       join b c d e f = simp and-or-distrib-left
 
   -- a pair that is none of P
-  vote-not : (P : ℕ → Bool) (x j : ℕ) → P j ≡ false → sendsVote plan s P x j ≡ false
+  pub vote-none : (P : ℕ → Bool) (x j : ℕ) → P j ≡ false → sendsVote plan s P x j ≡ false
   unfolding sendsVote
-  vote-not P x j e =
+  vote-none P x j e =
       rw (e, and-false (eqb (reaches plan s (x % receivers) % 16) (x / receivers)), and-false (not (eqb (x % receivers) (s .i)))) (and-false (ltb (x % receivers) (s .n)))
-
-  pub vote-none : (P : ℕ → Bool) (x j : ℕ) → ((j : ℕ) → P j ≡ false) → sendsVote plan s P x j ≡ false
-  vote-none P x j e = vote-not P x j (e j)
 
   -- no vote for a known pair
   pub votes-nobody : (a : List ℕ) (w : ℕ) → places ≤ w → Posted a a (λ x j k. eqb k (s .i) && sendsVote plan s (λ y. eqb y w) x j)
-  votes-nobody a w h = posted-none a _ (λ x j k l m. rw (vote-not (λ y. eqb y w) x j (ne-eqb j w (λ e. omega arith))) (and-false (eqb k (s .i))))
+  votes-nobody a w h = posted-none a _ (λ x j k l m. rw (vote-none (λ y. eqb y w) x j (ne-eqb j w (λ e. omega arith))) (and-false (eqb k (s .i))))
 
   module _ (to : Sending) (S : Sent plan (linkBit (s .links) (s .t) (s .i) 0) (s .n) (s .t) (s .i) to) where
     others-sent : (P : ℕ → Bool) (x j k : ℕ) → toOthers to P x j k ≡ eqb k (s .i) && sendsVote plan s P x j

@@ -79,18 +79,6 @@ pub spanned-law : (m e r w : ℕ) (got : ℕ → ℕ → Bool) (asks live : ℕ 
 unfolding delivered deliveredOf
 spanned-law m e r w got asks live s o c d k = d ∙ rw k
 
--- a server that is not faulty takes it
-pub taken-law : (m e r w : ℕ) (got : ℕ → ℕ → Bool) (asks live : ℕ → Bool) (s : Plain) (o : Both) → isFaulty (s .status) ≡ false
-    → o ≡ delivered m e r w got asks live s → o ≡ stageOne m e r w got asks live s
-unfolding stageOne
-taken-law m e r w got asks live s o h d = d ∙ rw h
-
--- a faulty server loses what arrives
-pub lost-law : (m e r w : ℕ) (got : ℕ → ℕ → Bool) (asks live : ℕ → Bool) (s : Plain) (q : Said) → isFaulty (s .status) ≡ true → q ≡ silent
-    → record { server = s; said = q } ≡ stageOne m e r w got asks live s
-unfolding stageOne
-lost-law m e r w got asks live s q h k = rw (h, k)
-
 -- only what arrives for the known pairs matters
 joined-alike : (m : ℕ) (votes got got' : ℕ → ℕ → Bool) → ((j i : ℕ) → j < m → got j i ≡ got' j i) → joined m votes got ≡ joined m votes got'
 joined-alike m votes got got' e = fun-ext (λ j. fun-ext (λ i. ap (λ (x : Bool). votes j i || x) (under (ltb j m) _ _ (λ l. e j i (ltb-true j m l)))))
@@ -102,22 +90,6 @@ one-alike m e r w got got' asks live s h = rw (joined-alike m (s .fresh) got got
 
 -- ---- stages 2 to 4
 
-pub cure-law : (delta t : ℕ) (o : Both) (s : Plain) → curedAt delta t (o .server .status) ≡ true → s ≡ cureEnded delta t (o .server) → o .said .pairs ≡ o .server .kept
-    → record { server = s; said = record { wrote = o .said .wrote; echoed = o .said .echoed; readers = s .pending; pairs = o .said .pairs } } ≡ stageTwo delta t o
-unfolding stageTwo
-cure-law delta t o s h e k = rw (e, h, k)
-
--- no cure ends
-pub no-cure-law : (delta t : ℕ) (o : Both) → curedAt delta t (o .server .status) ≡ false → o ≡ stageTwo delta t o
-unfolding stageTwo
-no-cure-law delta t o h = rw h
-
--- a faulty server is not cured
-pub not-cured : (delta t : ℕ) (s : Status) → isFaulty s ≡ true → curedAt delta t s ≡ true → ⊥
-not-cured delta t faulty e h = let z : _≡_ {A = ℕ} 0 1 = ap (λ (x : Bool). cond x 1 0) h in omega arith
-not-cured delta t (cured u) e h = let z : _≡_ {A = ℕ} 0 1 = ap (λ (x : Bool). cond x 1 0) e in omega arith
-not-cured delta t correct e h = let z : _≡_ {A = ℕ} 0 1 = ap (λ (x : Bool). cond x 1 0) e in omega arith
-
 -- a server with no pair, no reader and no vote
 pub blank-law : (st : Status) (kept : List ℕ) (pend : ℕ → Bool) (fresh recent : ℕ → ℕ → Bool) → kept ≡ [] → pend ≡ nobody → fresh ≡ noVotes → recent ≡ noVotes
     → record { status = st; kept = kept; pending = pend; fresh = fresh; recent = recent } ≡ blankAs st
@@ -126,11 +98,6 @@ blank-law st kept pend fresh recent k p f r = rw (k, p, f, r)
 -- a server that becomes faulty is reset first
 pub seized : (t : ℕ) (s q : Plain) → q ≡ resetAt t → s ≡ restated faulty q → s ≡ blankAs faulty
 seized t s q e f = rw (f, e)
-
-pub echo-law : (two h : Bool) (t : ℕ) (o : Both) (s : Plain) (e : Bool) → s ≡ movedOn two h t (o .server) → e ≡ isCorrect (s .status)
-    → record { server = s; said = record { wrote = o .said .wrote; echoed = e; readers = o .said .readers; pairs = o .said .pairs } } ≡ stageFour two h t o
-unfolding stageFour
-echo-law two h t o s e p q = rw (q, p)
 
 -- ---- the stored parts of a server that takes a pair in
 
