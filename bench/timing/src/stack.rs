@@ -15,8 +15,14 @@ const STACK: usize = 4 << 20;
 const FRAME: usize = 1024;
 
 /// The operations whose stack is of interest.
-const TRIED: [Operation; 5] =
-    [Operation::Forecast, Operation::Play, Operation::Sheet, Operation::Pack, Operation::Carry];
+const TRIED: [Operation; 6] = [
+    Operation::Forecast,
+    Operation::Play,
+    Operation::Look,
+    Operation::Sheet,
+    Operation::Pack,
+    Operation::Carry,
+];
 
 /// Calls beneath so many frames.
 fn beneath(frames: usize, call: &mut dyn FnMut() -> usize) {
