@@ -2,7 +2,7 @@
 ghost use mathlib.Core.Path.{_≡_};
 ghost use mathlib.Core.List.{_++_};
 ghost use Prim.Native.Nat.{_+_, _*_, _^_, _≤_, _<_};
-ghost use lib.ListN.{length, getD, drop};
+ghost use lib.ListN.{length, getD, drop, replicate};
 ghost use Rattle.register.specs.Plan.{stamped};
 ghost use Rattle.plan.specs.Form.{mostWidth};
 ghost use Rattle.answers.specs.Answers.{answerWidths, answerBits, answerSize, answerNumbers, answerBytes};
@@ -125,6 +125,8 @@ pub fn write(out: &mut [u8], width: u8, begun: u8, reader: u8, value: u32, numbe
     ensures { λ _. ⌜ now (out .exit) ≡ answerBytes width (record { begun = begun; reader = reader })
         (record { pair = stamped width value number; count = count }) ++ drop (answerSize width) (now (out .entry)) ⌝ }
 {
+    // The writer of a field keeps the bits around it, so what was lent is not looked at.
+    blank(out, size(width));
     let numbers = [begun as u32, reader as u32, value, number as u32, count, 0];
     let widths = widths(width);
     packing::put_fields(out, 0, &widths, &numbers);
@@ -132,14 +134,22 @@ pub fn write(out: &mut [u8], width: u8, begun: u8, reader: u8, value: u32, numbe
     bits::put(out, end, bits::fill(end), 0);
 }
 
+// The first bytes are zero.
+fn blank(bytes: &mut [u8], size: usize)
+    requires { ⌜ size ≤ length (now bytes) ⌝ }
+    ensures { λ _. ⌜ now (bytes .exit) ≡ replicate size 0 ++ drop size (now (bytes .entry)) ⌝ }
+{
+    let mut i: usize = 0;
+    while i < size {
+        bytes[i] = 0;
+        i += 1;
+    }
+}
+
 // Zeroes as much of the workspace as Play and Look may use.
 pub fn zero(work: &mut [u8])
     requires { ⌜ workspaceSize ≤ length (now work) ⌝ }
     ensures { λ _. ⌜ now (work .exit) ≡ zeroed (now (work .entry)) ⌝ }
 {
-    let mut i: usize = 0;
-    while i < Shape::WORKSPACE_BYTES {
-        work[i] = 0;
-        i += 1;
-    }
+    blank(work, Shape::WORKSPACE_BYTES);
 }
