@@ -52,6 +52,9 @@ class Oracle:
     """The operations in the form of a number: 1 or 2, or any other, which is refused."""
 
     def __init__(self, folder, form=FORM_ONE):
+        if not os.path.isfile(os.path.join(folder, "oracle02.py")):
+            sys.stderr.write(f"{folder} has no oracle02.py: name the folder of the other author's program, which is not in this repository\n")
+            sys.exit(2)
         sys.path.insert(0, folder)
         import builder02
         import forms
