@@ -17,8 +17,9 @@
  * Of check, forecast, play, look, judge, sheet, pack, carry and carry_back a result of REGISTER_REFUSED
  * or more is a refusal: REGISTER_REFUSED plus its number.  A refusal leaves all lent bytes as they were.
  *
- * Stack: play takes under 32 KB, look and pack under 38 KB, the other functions under 4 KB (measured
- * with the longest plan of each form, on x86-64).  Nothing is allocated.
+ * Stack: play and look take under 20 KB, pack under 38 KB, the other functions under 4 KB (measured
+ * with the longest plan of each form, on x86-64).  In a build that binds functions lazily the very first
+ * call may take up to some 6 KB more.  Nothing is allocated.
  * Threads: there is no global state and nothing is kept between calls.  Calls may run at once if
  * none writes to bytes that another one uses.
  */
