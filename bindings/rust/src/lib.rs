@@ -26,8 +26,8 @@
 //!
 //! Every function takes any bytes and numbers of any length and never panics. A refused call changes
 //! no lent byte. The library keeps nothing between calls and allocates nothing; calls may run at once
-//! on several threads. [`play`] takes under 32 KB of stack, [`look`] and [`pack`] under 38 KB, the
-//! other functions under 4 KB.
+//! on several threads. [`play`] and [`look`] take under 20 KB of stack, [`pack`] under 38 KB, the
+//! other functions under 4 KB; the very first call may take up to some 6 KB more.
 
 #![warn(missing_docs)]
 
