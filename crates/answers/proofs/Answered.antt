@@ -16,8 +16,8 @@ use Rattle.register.specs.Reading.{Answer, notedBy, countIn, countOf, best, ans
 use Rattle.register.proofs as register-laws
 use Rattle.register.proofs.Good.{Good}
 use Rattle.register.proofs.ReadSafety.{quorum-genuine, answer-from}
-use Rattle.cluster.specs.Inputs.{Knows}
-use Rattle.serving.proofs.BitLaws.{count-cut}
+use Rattle.tables.specs.Known.{Knows}
+use Rattle.limits.proofs.Bits.{count-cut}
 use Rattle.answers.specs.declared.Choice.{Choice}
 use Rattle.answers.specs.Choosing.{highestOf, answerBy}
 

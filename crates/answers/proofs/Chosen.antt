@@ -7,7 +7,7 @@ use lib.Dec.{leb}
 use borrow.Author.Tests.{le-leb, lt-leb}
 use Rattle.register.specs.Lists.{count}
 use Rattle.register.proofs.Logic.{cond-e}
-use Rattle.calendar.specs.Layout.{places}
+use Rattle.limits.specs.Limits.{places}
 use Rattle.answers.specs.declared.Choice.{Choice}
 use Rattle.answers.specs.Choosing.{highestOf}
 

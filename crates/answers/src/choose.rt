@@ -2,7 +2,7 @@
 ghost use mathlib.Core.Path.{_≡_};
 ghost use Prim.Native.Nat.{_+_, _≤_};
 ghost use lib.ListN.{length};
-ghost use Rattle.calendar.specs.Layout.{places};
+ghost use Rattle.limits.specs.Limits.{places};
 ghost use Rattle.serving.specs.Tallies.{holds};
 ghost use Rattle.answers.specs.Choosing.{highestOf};
 use super::Choice;

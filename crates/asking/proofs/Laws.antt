@@ -10,18 +10,17 @@ use borrow.Author.Tests.{le-leb, lt-leb, ltb-true}
 use Rattle.register.specs.Lists.{anyUpTo}
 use Rattle.register.proofs as register-laws
 use Rattle.calendar.proofs.Laws.{under}
-use Rattle.calendar.specs as calendar-specs
-use Rattle.serving.specs as serving-specs
-use Rattle.serving.proofs.SendLaws.{link-at}
+use Rattle.tables.specs as tables-specs
+use Rattle.tables.proofs.LinkLaws.{link-at}
 use Rattle.requests.specs.Requests.{askedFirst, Asked, Taken}
 use Rattle.requests.proofs.Requesting.{outside-trans, asked-none, asked-eq, asked-trans}
 use Rattle.asking.specs.Asking.{askedBy, askedBetween, begins, WroteOn}
 
-module _ (plan : List ℕ) (links : serving-specs.declared.Links.Links) (n t : ℕ) where
-  pub asked-sent : (p : ℕ) (s : calendar-specs.declared.Sending.Sending) → calendar-specs.Posts.Sent plan (serving-specs.Links.linkBit links t (n + p) 0) n t p s → (a r : List ℕ) → Asked a r (askedFirst s p (s .n)) → Asked a r (askedBy plan links n t p)
+module _ (plan : List ℕ) (links : tables-specs.declared.Links.Links) (n t : ℕ) where
+  pub asked-sent : (p : ℕ) (s : tables-specs.declared.sending.Sending.Sending) → tables-specs.Sending.Sent plan (tables-specs.Links.linkBit links t (n + p) 0) n t p s → (a r : List ℕ) → Asked a r (askedFirst s p (s .n)) → Asked a r (askedBy plan links n t p)
   unfolding askedBy
   asked-sent p s S a r A = asked-eq a r _ (askedBy plan links n t p) A (λ u q b l.
-      ap (λ (m : ℕ). ltb b m && (eqb q p && eqb (calendar-specs.Posts.arrivalOf s b % 16) (u % 16))) (S .servers)
+      ap (λ (m : ℕ). ltb b m && (eqb q p && eqb (tables-specs.Sending.arrivalOf s b % 16) (u % 16))) (S .servers)
       ∙ under (ltb b n) _ _ (λ e. rw (S .arrives b (ltb-true b n e), link-at links t (n + p) b)))
 
   module _ (by : List ℕ) (from : ℕ) where
@@ -36,7 +35,7 @@ module _ (plan : List ℕ) (links : serving-specs.declared.Links.Links) (n t : �
         (or-comm (anyUpTo i (λ i. leb from i && askedBy plan links n t (getD by i 0) s q x)) (askedBy plan links n t (getD by i 0) s q x)))
 
 -- the requests of the tick are taken, then one may be sent
-pub wrote-on : (plan : List ℕ) (links : serving-specs.declared.Links.Links) (n t : ℕ) (begun : List ℕ) (m number r : ℕ) (a b c : List ℕ) → Taken a b t → Asked b c (λ s q x. begins begun m t number && askedBy plan links n t 0 s q x)
+pub wrote-on : (plan : List ℕ) (links : tables-specs.declared.Links.Links) (n t : ℕ) (begun : List ℕ) (m number r : ℕ) (a b c : List ℕ) → Taken a b t → Asked b c (λ s q x. begins begun m t number && askedBy plan links n t 0 s q x)
     → r ≡ cond (begins begun m t number) (suc number) number → WroteOn plan links n t begun m number r a c
 wrote-on plan links n t begun m number r a b c T A e = record {
   next = e;

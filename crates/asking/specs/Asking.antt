@@ -7,8 +7,8 @@ use lib.Dec.{eqb, leb, ltb}
 use lib.ListN.{getD}
 use Rattle.register.specs.Lists.{anyUpTo}
 use Rattle.calendar.specs.Layout.{slots}
-use Rattle.serving.specs.declared.Links.{Links}
-use Rattle.serving.specs.Links.{delayAt}
+use Rattle.tables.specs.declared.Links.{Links}
+use Rattle.tables.specs.Links.{delayAt}
 use Rattle.requests.specs.Requests.{parties, reachedBy, SameOutside}
 
 -- party p's request, sent in tick t to all servers, reaches server b in tick s

@@ -1,16 +1,16 @@
 // The requests of the operations that begin in a tick are under way: 'a write begun at w sends WRITE to all boxes', a read READ.
 ghost use Prim.Native.Nat.{_+_, _≤_, _<_};
 ghost use lib.ListN.{length};
-ghost use Rattle.calendar.specs.Layout.{places};
-ghost use Rattle.serving.specs.Links.{Linked};
+ghost use Rattle.limits.specs.Limits.{places};
+ghost use Rattle.tables.specs.Links.{Linked};
 ghost use Rattle.requests.specs.Requests.{requestsEnd, Asked};
 ghost use Rattle.asking.specs.Asking.{askedBy, Readers, askedBetween, WroteOn};
-use calendar::PLACES;
-use calendar::Sending;
-use calendar::size_of;
-use script::operations::TABLE_READS;
-use serving::Links;
-use serving::delays;
+use limits::PLACES;
+use tables::sending::Sending;
+use limits::size_of;
+use tables::operations::TABLE_READS;
+use tables::Links;
+use tables::delays;
 
 // The request of party p, the writer as 0 and reader x as x, goes to all servers in tick t.
 fn ask(work: &mut [u8], plan: &[u8], links: Links, n: usize, t: usize, p: usize)

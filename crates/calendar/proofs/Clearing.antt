@@ -9,10 +9,12 @@ use lib.Dec.{eqb, ltb, leb}
 use lib.ListN.{length, getD}
 use borrow.Author.Tests.{lt-ltb, le-ltb, le-leb, leb-true, eq-eqb, ne-eqb}
 use Rattle.register.proofs.Logic.{eqb-comm}
-use Rattle.calendar.specs.Bits.{putWord}
-use Rattle.calendar.specs.Layout.{calendarSize, cellsAt, places, noPair, rows, cellWord, lowOf, highOf, sender, receivers, rowOf}
+use Rattle.calendar.specs.Words.{putWord}
+use Rattle.calendar.specs.Layout.{calendarSize, cellsAt, rows, cellWord, lowOf, highOf, sender, receivers, rowOf}
+use Rattle.limits.specs.Limits.{places, noPair}
 use Rattle.calendar.specs.View.{SamePast, Cleared, Empty, Zeroed}
-use Rattle.calendar.proofs.Laws.{under, never, bit-zero, put-length, put-byte, put-other, put-none, put-low, put-high, zeroed-word}
+use Rattle.calendar.proofs.Laws.{under, never, put-length, put-byte, put-other, put-none, put-low, put-high, zeroed-word}
+use Rattle.limits.proofs.Bits.{bit-zero}
 use Rattle.calendar.proofs.Posting.{same-cell}
 use Rattle.calendar.proofs.Stores.{same-row}
 

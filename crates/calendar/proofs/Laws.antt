@@ -1,16 +1,17 @@
--- General laws: tests, sets kept as the bits of a number, and words of two bytes after a store. They stand on the library's laws of binary digits.
+-- General laws: tests, and words of two bytes after a store. They stand on the laws of sets kept as the bits of a number.
 use mathlib.Core.Path.{_≡_, refl, sym, _∙_}
 use mathlib.Core.Bool.{Bool, true, false, not, _&&_, _||_, and-false, or-false}
 use mathlib.Core.List.{List}
-use Prim.Native.Nat.{ℕ, zero, suc, _+_, _*_, _/_, _%_, _^_, _≤_, _<_}
-use native.Mathlib.Nat.{pow-suc}
+use Prim.Native.Nat.{ℕ, _+_, _*_, _/_, _%_, _^_, _≤_, _<_}
 use native.Mathlib.Omega.{arith}
-use lib.Dec.{eqb, ltb, eqb·zero-suc, eqb·suc-zero, eqb·suc-suc}
+use lib.Dec.{eqb, ltb}
 use lib.ListN.{length, getD, set, length-set}
 use lib.Seq.{getD-set-same, getD-set-other, lt-length-set}
-use lib.Bits.{bitOr, or-shr, or-mod}
+use lib.Bits.{bitOr}
 use borrow.Author.Tests.{lt-ltb, le-ltb, eq-eqb, ne-eqb}
-use Rattle.calendar.specs.Bits.{bit, wordOf, putWord}
+use Rattle.limits.specs.Bits.{bit}
+use Rattle.calendar.specs.Words.{wordOf, putWord}
+use Rattle.limits.proofs.Bits.{bit-or, bit-zero, bit-pow}
 use Rattle.calendar.specs.View.{Zeroed}
 use native.Mathlib.Decide.{ℕ-discrete, decLe}
 
@@ -44,36 +45,6 @@ ltb-more k i h = elim (ℕ-discrete k i) [
     | no l ↦ rw (le-ltb k (i + 1) (omega arith), le-ltb k i (omega arith))
   ])
 ]
-
--- ---- sets
-
--- what holds of all pairs of binary digits
-pub by-digits : (Q : ℕ → ℕ → Type 0) → Q 0 0 → Q 0 1 → Q 1 0 → Q 1 1 → (x y : ℕ) → x < 2 → y < 2 → Q x y
-by-digits Q a b c d zero zero h g = a
-by-digits Q a b c d zero (suc zero) h g = b
-by-digits Q a b c d (suc zero) zero h g = c
-by-digits Q a b c d (suc zero) (suc zero) h g = d
-by-digits Q a b c d zero (suc (suc y)) h g = absurd (omega arith)
-by-digits Q a b c d (suc zero) (suc (suc y)) h g = absurd (omega arith)
-by-digits Q a b c d (suc (suc x)) y h g = absurd (omega arith)
-
-pub bit-or : (k a b : ℕ) → bit k (bitOr a b) ≡ bit k a || bit k b
-unfolding bit
-bit-or zero a b = rw (or-mod a b 1) (by-digits (λ x y. eqb (bitOr x y) 1 ≡ eqb x 1 || eqb y 1) refl refl refl refl (a % 2) (b % 2) (omega arith) (omega arith))
-bit-or (suc k) a b = rw (or-shr a b 1) (bit-or k (a / 2) (b / 2))
-
-pub bit-zero : (k : ℕ) → bit k 0 ≡ false
-unfolding bit
-bit-zero zero = refl
-bit-zero (suc k) = bit-zero k
-
--- the set of one number
-pub bit-pow : (k i : ℕ) → bit k (2 ^ i) ≡ eqb k i
-unfolding bit
-bit-pow zero zero = refl
-bit-pow zero (suc i) = let e : 2 ^ suc i % 2 ≡ 0 = omega (arith, pow-suc 2 i) in rw (e, eqb·zero-suc i)
-bit-pow (suc k) zero = bit-zero k ∙ sym (eqb·suc-zero k)
-bit-pow (suc k) (suc i) = let e : 2 ^ suc i / 2 ≡ 2 ^ i = omega (arith, pow-suc 2 i) in rw (e, eqb·suc-suc k i) (bit-pow k i)
 
 -- ---- two bytes stored, one after the other
 

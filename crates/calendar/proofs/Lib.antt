@@ -2,6 +2,5 @@ pub mod Laws
 pub mod Posting
 pub mod Stores
 pub mod Clearing
-pub mod Sendings
 pub mod Spans
 pub mod Uses

@@ -10,8 +10,9 @@ use lib.ListN.{length, getD, length-set}
 use lib.Bits.{bitOr}
 use borrow.Author.Tests.{eq-eqb, eqb-true}
 use Rattle.register.proofs.Logic.{and-both, neither}
-use Rattle.calendar.specs.Bits.{wordOf, putWord}
-use Rattle.calendar.specs.Layout.{calendarSize, cellsAt, places, noPair, rows, cellWord, lowOf, highOf, sendersOf, sender}
+use Rattle.calendar.specs.Words.{wordOf, putWord}
+use Rattle.calendar.specs.Layout.{calendarSize, cellsAt, rows, cellWord, lowOf, highOf, sendersOf, sender}
+use Rattle.limits.specs.Limits.{places, noPair}
 use Rattle.calendar.specs.View.{SamePast, Inside, Posted}
 use Rattle.calendar.specs.Posts.{Messages, inRow, SpanOf, widened}
 use Rattle.calendar.proofs.Laws.{or-either, eqb-both, two-other, two-first, two-second, word-same, put-length, put-byte, put-member}

@@ -8,7 +8,8 @@ use native.Mathlib.Decide.{ℕ-discrete}
 use lib.Dec.{eqb}
 use borrow.Author.Tests.{lt-ltb, le-leb, eq-eqb, ne-eqb}
 use Rattle.register.proofs.Logic.{and-both}
-use Rattle.calendar.specs.Layout.{places, rows, receivers, rowOf, lowOf, highOf, sender}
+use Rattle.limits.specs.Limits.{places}
+use Rattle.calendar.specs.Layout.{rows, receivers, rowOf, lowOf, highOf, sender}
 use Rattle.calendar.specs.View.{Inside, covers, Spanned, Posted, Cleared, Empty}
 use Rattle.calendar.specs.Posts.{Messages}
 use Rattle.calendar.proofs.Laws.{or-either, never}

@@ -10,10 +10,12 @@ use lib.Dec.{eqb}
 use lib.ListN.{length, getD}
 use borrow.Author.Tests.{le-ltb, eq-eqb, ne-eqb, eqb-true}
 use Rattle.calendar.specs.declared.Stamped.{Stamped}
-use Rattle.calendar.specs.declared.Sending.{Sending}
-use Rattle.calendar.specs.Layout.{rows, places, noPair, calendarSize, receivers, rowOf}
+use Rattle.tables.specs.declared.sending.Sending.{Sending}
+use Rattle.calendar.specs.Layout.{rows, calendarSize, receivers, rowOf}
+use Rattle.limits.specs.Limits.{places, noPair}
 use Rattle.calendar.specs.View.{Posted}
-use Rattle.calendar.specs.Posts.{inRow, amongFirst, vacant, SpanOf, dueIn, toFirst, arrivalOf}
+use Rattle.calendar.specs.Posts.{inRow, amongFirst, vacant, SpanOf, dueIn, toFirst}
+use Rattle.tables.specs.Sending.{arrivalOf}
 use Rattle.calendar.proofs.Laws.{eqb-both, under, never, ltb-more}
 use Rattle.calendar.proofs.Posting.{posted-eq, posted-trans, posted-none, Filled, added, filled-eq, filled-none, filled-more, span-eq, span-none, span-more}
 

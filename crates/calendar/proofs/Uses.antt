@@ -6,7 +6,8 @@ use Prim.Native.Nat.{ℕ, _<_}
 use native.Mathlib.Decide.{ℕ-discrete}
 use lib.Dec.{eqb}
 use borrow.Author.Tests.{ne-eqb, not-true}
-use Rattle.calendar.specs.Layout.{rows, places, sender}
+use Rattle.calendar.specs.Layout.{rows, sender}
+use Rattle.limits.specs.Limits.{places}
 use Rattle.calendar.specs.View.{Posted, Cleared, Empty, Spanned}
 use Rattle.calendar.specs.Posts.{inRow}
 use Rattle.calendar.proofs.Laws.{never}

@@ -7,15 +7,9 @@ use mathlib.Core.Bool.{Bool}
 use mathlib.Core.List.{List}
 use Prim.Native.Nat.{ℕ, _+_, _-_, _*_, _%_}
 use lib.ListN.{getD}
-use Rattle.calendar.specs.Bits.{bit, wordOf}
-
--- how many servers there may be
-abbrev pub mostServers : ℕ
-mostServers = 16
-
--- how many readers
-abbrev pub mostReaders : ℕ
-mostReaders = 4
+use Rattle.limits.specs.Bits.{bit}
+use Rattle.calendar.specs.Words.{wordOf}
+use Rattle.limits.specs.Limits.{mostServers, mostReaders, places, noPair}
 
 -- the parties that receive votes or replies
 abbrev pub receivers : ℕ
@@ -31,14 +25,6 @@ rows = slots * receivers
 -- reader y, from 1 on, receives as party readersAt + y
 abbrev pub readersAt : ℕ
 readersAt = mostServers - 1
-
--- how many pairs may be known
-abbrev pub places : ℕ
-places = 65
-
--- a number that no known pair has
-abbrev pub noPair : ℕ
-noPair = 255
 
 -- the word at which the cells begin, behind the rows' spans
 abbrev pub cellsAt : ℕ

@@ -2,14 +2,14 @@
 use mathlib.Core.Path.{_≡_}
 use mathlib.Core.Bool.{Bool, true, false, not, _&&_, _||_}
 use mathlib.Core.List.{List, [], _∷_}
-use Prim.Native.Nat.{ℕ, zero, suc, _+_, _*_, _-_, _/_, _%_, _^_, _≤_, _<_, max}
+use Prim.Native.Nat.{ℕ, zero, suc, _+_, _*_, _-_, _/_, _%_, _≤_, _<_, max}
 use lib.Dec.{eqb, ltb}
 use lib.ListN.{length, getD, set}
-use Rattle.bits.specs.Field.{fieldOf}
-use Rattle.plan.specs.Header.{delayBits}
 use Rattle.calendar.specs.declared.Stamped.{Stamped}
-use Rattle.calendar.specs.declared.Sending.{Sending}
-use Rattle.calendar.specs.Layout.{receivers, places, noPair, highOf}
+use Rattle.tables.specs.declared.sending.Sending.{Sending}
+use Rattle.tables.specs.Sending.{arrivalOf}
+use Rattle.calendar.specs.Layout.{receivers, highOf}
+use Rattle.limits.specs.Limits.{places, noPair}
 
 abbrev pub Messages : Type 0
 Messages = ℕ → ℕ → ℕ → Bool
@@ -32,17 +32,6 @@ amongFirst (suc n) (p ∷ ps) j = not (eqb (p .number) noPair) && (eqb j (p .num
 abbrev pub among : List Stamped → ℕ → Bool
 among kept j = amongFirst (length kept) kept j
 
--- the tick in which what is sent reaches server b: the delays are nibbles, the last server's lowest
-unfoldable pub arrivalOf : Sending → ℕ → ℕ
-arrivalOf s b = s .tick + s .delays / 2 ^ (delayBits * (s .n - 1 - b)) % 2 ^ delayBits
-
--- server i sends in tick t to m servers: the delays stand in the plan's bits
-pub record Sent (plan : List ℕ) (at m t i : ℕ) (s : Sending) : Type 0 where
-  pub tick : s .tick ≡ t
-  pub sender : s .sender ≡ i
-  pub servers : s .n ≡ m
-  pub arrives : (b : ℕ) → b < m → arrivalOf s b ≡ t + fieldOf plan (at + delayBits * b) delayBits
-
 -- what is sent goes to the row, if its receiver is one of the servers that it goes to
 unfoldable pub dueIn : Sending → ℕ → Bool
 dueIn s x = not (eqb (x % receivers) (s .sender)) && eqb (arrivalOf s (x % receivers) % 16) (x / receivers)
@@ -54,11 +43,6 @@ toFirst s n P x j k = ltb (x % receivers) n && (dueIn s x && (eqb k (s .sender) 
 -- the same to all servers but itself
 abbrev pub toOthers : Sending → (ℕ → Bool) → Messages
 toOthers s P = toFirst s (s .n) P
-
--- at most 16 servers, at a tick that a sum does not overflow
-pub record Sendable (s : Sending) : Type 0 where
-  pub servers : s .n ≤ 16
-  pub early : s .tick < 65536
 
 -- the pairs of P lie from low to before high, as closely as can be: where there are none, low is 255 and high 0
 pub record SpanOf (P : ℕ → Bool) (low high : ℕ) : Type 0 where

@@ -5,7 +5,8 @@ use mathlib.Core.List.{List}
 use Prim.Native.Nat.{ℕ, _≤_, _<_}
 use lib.Dec.{eqb, leb, ltb}
 use lib.ListN.{length, getD}
-use Rattle.calendar.specs.Layout.{rows, places, noPair, calendarSize, lowOf, highOf, sender}
+use Rattle.calendar.specs.Layout.{rows, calendarSize, lowOf, highOf, sender}
+use Rattle.limits.specs.Limits.{places, noPair}
 
 -- the bytes past the calendar stay
 pub record SamePast (a r : List ℕ) : Type 0 where

@@ -1,31 +1,22 @@
 // What is under way, in the lent workspace: who sends which pair to whom, by the tick of arrival. specs/Layout says where it stands.
 ghost use mathlib.Core.Path.{_≡_};
-ghost use Prim.Native.Nat.{_+_, _*_, _^_, _≤_, _<_, min, max};
+ghost use Prim.Native.Nat.{_+_, _*_, _≤_, _<_, min, max};
 ghost use lib.Dec.{eqb};
 ghost use lib.ListN.{length};
-ghost use Rattle.bits.specs.Field.{fieldOf};
-ghost use Rattle.plan.specs.Header.{delayBits, DelaysIn};
-ghost use Rattle.calendar.specs.Layout.{mostServers, receivers, rows, places, calendarSize, rowOf, cellWord, lowOf, highOf, sendersOf};
+ghost use Rattle.limits.specs.Limits.{mostServers, places};
+ghost use Rattle.calendar.specs.Layout.{receivers, rows, calendarSize, rowOf, cellWord, lowOf, highOf, sendersOf};
 ghost use Rattle.calendar.specs.View.{Posted, Cleared, Empty, SamePast};
-ghost use Rattle.calendar.specs.Posts.{inRow, among, toOthers, Sendable, Sent, arrivalOf, SpanOf, widened};
-use plan::header::Shape;
+ghost use Rattle.calendar.specs.Posts.{inRow, among, toOthers, SpanOf, widened};
+ghost use Rattle.tables.specs.Sending.{Sendable};
+use limits::DEPTH;
+use limits::NO_PAIR;
+use limits::PLACES;
+use limits::READERS;
+use limits::SERVERS;
+use limits::size_of;
+use tables::sending::Sending;
 
 pub mod words;
-
-// How many pairs may be known.
-pub const PLACES: usize = 65;
-
-// A number that no known pair has.
-pub const NO_PAIR: u8 = 255;
-
-// How many pairs a server keeps (document 02, 'Eight': five).
-pub const DEPTH: usize = 5;
-
-// How many servers there may be.
-pub const SERVERS: usize = 16;
-
-// How many readers there may be.
-pub const READERS: usize = 4;
 
 // The parties that receive votes or replies.
 const RECEIVERS: usize = SERVERS + READERS;
@@ -48,54 +39,6 @@ pub const BYTES: usize = 2 * (CELLS + ROWS * PLACES);
 pub struct Stamped {
     pub number: u8,
     pub value: u32,
-}
-
-// What one party sends in a tick to the n servers: the delays as nibbles, the last server's lowest.
-pub struct Sending {
-    pub tick: usize,
-    pub sender: usize,
-    pub n: usize,
-    pub delays: u64,
-}
-
-// The n nibbles from bit `at` on as one number.
-fn nibbles(plan: &[u8], at: usize, n: usize) -> u64
-    requires { ⌜ (n ≤ mostServers) × DelaysIn (now plan) at n × (at < 2 ^ 59) ⌝ }
-    ensures { λ r. ⌜ r ≡ fieldOf (now (plan .entry)) at (delayBits * n) ⌝ }
-{
-    if n <= 14 {
-        return bits::field(plan, at, Shape::DELAY_BITS * n);
-    }
-    if n == 15 {
-        return bits::field(plan, at, 32) * 268435456 + bits::field(plan, at + 32, 28);
-    }
-    bits::field(plan, at, 32) * 4294967296 + bits::field(plan, at + 32, 32)
-}
-
-impl Sending {
-    // What a party sends in a tick: its delays to the n servers stand in the plan from bit `at` on.
-    pub fn of(plan: &[u8], at: usize, n: usize, tick: usize, sender: usize) -> Sending
-        requires { ⌜ (n ≤ mostServers) × DelaysIn (now plan) at n × (at < 2 ^ 59) ⌝ }
-        ensures { λ s. ⌜ Sent (now (plan .entry)) at n tick sender s ⌝ }
-    {
-        let delays = nibbles(plan, at, n);
-        Sending {
-            tick: tick,
-            sender: sender,
-            n: n,
-            delays: delays,
-        }
-    }
-
-    // The tick in which it reaches server b.
-    pub fn arrival(self, b: usize) -> usize
-        requires { ⌜ Sendable self × (b < self .n) ⌝ }
-        ensures { λ r. ⌜ (r ≡ arrivalOf self b) × (r < 65552) ⌝ }
-    {
-        let n = self.n;
-        let late = (self.delays >> (Shape::DELAY_BITS * (n - 1 - b))) % 16;
-        self.tick + late as usize
-    }
 }
 
 // The row of receiver r for tick t.
@@ -127,13 +70,6 @@ pub fn senders(work: &[u8], row: usize, j: usize) -> u16
     ensures { λ r. ⌜ r ≡ sendersOf (now (work .entry)) row j ⌝ }
 {
     words::get(work, cell(row, j))
-}
-
-// A byte as a count.
-pub fn size_of(x: u8) -> usize
-    ensures { λ r. ⌜ (r ≡ x) × (r < 256) ⌝ }
-{
-    x as usize
 }
 
 // No pair below it arrives in the row. The byte there is NO_PAIR less it, so that both bytes of a span only grow, from 0.

@@ -9,8 +9,10 @@ use borrow.Author.Tests.{le-ltb, ne-eqb}
 use Rattle.bits.proofs.Laws.{one-shl}
 use Rattle.register.specs.Lists.{anyUpTo}
 use Rattle.register.proofs.{Logic.T-eq, Counting.anyUpTo-i}
-use Rattle.calendar.specs.{Bits.bit, Layout.noPair}
-use Rattle.calendar.proofs.Laws.{ltb-more, bit-or, bit-pow, bit-zero}
+use Rattle.limits.specs.Bits.{bit}
+use Rattle.limits.specs.Limits.{noPair}
+use Rattle.calendar.proofs.Laws.{ltb-more}
+use Rattle.limits.proofs.Bits.{bit-or, bit-pow, bit-zero}
 use Rattle.cluster.specs.Inputs.{requesters, isAsked, wroteAt, asksAt}
 
 -- ---- a set gathered in a loop

@@ -6,7 +6,8 @@ use Prim.Native.Nat.{ℕ, _+_, _/_, _%_, _≤_, _<_}
 use native.Mathlib.{Omega.arith, Decide.ℕ-discrete}
 use lib.{Dec.eqb, Dec.leb, Dec.ltb, ListN.length, ListN.getD}
 use borrow.Author.Tests.{lt-ltb, le-ltb}
-use Rattle.calendar.specs.Layout.{mostServers, mostReaders, receivers, slots, rows, places, rowOf, highOf, sender}
+use Rattle.limits.specs.Limits.{mostServers, mostReaders, places}
+use Rattle.calendar.specs.Layout.{receivers, slots, rows, rowOf, highOf, sender}
 use Rattle.calendar.specs.View.{SamePast, Spanned, Cleared}
 use Rattle.calendar.proofs.Clearing.{no-number, row-more}
 use Rattle.serving.specs.Tallies.{namedAt, ofReader, holds, Joined}

@@ -9,7 +9,9 @@ use borrow.Author.Tests.{le-ltb, ne-eqb, eqb-true, ltb-true, not-false}
 use Rattle.register.specs.Server.{isFaulty, isCorrect}
 use Rattle.register.specs.Lists.{member}
 use Rattle.register.proofs.Logic.{cond-e, T-eq, F-eq, neither}
-use Rattle.calendar.specs.{Bits.bit, Layout.receivers, Layout.slots, Layout.places, Layout.noPair}
+use Rattle.limits.specs.Bits.{bit}
+use Rattle.calendar.specs.Layout.{receivers, slots}
+use Rattle.limits.specs.Limits.{places, noPair}
 use Rattle.calendar.proofs.Laws.{never}
 use Rattle.serving.specs.declared.Sender.{Sender}
 use Rattle.serving.specs.Stored.{Plain, Said, Both}
@@ -17,6 +19,7 @@ use Rattle.serving.specs.Stages.{nobody, silent, joined, voting, repliesTo, del
 use Rattle.serving.specs.Settled.{Settled}
 use Rattle.serving.specs.Sends.{votesFor, reaches, sendsVote, sends}
 use Rattle.serving.proofs as serving-laws
+use Rattle.limits.proofs as limits-laws
 
 -- ---- what it sends
 
@@ -48,7 +51,7 @@ unreached any high asked pending live e none =
 
 -- a read drops out of its list only if it is not live
 pub none-drops : (pending live : ℕ) → bitAnd pending live ≡ pending → _≡_ {A = ℕ → Bool} (λ x. bit x pending && bit x live) (λ x. bit x pending)
-none-drops pending live e = fun-ext (λ x. sym (serving-laws.BitLaws.bit-and x pending live) ∙ rw e)
+none-drops pending live e = fun-ext (λ x. sym (limits-laws.Bits.bit-and x pending live) ∙ rw e)
 
 module _ (m e r w : ℕ) (got : ℕ → ℕ → Bool) (asks live : ℕ → Bool) (s : Plain) (K : Settled m e r s) (few : m ≤ places) (none : (j i : ℕ) → j < m → got j i ≡ false)
     (wrote : places ≤ w) (unasked : (x : ℕ) → asks x ≡ false) (goes : _≡_ {A = ℕ → Bool} (λ x. s .pending x && live x) (s .pending)) where

@@ -6,10 +6,12 @@ use Prim.Native.Nat.{ℕ, _<_}
 use native.Mathlib.{Omega.arith, Decide.ℕ-discrete}
 use lib.Dec.{eqb}
 use borrow.Author.Tests.{eq-eqb, ne-eqb}
-use Rattle.calendar.specs.Layout.{rows, places, highOf, sender}
+use Rattle.calendar.specs.Layout.{rows, highOf, sender}
+use Rattle.limits.specs.Limits.{places}
 use Rattle.calendar.specs.View.{SamePast, Spanned, Cleared}
 use Rattle.calendar.proofs as calendar-laws
-use Rattle.serving.specs.declared.{Rules.Rules, Links.Links}
+use Rattle.tables.specs.declared.Rules.{Rules}
+use Rattle.tables.specs.declared.Links.{Links}
 use Rattle.cluster.specs.Inputs.{Tickable}
 
 -- what the calendar leaves alone stays so

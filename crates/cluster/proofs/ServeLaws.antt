@@ -8,9 +8,12 @@ use lib.{Bits.bitAnd, Dec.eqb, Dec.ltb, Dec.leb·zero}
 use lib.{ListN.length, ListN.getD, ListN.set, ListN.length-set, Seq.getD-set-same, Seq.getD-set-other, Seq.set-getD}
 use borrow.Author.Tests.{le-ltb, eq-eqb, ne-eqb, eqb-true}
 use Rattle.register.specs.{Lists.member, Server.isFaulty}
-use Rattle.calendar.specs.{Bits.bit, View.Spanned, View.Posted}
-use Rattle.calendar.specs.Layout.{receivers, rows, places, rowOf, highOf, sender}
+use Rattle.limits.specs.Bits.{bit}
+use Rattle.calendar.specs.View.{Spanned, Posted}
+use Rattle.calendar.specs.Layout.{receivers, rows, rowOf, highOf, sender}
+use Rattle.limits.specs.Limits.{places}
 use Rattle.calendar.proofs as calendar-laws
+use Rattle.limits.proofs as limits-laws
 use Rattle.calendar.proofs.Posting.{posted-eq, posted-trans, posted-none}
 use Rattle.serving.specs.declared.{Server.Server, Turn.Turn, Sender.Sender}
 use Rattle.serving.specs.declared as serving-structs
@@ -66,7 +69,7 @@ module _ (plan ends values : List ℕ) (turn : Turn) (from : Sender) (s : Server
 
     pub reached-unread : d .readers ≡ 0 → Reached plan ends values turn from s (d .server) sets then work mid
     reached-unread e = reached-now mid (posted-none mid _ (λ x j k l m.
-        rw (serving-laws.SendLaws.reply-none plan from ends (λ y. bit y (d .readers)) (λ y. member y (keys (d .server .kept))) x j (λ y. rw e (calendar-laws.Laws.bit-zero y)))
+        rw (serving-laws.SendLaws.reply-none plan from ends (λ y. bit y (d .readers)) (λ y. member y (keys (d .server .kept))) x j (λ y. rw e (limits-laws.Bits.bit-zero y)))
         (and-false (eqb k (from .i)))))
 
 -- the feed of a later server: the workspace as the servers before it leave it

@@ -8,12 +8,15 @@ use lib.{ListN.length, ListN.getD, ListN.set, ListN.length-set, Seq.getD-set-sam
 use borrow.Author.Tests.{le-ltb, ne-eqb}
 use Rattle.register.specs.Lists.{member}
 use Rattle.register.specs.Server.{faulty, isFaulty, isCorrect, curedAt}
-use Rattle.calendar.specs.Bits.{bit}
-use Rattle.calendar.specs.Layout.{mostServers, places}
+use Rattle.limits.specs.Bits.{bit}
+use Rattle.limits.specs.Limits.{mostServers, places}
 use Rattle.calendar.specs.View.{Posted}
 use Rattle.calendar.proofs.Laws.{ltb-more}
 use Rattle.calendar.proofs.Posting.{posted-eq, posted-trans, posted-none}
-use Rattle.serving.specs.declared.{Server.Server, Rules.Rules, Links.Links, Sender.Sender}
+use Rattle.serving.specs.declared.Server.{Server}
+use Rattle.tables.specs.declared.Rules.{Rules}
+use Rattle.tables.specs.declared.Links.{Links}
+use Rattle.serving.specs.declared.Sender.{Sender}
 use Rattle.serving.specs.Tallies.{ofServer, Aged}
 use Rattle.serving.specs.Stored.{Plain, server, statusOf, keys, Becomes, Valued, absent}
 use Rattle.serving.specs.Stages.{cureEnded, movedOn, blankAs, resetAt}

@@ -12,10 +12,12 @@ use Rattle.register.specs.Lists.{member}
 use Rattle.register.specs.Server.{Status, faulty, cured, correct, isFaulty, isCorrect, curedAt}
 use Rattle.register.proofs.Logic.{cond-ap}
 use Rattle.calendar.specs.declared.Stamped.{Stamped}
-use Rattle.calendar.specs.Bits.{bit}
-use Rattle.calendar.specs.Layout.{mostServers, receivers, places, rowOf, sender}
+use Rattle.limits.specs.Bits.{bit}
+use Rattle.limits.specs.Limits.{mostServers, places}
+use Rattle.calendar.specs.Layout.{receivers, rowOf, sender}
 use Rattle.calendar.specs.View.{Posted}
-use Rattle.calendar.proofs.{Laws.bit-zero, Spans.posted-spanned}
+use Rattle.limits.proofs.Bits.{bit-zero}
+use Rattle.calendar.proofs.Spans.{posted-spanned}
 use Rattle.serving.specs.declared.{Server.Server, Sender.Sender, Status.the-variants.Correct}
 use Rattle.serving.specs.Tallies.{recentAt, namedAt, ofServer, ofReader, rowOfSets}
 use Rattle.serving.specs.Stored.{Plain, Both, server, statusOf, keys, Valued, absent}

@@ -2,42 +2,22 @@
 use mathlib.Core.Path.{_≡_}
 use mathlib.Core.Bool.{Bool, true, false, _&&_, cond}
 use mathlib.Core.List.{List}
-use Prim.Native.Nat.{ℕ, suc, _+_, _-_, _/_, _^_, _≤_, _<_}
+use Prim.Native.Nat.{ℕ, suc, _+_, _-_, _/_, _≤_, _<_}
 use lib.Dec.{eqb, ltb}
 use lib.ListN.{getD, length}
 use Rattle.register.specs.Lists.{any, anyUpTo, In, member}
-use Rattle.register.specs.Plan.{Plan, Write, Read, stamped, kk, echoQuorum, replyQuorum, isMove, readEnd}
+use Rattle.register.specs.Plan.{Plan, Read, kk, echoQuorum, replyQuorum, isMove, readEnd}
 use Rattle.register.specs.Cluster.{writesIn, readsIn}
 use Rattle.register.specs.Reading.{sameRead}
-use Rattle.calendar.specs.Bits.{bit}
-use Rattle.plan.specs.Packed.{storeDepth}
-use Rattle.calendar.specs.Layout.{mostServers, mostReaders, places, noPair, calendarSize}
+use Rattle.limits.specs.Bits.{bit}
+use Rattle.limits.specs.Limits.{mostServers, places, noPair}
+use Rattle.calendar.specs.Layout.{calendarSize}
 use Rattle.calendar.specs.View.{Spanned}
-use Rattle.cluster.specs.declared.Known.{Known}
-use Rattle.serving.specs.declared.Rules.{Rules}
-use Rattle.serving.specs.declared.Links.{Links}
+use Rattle.tables.specs.declared.Rules.{Rules}
+use Rattle.tables.specs.declared.Links.{Links}
 use Rattle.cluster.specs.declared.Arrivals.{Arrivals}
 use Rattle.cluster.specs.declared.Movement.{Movement}
-use Rattle.serving.specs.Links.{delayAt, Linked}
-
--- the plan's pair j: value j of the known ones, of w bits, under number j
-abbrev pub pairAt : ℕ → Known → ℕ → ℕ
-pairAt w known j = stamped w (getD (known .values) j 0) j
-
--- the values have no more bits than the plan's
-abbrev pub Narrow : ℕ → Known → Type 0
-Narrow w known = (j : ℕ) → getD (known .values) j 0 < 2 ^ w
-
--- the plan's pairs are g 0 .. g (m - 1), of a table that strictly rises
-pub record Knows (P : Plan) (g : ℕ → ℕ) (m : ℕ) : Type 0 where
-  pub few : m ≤ places
-  pub servers : P .n ≤ mostServers
-  pub slow : P .delta ≤ 15
-  pub depth : P .depth ≡ storeDepth
-  pub rising : (i j : ℕ) → i < j → g i < g j
-  pub first : (0 < m) × (P .initial ≡ g 0)
-  pub write : (w : Write) → In w (P .writes) → (j : ℕ) × (j < m) × (w .pair ≡ g j)
-  pub readers : (r : Read) → In r (P .reads) → (1 ≤ r .reader) × (r .reader ≤ mostReaders)
+use Rattle.tables.specs.Links.{delayAt, Linked}
 
 -- ---- what arrives at one server
 

@@ -8,10 +8,15 @@ use lib.Dec.{eqb, leb, ltb}
 use lib.ListN.{length, getD}
 use Rattle.register.specs.Lists.{member}
 use Rattle.register.specs.Server.{correct, isCorrect, curedAt}
-use Rattle.calendar.specs.Bits.{bit}
-use Rattle.calendar.specs.Layout.{mostServers, mostReaders, slots, receivers, rows, places, rowOf, sender}
+use Rattle.limits.specs.Bits.{bit}
+use Rattle.limits.specs.Limits.{mostServers, mostReaders, places}
+use Rattle.calendar.specs.Layout.{slots, receivers, rows, rowOf, sender}
 use Rattle.calendar.specs.View.{SamePast, Spanned, Posted}
-use Rattle.serving.specs.declared.{Server.Server, Rules.Rules, Links.Links, Sender.Sender, Turn.Turn}
+use Rattle.serving.specs.declared.Server.{Server}
+use Rattle.tables.specs.declared.Rules.{Rules}
+use Rattle.tables.specs.declared.Links.{Links}
+use Rattle.serving.specs.declared.Sender.{Sender}
+use Rattle.serving.specs.declared.Turn.{Turn}
 use Rattle.cluster.specs.declared.{Cluster.Cluster, Arrivals.Arrivals, Movement.Movement, Feed.Feed}
 use Rattle.serving.specs.Tallies.{namedAt, ofReader, holds, SameOthers}
 use Rattle.serving.specs.Stored.{Plain, Said, Both, server, statusOf, keys, Valued, absent}

@@ -3,8 +3,9 @@ ghost use mathlib.Core.Path.{_≡_};
 ghost use mathlib.Core.Bool.{not, _||_};
 ghost use Prim.Native.Nat.{_≤_, _<_};
 ghost use lib.{Bits.bitAnd, Dec.eqb, ListN.length};
-ghost use Rattle.calendar.specs.Bits.{bit};
-ghost use Rattle.calendar.specs.Layout.{mostServers, places, calendarSize};
+ghost use Rattle.limits.specs.Bits.{bit};
+ghost use Rattle.limits.specs.Limits.{mostServers, places};
+ghost use Rattle.calendar.specs.Layout.{calendarSize};
 ghost use Rattle.calendar.specs.View.{Spanned, Posted};
 ghost use Rattle.serving.specs.Tallies.{tableSize};
 ghost use Rattle.serving.specs.Stored.{server};
@@ -15,9 +16,9 @@ use super::Arrivals;
 use super::Cluster;
 use super::Feed;
 use super::REQUESTERS;
-use calendar::PLACES;
-use calendar::READERS;
-use calendar::SERVERS;
+use limits::PLACES;
+use limits::READERS;
+use limits::SERVERS;
 use serving::Sender;
 use serving::Server;
 use serving::Turn;
@@ -55,7 +56,7 @@ fn wrote_at(requests: [u16; REQUESTERS], number: u8, b: usize) -> u8
     if has(requests[0], b) {
         return number;
     }
-    calendar::NO_PAIR
+    limits::NO_PAIR
 }
 
 // The readers whose READ reaches server b.
@@ -97,7 +98,7 @@ fn turn_of(feed: Feed, due: u16, b: usize) -> Turn
 {
     let arrivals = feed.arrivals;
     let rules = feed.rules;
-    let mut wrote = calendar::NO_PAIR;
+    let mut wrote = limits::NO_PAIR;
     let mut asks: u8 = 0;
     if has(due, b) {
         let requests = arrivals.requests;

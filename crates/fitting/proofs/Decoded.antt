@@ -14,8 +14,8 @@ use Rattle.plan.specs.Shape.{shape}
 use Rattle.plan.specs.Check.{checkOf, result}
 use Rattle.plan.proofs as plan-laws
 use Rattle.plan.proofs.Accept.{playable, reads-counted, in-range}
-use Rattle.script.specs.Operations.{opAt, noWrite, Written, ReadIn}
-use Rattle.script.proofs.Scripting.{writes-same, reads-same}
+use Rattle.tables.specs.Operations.{opAt, noWrite, Written, ReadIn}
+use Rattle.tables.proofs.Standing.{writes-same, reads-same}
 use Rattle.simulator.specs.Judge.{readOf, answerFits}
 use Rattle.regular.specs.Tables.{Tables}
 use Rattle.fitting.specs.Fitting.{fitsRead}

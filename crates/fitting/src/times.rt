@@ -4,8 +4,8 @@ ghost use Rattle.plan.specs.Form.{mostWidth};
 ghost use Rattle.plan.specs.Playable.{Playable};
 ghost use Rattle.fitting.specs.Times.{Timed};
 use plan::header::Shape;
-use script::operations::Writes;
-use script::operations::writes_of;
+use tables::operations::Writes;
+use tables::operations::writes_of;
 
 // The writes by number, and δ.
 pub struct Times {

@@ -14,9 +14,10 @@ use Rattle.traffic.specs.Traffic.{largest, forgeriesIn}
 use Rattle.traffic.proofs.Sums.{largest-cong}
 use Rattle.traffic.proofs.Forged.{arrivesIn, forgeries-counted}
 use Rattle.plan.specs.{declared.header.Shape.Shape, Header.headerOf, Header.operationAt, Parts.forgeryOf, Packed.planOf, Playable.Playable, Shape.shape}
-use Rattle.serving.specs.declared.Links.{Links}
-use Rattle.script.specs.{Forged.forgedAt, Script.LinksOf, Script.messageOf, Script.messageDelay}
-use Rattle.script.proofs.Forging.{counted, message, delay-same}
+use Rattle.tables.specs.declared.Links.{Links}
+use Rattle.tables.specs.Forged.{forgedAt, messageOf, messageDelay}
+use Rattle.tables.specs.Rules.{LinksOf}
+use Rattle.tables.proofs.Forging.{counted, message, delay-same}
 use Rattle.forecast.specs.Steps.{mostTicks, arrivalAt, Arrived}
 
 -- the plan's forged messages by index

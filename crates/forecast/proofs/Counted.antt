@@ -16,7 +16,7 @@ use Rattle.plan.specs.Parts.{Operation, operationOf, operationsOf, writesFrom, 
 use Rattle.plan.specs.{Packed.planOf, Playable.Playable}
 use Rattle.plan.proofs as plan-laws
 use Rattle.answers.specs.Answers.{answerSize}
-use Rattle.script.specs.Operations.{noWrite, noRead}
+use Rattle.tables.specs.Operations.{noWrite, noRead}
 use Rattle.simulator.proofs.AnswerBytes.{answersOf-length}
 use Rattle.forecast.specs.{Forecast.countsOf, Steps.allReceipts}
 

@@ -11,7 +11,7 @@ use Rattle.traffic.proofs.Sums.{sum-le, largest-le}
 use Rattle.plan.specs.{Header.headerOf, Header.moves, Packed.planOf, Playable.Playable, Shape.Ranged, Limits.mostReads}
 use Rattle.plan.proofs as plan-laws
 use Rattle.answers.specs.Answers.{answerSize}
-use Rattle.script.specs.Operations.{noWrite}
+use Rattle.tables.specs.Operations.{noWrite}
 use Rattle.forecast.specs.{Forecast.countsOf, Steps.mostTicks, Steps.allReceipts, Steps.mostReceipts}
 use Rattle.forecast.proofs.Arriving.{arriving}
 use Rattle.forecast.proofs.Counted.{counts-are}

@@ -14,11 +14,15 @@ use Rattle.register.proofs.Counting.{count-cong}
 use Rattle.traffic.specs.Alone.{reachedIn, receiptsOf}
 use Rattle.plan.specs.{Form.mostWidth, Header.headerOf, Header.delayBits, Parts.isLink, Packed.planOf, Playable.Playable}
 use Rattle.plan.proofs.{Accept.in-range, AcceptGood.delay-range}
-use Rattle.calendar.specs.{declared.Sending.Sending, Layout.mostServers, Bits.bit, Posts.arrivalOf, Posts.Sent}
-use Rattle.serving.specs.{declared.Links.Links, Links.linkBit, Links.delayAt, Links.Linked}
-use Rattle.serving.proofs.SendLaws.{link-at}
-use Rattle.script.specs.Script.{LinksOf}
-use Rattle.script.proofs.Placing.{table, link-delay, placed-bit}
+use Rattle.tables.specs.declared.sending.Sending.{Sending}
+use Rattle.limits.specs.Limits.{mostServers}
+use Rattle.limits.specs.Bits.{bit}
+use Rattle.tables.specs.Sending.{arrivalOf, Sent}
+use Rattle.tables.specs.declared.Links.{Links}
+use Rattle.tables.specs.Links.{linkBit, delayAt, Linked}
+use Rattle.tables.proofs.LinkLaws.{link-at}
+use Rattle.tables.specs.Rules.{LinksOf}
+use Rattle.tables.proofs.Placing.{table, link-delay, placed-bit}
 use Rattle.forecast.specs.Steps.{mostTicks, InForce, receiptsBy}
 
 -- what one party sends reaches a server when its delay is over

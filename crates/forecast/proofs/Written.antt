@@ -10,8 +10,9 @@ use Rattle.traffic.specs.Traffic.{sum}
 use Rattle.traffic.proofs.Sums.{sum-cong}
 use Rattle.plan.specs.{Header.headerOf, Packed.planOf, Playable.Playable}
 use Rattle.plan.proofs.AcceptWrites.{write-ends}
-use Rattle.serving.specs.declared.Links.{Links}
-use Rattle.script.specs.{Operations.noWrite, Script.LinksOf}
+use Rattle.tables.specs.declared.Links.{Links}
+use Rattle.tables.specs.Operations.{noWrite}
+use Rattle.tables.specs.Rules.{LinksOf}
 use Rattle.regular.specs.Tables.{Tables}
 use Rattle.forecast.specs.Steps.{InForce, receiptsBy, allReceipts}
 use Rattle.forecast.proofs.Reached.{receipts-are}

@@ -11,10 +11,12 @@ use Rattle.register.specs.Plan.{Plan, Forgery}
 use Rattle.traffic.specs.Traffic.{sum}
 use Rattle.traffic.specs.Alone.{receiptsOf}
 use Rattle.plan.specs.Header.{Header, placementBits, placementAt}
-use Rattle.calendar.specs.{Layout.mostServers, Bits.bit}
-use Rattle.serving.specs.{declared.Links.Links, Links.delayAt}
-use Rattle.script.specs.Operations.{noWrite}
-use Rattle.script.specs.Forged.{forgedAt, delayOf}
+use Rattle.limits.specs.Limits.{mostServers}
+use Rattle.limits.specs.Bits.{bit}
+use Rattle.tables.specs.declared.Links.{Links}
+use Rattle.tables.specs.Links.{delayAt}
+use Rattle.tables.specs.Operations.{noWrite}
+use Rattle.tables.specs.Forged.{forgedAt, delayOf}
 
 -- the most ticks of a plan; those in which what is sent in them can arrive, since no delay is over 15
 abbrev pub mostTicks : ℕ

@@ -4,13 +4,13 @@ ghost use Prim.Native.Nat.{_≤_};
 ghost use lib.ListN.{length, getD};
 ghost use Rattle.traffic.specs.Traffic.{largest, forgeriesIn};
 ghost use Rattle.plan.specs.{Form.mostWidth, Header.headerOf, Packed.planOf, Playable.Playable, Shape.shape};
-ghost use Rattle.script.specs.Forged.{Legible};
+ghost use Rattle.tables.specs.Forged.{Legible};
 ghost use Rattle.forecast.specs.Steps.{mostTicks, mostArrivals, arrivalAt, Arrived};
 use plan::forgeries::Forged;
 use plan::header::Shape;
-use script::forged;
-use script::links_of;
-use serving::Links;
+use tables::forged;
+use tables::links_of;
+use tables::Links;
 
 // One more than the last tick in which what is sent in a plan can arrive.
 const ARRIVALS: usize = Shape::MOST_TICKS as usize + Shape::MOST_DELTA as usize;

@@ -5,17 +5,19 @@ ghost use Prim.Native.Nat.{ℕ, _-_, _≤_, _<_};
 ghost use lib.ListN.{length, getD};
 ghost use Rattle.register.specs.Lists.{one-if, count};
 ghost use Rattle.plan.specs.{Form.mostWidth, Header.headerOf, Packed.planOf, Playable.Playable, Shape.shape, Shape.Sized};
-ghost use Rattle.calendar.specs.{Layout.mostServers, Bits.bit, Posts.arrivalOf, Posts.Sendable};
+ghost use Rattle.limits.specs.Limits.{mostServers};
+ghost use Rattle.limits.specs.Bits.{bit};
+ghost use Rattle.tables.specs.Sending.{arrivalOf, Sendable};
 ghost use Rattle.regular.specs.Tables.{Tables};
 ghost use Rattle.forecast.specs.Steps.{mostTicks, InForce, allReceipts, mostReceipts};
-use calendar::SERVERS;
-use calendar::Sending;
-use calendar::size_of;
+use limits::SERVERS;
+use tables::sending::Sending;
+use limits::size_of;
 use fitting::times;
 use plan::header::Shape;
-use script::links_of;
-use script::operations::Writes;
-use serving::delays;
+use tables::links_of;
+use tables::operations::Writes;
+use tables::delays;
 
 const TICKS: usize = Shape::MOST_TICKS as usize;
 

@@ -5,9 +5,11 @@ use Prim.Native.Nat.{ℕ, _+_, _-_, _≤_, _<_}
 use lib.Dec.{eqb, leb, ltb}
 use lib.ListN.{getD}
 use Rattle.register.specs.Lists.{anyUpTo}
-use Rattle.calendar.specs.Layout.{mostReaders, readersAt, rowOf}
+use Rattle.limits.specs.Limits.{mostReaders}
+use Rattle.calendar.specs.Layout.{readersAt, rowOf}
 use Rattle.calendar.specs.Posts.{Messages}
-use Rattle.script.specs.Forged.{entryAt, mostEntries}
+use Rattle.script.specs.Forged.{entryAt}
+use Rattle.tables.specs.Forged.{mostEntries}
 
 -- n servers; the ticks in which the readers' reads end, as they are when the messages are sent
 module _ (ends : List ℕ) (n : ℕ) where

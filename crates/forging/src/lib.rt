@@ -2,11 +2,12 @@
 ghost use mathlib.Core.Path.{_≡_};
 ghost use Prim.Native.Nat.{_+_, _≤_, _<_};
 ghost use lib.ListN.{length, getD};
-ghost use Rattle.calendar.specs.Layout.{mostServers};
+ghost use Rattle.limits.specs.Limits.{mostServers};
 ghost use Rattle.calendar.specs.View.{Posted};
-ghost use Rattle.script.specs.Forged.{entryAt, entriesEnd, mostEntries};
+ghost use Rattle.script.specs.Forged.{entryAt, entriesEnd};
+ghost use Rattle.tables.specs.Forged.{mostEntries};
 ghost use Rattle.forging.specs.Forging.{forgedEntry, SentIn, forges};
-use calendar::READERS;
+use limits::READERS;
 use calendar::READERS_AT;
 use reading::size_of;
 use script::forged;

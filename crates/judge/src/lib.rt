@@ -1,5 +1,5 @@
 // Judge: answers against a plan. The plan's writes are decoded once; one loop tests each answer's pair.
-use calendar::PLACES;
+use limits::PLACES;
 use fitting::times;
 use plan::Checked;
 use plan::form;

@@ -15,7 +15,7 @@ use Rattle.plan.specs.Header.{headerOf}
 use Rattle.plan.specs as plan-specs
 use Rattle.register.proofs.Stamped.{value-stamped, number-stamped}
 use Rattle.calendar.specs.declared.Stamped.{Stamped as Kept}
-use Rattle.calendar.specs.Layout.{noPair}
+use Rattle.limits.specs.Limits.{noPair}
 use Rattle.simulator.specs as simulator-specs
 use Rattle.serving.specs.Stored.{pairsIn}
 use Rattle.answers.specs.Workspace.{workspaceSize, zeroed}

@@ -8,10 +8,10 @@ use lib.ListN.{length}
 use Rattle.plan.specs.Header.{Header, headerOf, placementBits, placementAt}
 use Rattle.plan.specs.Shape.{Ranged}
 use Rattle.plan.proofs.Accept.{in-range}
-use Rattle.serving.specs.Links.{Linked}
+use Rattle.tables.specs.Links.{Linked}
 use Rattle.script.specs.declared.Script.{Script}
 use Rattle.script.specs.Script.{widthIn}
-use Rattle.script.proofs.Placing.{table, placement-inside}
+use Rattle.tables.proofs.Placing.{table, placement-inside}
 use Rattle.player.specs.Run.{Decoded}
 
 module _ (s : List ℕ) (r : Script) (R : Decoded s r) where

@@ -12,10 +12,12 @@ use Rattle.plan.specs.{Header.headerOf, Packed.planOf}
 use Rattle.calendar.specs.Layout.{rowOf}
 use Rattle.requests.specs.Requests.{SameBehind}
 use Rattle.states.specs.Way.{forgedAs}
-use Rattle.cluster.specs.Inputs.{pairAt}
+use Rattle.tables.specs.Known.{pairAt}
 use Rattle.script.specs as script-specs
+use Rattle.tables.specs as tables-specs
 use Rattle.script.specs.{Script.widthIn, Forged.entriesEnd, Forged.entryAt, Forged.Entry, Forged.Starts}
 use Rattle.script.proofs as script-laws
+use Rattle.tables.proofs as tables-laws
 use Rattle.forging.specs.Forging.{goesTo, forgedEntry, SentIn, forges}
 use Rattle.forging.proofs.Forgeries as forging-laws
 use Rattle.player.specs.Run.{Decoded}
@@ -35,7 +37,7 @@ module _ (s : List ℕ) (r : script-specs.declared.Script.Script) (R : Decoded s
   abbrev pub posts : ℕ → ℕ → ℕ → Bool
   posts = forges ends (r .rules .n) between from to
 
-  E : (e : ℕ) → e < nf → Entry between e (script-specs.Script.messageOf (widthIn r) s e) (script-specs.Script.messageDelay (widthIn r) s e) (script-specs.Script.messageNumber (widthIn r) s (r .writes .known .values) (r .writes .known .m) e)
+  E : (e : ℕ) → e < nf → Entry between e (tables-specs.Forged.messageOf (widthIn r) s e) (tables-specs.Forged.messageDelay (widthIn r) s e) (script-specs.Script.messageNumber (widthIn r) s (r .writes .known .values) (r .writes .known .m) e)
   E = script-laws.Fitting.entries-kept (widthIn r) s (R .after) between (r .writes .known .values) (r .writes .known .m) again (R .scripted .forged .filled .entry)
 
   Z : Starts between nf (r .starts)
@@ -59,7 +61,7 @@ module _ (s : List ℕ) (r : script-specs.declared.Script.Script) (R : Decoded s
       ordered = script-laws.Windows.starts-rise (widthIn r) s (R .playable) between (r .writes .known .values) (r .writes .known .m) E (r .starts) Z t (t + 1) (omega arith) (omega (arith, few));
       few = omega (arith, to-few, player-laws.Feeding.range s r R .forgeries-hi);
       senders = λ e l. rw (E e (omega (arith, to-few)) .sender)
-          (omega (arith, script-laws.Messages.sender-below (widthIn r) s (R .playable) e (omega (arith, to-few)), player-laws.Feeding.range s r R .n-hi));
+          (omega (arith, tables-laws.Messages.sender-below (widthIn r) s (R .playable) e (omega (arith, to-few)), player-laws.Feeding.range s r R .n-hi));
     },
   )
 
@@ -77,7 +79,7 @@ module _ (s : List ℕ) (r : script-specs.declared.Script.Script) (R : Decoded s
 
   from-below : (e : ℕ) → e < nf → entryAt between e 3 < planOf (widthIn r) s .n
   unfolding planOf
-  from-below e l = rw (E e l .sender) (script-laws.Messages.sender-below (widthIn r) s (R .playable) e l)
+  from-below e l = rw (E e l .sender) (tables-laws.Messages.sender-below (widthIn r) s (R .playable) e l)
 
   -- what is posted in row x, and what the plan's list says of a receiver q, if what goes to the row goes to q in time
   module _ (x u j i q : ℕ) (known-pair : j < r .writes .known .m) (late : Bool)

@@ -10,12 +10,13 @@ use Rattle.register.specs.Plan.{Read}
 use Rattle.register.proofs.{Logic.T-iff, Logic.and-l, Logic.and-r, Logic.and-i, Counting.anyUpTo-e, Counting.anyUpTo-i, Lists.any-in, Lists.in-any}
 use Rattle.plan.{specs.Parts.isLink, specs.Header.headerOf, specs.Packed.planOf, proofs.AcceptGood.good, proofs.AcceptGood.delay-range, proofs.AcceptReads.read-stands}
 use Rattle.calendar.proofs.Spans.{own-rows}
-use Rattle.serving.specs.Links.{delayAt}
+use Rattle.tables.specs.Links.{delayAt}
 use Rattle.requests.specs.Requests.{reachedBy, Asked}
 use Rattle.states.{specs.Requests.readReaches, specs.Requests.Requested, specs.Requests.writeBegins, specs.Requests.readBegins, proofs.RequestLaws.requested-next, proofs.RequestLaws.same-arrival}
 use Rattle.script.specs as script-specs
 use Rattle.script.specs.Script.{widthIn}
 use Rattle.script.proofs as script-laws
+use Rattle.tables.proofs as tables-laws
 use Rattle.asking.specs.Asking.{askedBy, askedBetween, begins, WroteOn}
 use Rattle.reading.specs.Reading.{Until, readAt}
 use Rattle.player.specs.Run.{Decoded}
@@ -26,7 +27,7 @@ module _ (s : List ℕ) (r : script-specs.declared.Script.Script) (R : Decoded s
   delay-same : (p b : ℕ) → p ≤ headerOf (widthIn r) s .readers → b < planOf (widthIn r) s .n → delayAt s (r .links) t (r .rules .n + p) b ≡ planOf (widthIn r) s .delay t (planOf (widthIn r) s .n + p) b
   unfolding planOf isLink
   delay-same p b h l =
-      rw (R .scripted .rules .n) (script-laws.Placing.link-delay (widthIn r) s (R .playable) (r .links) (R .scripted .links) t (headerOf (widthIn r) s .n + p) b
+      rw (R .scripted .rules .n) (tables-laws.Placing.link-delay (widthIn r) s (R .playable) (r .links) (R .scripted .links) t (headerOf (widthIn r) s .n + p) b
       (omega (arith, player-laws.Feeding.ticks-same s r R)) (omega arith) (omega arith)
       (rw (le-ltb (headerOf (widthIn r) s .n + p) (headerOf (widthIn r) s .n) (omega arith), lt-ltb b (headerOf (widthIn r) s .n) l) tt))
 

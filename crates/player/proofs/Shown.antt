@@ -6,10 +6,10 @@ use Prim.Native.Nat.{ℕ}
 use native.Mathlib.Decide.{ℕ-discrete}
 use borrow.Author.Tests.{eq-eqb, ne-eqb}
 use Rattle.calendar.specs.declared.Stamped.{Stamped}
-use Rattle.calendar.specs.Layout.{noPair}
+use Rattle.limits.specs.Limits.{noPair}
 use Rattle.serving.specs.Stored.{keys, pairsIn, Valued}
-use Rattle.cluster.specs.declared.Known.{Known}
-use Rattle.cluster.specs.Inputs.{pairAt}
+use Rattle.tables.specs.declared.Known.{Known}
+use Rattle.tables.specs.Known.{pairAt}
 
 pub pairs-are : (w : ℕ) (known : Known) (kept : List Stamped) → Valued (known .values) kept → map (pairAt w known) (keys kept) ≡ pairsIn w kept
 unfolding keys pairsIn

@@ -11,10 +11,10 @@ use Rattle.register.specs.Plan.{Read}
 use Rattle.plan.specs.Packed.{planOf}
 use Rattle.plan.proofs.Tests.{getD-in, in-getD}
 use Rattle.plan.proofs.AcceptReads.{read-stands, reads-rise}
-use Rattle.cluster.specs.Inputs.{pairAt, Knows}
+use Rattle.tables.specs.Known.{pairAt, Knows}
 use Rattle.script.specs.declared.Script.{Script}
 use Rattle.script.specs.Script.{widthIn}
-use Rattle.script.specs.Operations.{noRead}
+use Rattle.tables.specs.Operations.{noRead}
 use Rattle.script.proofs.Fitting.{script-knows}
 use Rattle.reading.specs.Reading.{Until, There, readAt}
 use Rattle.player.specs.Run.{Decoded}

@@ -6,12 +6,16 @@ use native.Mathlib.{Omega.arith, Decide.decLe}
 use lib.ListN.{length, getD}
 use Rattle.register.specs.{Lists.In, Plan.Read, Plan.readEnd}
 use Rattle.plan.{specs.Header.headerOf, specs.Packed.planOf, proofs.AcceptGood.good}
-use Rattle.calendar.{specs.Bits.bit, specs.Layout.places, specs.View.Posted, proofs.Laws.bit-zero, proofs.Spans.posted-spanned}
+use Rattle.calendar.{specs.View.Posted, proofs.Spans.posted-spanned}
+use Rattle.limits.specs.Bits.{bit}
+use Rattle.limits.specs.Limits.{places}
+use Rattle.limits.proofs.Bits.{bit-zero}
 use Rattle.requests.{specs.Requests.SameBehind, specs.Requests.SameOutside, proofs.Requesting.behind-trans, proofs.Requesting.past-behind, proofs.Requesting.outside-sender, proofs.Requesting.outside-spanned}
 use Rattle.serving.specs.{declared.Server.Server, Tallies.ofReader, Tallies.holds}
 use Rattle.states.specs.{State.State, Requests.Requested}
 use Rattle.states.proofs as states-laws
 use Rattle.cluster.specs as cluster-specs
+use Rattle.tables.specs as tables-specs
 use Rattle.cluster.specs.Tick.{Ticked, Calm, feedOf}
 use Rattle.script.{specs.declared.Script.Script, specs.Script.widthIn, specs.Inputs.LatestWrite, specs.Forged.entriesEnd, proofs.Fitting.script-fits, proofs.Fitting.script-sized}
 use Rattle.answers.proofs.Answered.{answered}
@@ -24,7 +28,7 @@ use Rattle.player.proofs.Tables.{knows, delta-same, listed, in-table, r
 module _ (s : List ℕ) (r : Script) (R : Decoded s r) where
   module _ (work sets : List ℕ) (K : SameBehind (R .after) work) (room : entriesEnd ≤ length work) (t : ℕ) (below : t < r .shape .ticks) (number : ℕ)
       (c : cluster-specs.declared.Cluster.Cluster) (f : cluster-specs.declared.Feed.Feed) (F : FedBy s work r number (c .ends) t f)
-      (S : State (planOf (widthIn r) s) (cluster-specs.Inputs.pairAt (widthIn r) (r .writes .known)) (r .writes .known .m) t c sets work)
+      (S : State (planOf (widthIn r) s) (tables-specs.Known.pairAt (widthIn r) (r .writes .known)) (r .writes .known .m) t c sets work)
       (Q : Requested (planOf (widthIn r) s) t work) (latest : LatestWrite (r .writes .begun) (r .writes .known .m) t number) where
     under : t < headerOf (widthIn r) s .ticks
     under = omega (arith, player-laws.Feeding.ticks-same s r R)
@@ -33,7 +37,7 @@ module _ (s : List ℕ) (r : Script) (R : Decoded s r) where
     abbrev feed : cluster-specs.declared.Feed.Feed
     feed = record { t = t; rules = r .rules; m = r .writes .known .m; links = r .links; arrivals = f .arrivals; movement = f .movement }
 
-    fits : cluster-specs.Inputs.Fits (planOf (widthIn r) s) (cluster-specs.Inputs.pairAt (widthIn r) (r .writes .known)) t s (r .rules) (r .writes .known .m) (r .links) (f .arrivals) (f .movement)
+    fits : cluster-specs.Inputs.Fits (planOf (widthIn r) s) (tables-specs.Known.pairAt (widthIn r) (r .writes .known)) t s (r .rules) (r .writes .known .m) (r .links) (f .arrivals) (f .movement)
     fits =
         script-fits s (R .before) (R .after) r (R .playable) (R .scripted) t under work (c .ends) number (f .arrivals) (f .movement)
         (rw (R .scripted .rules .delta) at (F .comes)) (rw (player-laws.Feeding.period-same s r R) at (F .moves)) Q latest (S .readers .end)
@@ -62,7 +66,7 @@ module _ (s : List ℕ) (r : Script) (R : Decoded s r) where
           → chosenBytes (widthIn r) then (r .reads) (r .writes .known) (r .rules .reply) i ≡ answerIn (widthIn r) s i
       answer-same i l e =
           let q = readAt (r .reads) i in
-          let a = answered (planOf (widthIn r) s) (cluster-specs.Inputs.pairAt (widthIn r) (r .writes .known)) (r .writes .known .m) (good (widthIn r) s (R .playable)) (knows s r R) q (λ j k. holds then (ofReader (getD (r .reads .reader) i 0 - 1) + j) k)
+          let a = answered (planOf (widthIn r) s) (tables-specs.Known.pairAt (widthIn r) (r .writes .known)) (r .writes .known .m) (good (widthIn r) s (R .playable)) (knows s r R) q (λ j k. holds then (ofReader (getD (r .reads .reader) i 0 - 1) + j) k)
           (states-laws.StateLaws.noted-end (planOf (widthIn r) s) (good (widthIn r) s (R .playable)) (feedOf s work feed) fits (knows s r R) c d sets then work₁ ticked S q (listed s r R i l) e) in
           rw (R .scripted .reads .each i l, fits .reply, a)
 
@@ -123,7 +127,7 @@ module _ (s : List ℕ) (r : Script) (R : Decoded s r) where
         abbrev posts : ℕ → ℕ → ℕ → Bool
         posts = player-laws.Posts.posts s r R t below between again after
 
-        forges-now : states-laws.ReaderLaws.Forges (planOf (widthIn r) s) (r .writes .known .m) t (cluster-specs.Inputs.pairAt (widthIn r) (r .writes .known)) posts
+        forges-now : states-laws.ReaderLaws.Forges (planOf (widthIn r) s) (r .writes .known .m) t (tables-specs.Known.pairAt (widthIn r) (r .writes .known)) posts
         forges-now = record {
           votes = λ u b j i a z lb lj. player-laws.Posts.server-posts s r R t below between again after u b j i a z lb lj;
           replies = λ q o u j i a z lj.
@@ -137,7 +141,7 @@ module _ (s : List ℕ) (r : Script) (R : Decoded s r) where
         -- ---- all together
 
         pub state-next : (n : cluster-specs.declared.Cluster.Cluster) (work₂ : List ℕ) → n .servers ≡ d → n .ends ≡ after → Posted between work₂ posts
-            → State (planOf (widthIn r) s) (cluster-specs.Inputs.pairAt (widthIn r) (r .writes .known)) (r .writes .known .m) (suc t) n last work₂
+            → State (planOf (widthIn r) s) (tables-specs.Known.pairAt (widthIn r) (r .writes .known)) (r .writes .known .m) (suc t) n last work₂
         state-next n work₂ es er N =
             states-laws.StateLaws.next-state (planOf (widthIn r) s) (good (widthIn r) s (R .playable)) (feedOf s work feed) fits (knows s r R) c d sets then work₁ ticked S n last work₂ posts es (rw er begins)
             (λ x j i l m. N .cells x j i l m ∙ rw (outside-sender work₁ between O x j i l m))

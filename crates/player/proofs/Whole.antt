@@ -11,6 +11,7 @@ use Rattle.requests.{specs.Requests.SameBehind, proofs.Requesting.behind-trans}
 use Rattle.states.proofs as states-laws
 use Rattle.serving.specs.{Tallies.tableSize, Stored.absent}
 use Rattle.script.specs as script-specs
+use Rattle.tables.specs as tables-specs
 use Rattle.script.specs.Script.{widthIn}
 use Rattle.answers.specs as answers-specs
 use Rattle.answers.specs.Answers.{answerSize, answersFor, answersOf}
@@ -77,7 +78,7 @@ all-placed w s b zero h = rw (mul-zero (answerSize w))
 all-placed w s b (suc i) h =
     let z : 0 + i ≡ i = omega arith in
     rw (z, ← add-one i)
-    (player-laws.Buffers.answers-more w (planOf w s) (planOf w s .reads) b (placed w (answerIn w s) 0 i b) i script-specs.Operations.noRead (omega arith)
+    (player-laws.Buffers.answers-more w (planOf w s) (planOf w s .reads) b (placed w (answerIn w s) 0 i b) i tables-specs.Operations.noRead (omega arith)
     (all-placed w s b i (omega arith)))
 
 module _ (s before after started : List ℕ) (r : script-specs.declared.Script.Script) (w : ℕ) (at : plan-specs.Playable.Playable w s) (room : answers-specs.Workspace.workspaceSize ≤ length before)
@@ -129,7 +130,7 @@ module _ (s before after started : List ℕ) (r : script-specs.declared.Script.S
     none-left : p .tick ≡ r .shape .ticks → p .answered < r .reads .m → ⊥
     unfolding planOf
     none-left e l =
-        let q = rw (scripted .reads .each (p .answered) l) at (getD-in (planOf (widthIn r) s .reads) (p .answered) script-specs.Operations.noRead (omega (arith, scripted .reads .count))) in
+        let q = rw (scripted .reads .each (p .answered) l) at (getD-in (planOf (widthIn r) s .reads) (p .answered) tables-specs.Operations.noRead (omega (arith, scripted .reads .count))) in
         let Q = read-stands (widthIn r) s playable _ q in
         omega (arith, W .played .answered .next l, Q .ends, e, player-laws.Feeding.ticks-same s r decoded, scripted .rules .delta)
 

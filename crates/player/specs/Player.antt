@@ -7,7 +7,7 @@ use Rattle.register.specs.Lists.{In}
 use Rattle.register.specs.Cluster.{cluster, serverOf}
 use Rattle.plan.specs.Packed.{planOf}
 use Rattle.calendar.specs.declared.Stamped.{Stamped}
-use Rattle.calendar.specs.Layout.{noPair}
+use Rattle.limits.specs.Limits.{noPair}
 use Rattle.serving.specs.declared.Server.{Server}
 use Rattle.serving.specs.Stored.{statusOf, pairsIn}
 use Rattle.answers.specs.Answers.{answerSize, answersOf}

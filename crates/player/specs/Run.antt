@@ -5,15 +5,17 @@ use Prim.Native.Nat.{ℕ, _*_, _-_, _≤_, _<_}
 use lib.ListN.{length, getD}
 use Rattle.register.specs.Reading.{answerOf}
 use Rattle.plan.specs.{Packed.planOf, Playable.Playable}
-use Rattle.calendar.specs.{Layout.mostServers, View.Empty}
+use Rattle.limits.specs.Limits.{mostServers}
+use Rattle.calendar.specs.View.{Empty}
 use Rattle.requests.specs.Requests.{SameBehind, Unasked}
 use Rattle.serving.specs.{Tallies.tableSize, Stored.Valued, Stored.absent}
 use Rattle.cluster.specs.declared.Feed.{Feed}
-use Rattle.cluster.specs.{Inputs.pairAt, Tick.Started}
+use Rattle.tables.specs.Known.{pairAt}
+use Rattle.cluster.specs.Tick.{Started}
 use Rattle.states.specs.State.{State}
 use Rattle.states.specs.Requests.{Requested}
 use Rattle.script.specs.declared.Script.{Script}
-use Rattle.script.specs.Operations.{noRead}
+use Rattle.tables.specs.Operations.{noRead}
 use Rattle.script.specs.Forged.{entriesEnd}
 use Rattle.script.specs.Inputs.{LatestWrite, Arrive, Moves}
 use Rattle.script.specs.Script.{Scripted, widthIn}

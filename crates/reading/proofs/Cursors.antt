@@ -13,9 +13,9 @@ use mathlib.Core.Logic.{inl, inr}
 use borrow.Rule.Slice.PartMut.{putMid}
 use borrow.Author.Tests.{lt-ltb, ltb-false}
 use Rattle.register.specs.Plan.{stamped}
-use Rattle.cluster.specs.declared.Known.{Known}
-use Rattle.cluster.specs.Inputs.{pairAt}
-use Rattle.calendar.specs.Layout.{places}
+use Rattle.tables.specs.declared.Known.{Known}
+use Rattle.tables.specs.Known.{pairAt}
+use Rattle.limits.specs.Limits.{places}
 use Rattle.serving.specs.Tallies.{ofReader, Outside, Emptied}
 use Rattle.answers.specs.declared.Choice.{Choice}
 use Rattle.answers.specs.Choosing.{answerBy}

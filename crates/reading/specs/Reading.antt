@@ -5,11 +5,11 @@ use mathlib.Core.List.{List, _++_}
 use Prim.Native.Nat.{ℕ, zero, suc, _+_, _*_, _-_, _≤_, _<_}
 use lib.Dec.{ltb}
 use lib.ListN.{length, getD, set, take, drop}
-use Rattle.calendar.specs.Layout.{mostReaders, places}
-use Rattle.cluster.specs.declared.Known.{Known}
+use Rattle.limits.specs.Limits.{mostReaders, places}
+use Rattle.tables.specs.declared.Known.{Known}
 use Rattle.serving.specs.Tallies.{namedAt, ofReader, holds}
-use Rattle.cluster.specs.Inputs.{pairAt, Narrow}
-use Rattle.script.specs.declared.operations.Reads.{Reads}
+use Rattle.tables.specs.Known.{pairAt, Narrow}
+use Rattle.tables.specs.declared.operations.Reads.{Reads}
 use Rattle.script.specs.declared.Script.{Script}
 use Rattle.script.specs.Script.{widthIn}
 use Rattle.register.specs.Plan.{Read}

@@ -4,19 +4,20 @@ ghost use mathlib.Core.Bool.{_||_};
 ghost use mathlib.Core.List.{_++_};
 ghost use Prim.Native.Nat.{_+_, _*_, _-_, _≤_, _<_};
 ghost use lib.ListN.{length, drop};
-ghost use Rattle.calendar.specs.Layout.{mostReaders, places};
-ghost use Rattle.serving.specs.{Tallies.tableSize, Tallies.ofReader, Tallies.holds, Links.Linked};
-ghost use Rattle.cluster.specs.Inputs.{pairAt, Narrow};
+ghost use Rattle.limits.specs.Limits.{mostReaders, places};
+ghost use Rattle.serving.specs.Tallies.{tableSize, ofReader, holds};
+ghost use Rattle.tables.specs.Links.{Linked};
+ghost use Rattle.tables.specs.Known.{pairAt, Narrow};
 ghost use Rattle.answers.specs.Answers.{answerSize, answerBytes};
 ghost use Rattle.answers.specs.Choosing.{highestOf, answerBy};
 ghost use Rattle.plan.specs.Form.{mostWidth};
 ghost use Rattle.requests.specs.Requests.{requestsEnd};
 ghost use Rattle.script.specs.Script.{widthIn};
 ghost use Rattle.reading.specs.Reading.{Until, There, chosenBytes, placed, begunBy, SetUp, isBefore, Begun, WentOn};
-use calendar::READERS;
-use cluster::Known;
+use limits::READERS;
+use tables::Known;
 use script::Script;
-use script::operations::TABLE_READS;
+use tables::operations::TABLE_READS;
 use serving::tallies;
 
 // The ticks in which the readers' last reads end, and how many reads have begun and been answered.

@@ -18,7 +18,7 @@ use Rattle.register.proofs.Lists.{any-in, in-any}
 use Rattle.register.proofs.Regular.{finished-by, unfinished-from, last-cases, unfinished-above}
 use Rattle.plan.proofs.Tests.{getD-in, in-getD}
 use Rattle.register.proofs.Stamped.{value-stamped, number-stamped, stamped-rises}
-use Rattle.script.specs.Operations.{noWrite}
+use Rattle.tables.specs.Operations.{noWrite}
 use Rattle.regular.specs.Tables.{Tables, Last}
 
 -- the pair of a number, with a value of w bits, and its write

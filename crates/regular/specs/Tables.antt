@@ -6,7 +6,7 @@ use Prim.Native.Nat.{ℕ, _<_}
 use lib.Dec.{T}
 use lib.ListN.{length, getD}
 use Rattle.register.specs.Plan.{Plan, stamped}
-use Rattle.script.specs.Operations.{noWrite, Written}
+use Rattle.tables.specs.Operations.{noWrite, Written}
 
 -- the tables have the plan's initial pair and its writes, which begin one after the other
 pub record Tables (w : ℕ) (P : Plan) (values begun : List ℕ) (m : ℕ) : Type 0 where

@@ -8,7 +8,7 @@ ghost use Rattle.register.specs.Lists.{any};
 ghost use Rattle.register.specs.Plan.{Plan, Read, Write, stamped};
 ghost use Rattle.register.specs.Regular.{finished, concurrent, allowed};
 ghost use Rattle.regular.specs.Tables.{Tables, Last};
-use calendar::PLACES;
+use limits::PLACES;
 
 // Did a write begun in tick `begun` finish before a read begun in tick `read`?
 fn is_finished(begun: u8, delta: u8, read: u8) -> bool

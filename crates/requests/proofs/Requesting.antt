@@ -9,12 +9,15 @@ use lib.Dec.{eqb}
 use lib.ListN.{length}
 use lib.Bits.{bitOr}
 use borrow.Author.Tests.{le-ltb, eq-eqb, ne-eqb, eqb-true}
-use Rattle.calendar.specs.declared.Sending.{Sending}
-use Rattle.calendar.specs.Bits.{bit, wordOf, putWord}
-use Rattle.calendar.specs.Layout.{calendarSize, rows, places, cellWord, sender}
+use Rattle.tables.specs.declared.sending.Sending.{Sending}
+use Rattle.limits.specs.Bits.{bit}
+use Rattle.calendar.specs.Words.{wordOf, putWord}
+use Rattle.calendar.specs.Layout.{calendarSize, rows, cellWord, sender}
+use Rattle.limits.specs.Limits.{places}
 use Rattle.calendar.specs.View.{SamePast, Spanned, Empty, Zeroed}
-use Rattle.calendar.specs.Posts.{arrivalOf}
+use Rattle.tables.specs.Sending.{arrivalOf}
 use Rattle.calendar.proofs.Laws as laws
+use Rattle.limits.proofs as limits-laws
 use Rattle.requests.specs.Requests.{parties, requestsAt, requestsEnd, requestWord, reachedBy, askedFirst, SameBehind, SameOutside, Asked, Taken, Unasked}
 
 -- ---- bytes that stay
@@ -106,7 +109,7 @@ pub taken : (a r : List ℕ) (t from : ℕ) → from ≡ 2 * requestWord t 0 →
 taken a r t from d Z = record {
   outside = zeroed-outside a r from (from + 2 * parties) (omega arith) (omega arith) Z;
   requests = λ u p b l. elim (ℕ-discrete (u % 16) (t % 16)) [
-    | yes e ↦ rw (eq-eqb (u % 16) (t % 16) e, laws.zeroed-word a r from (from + 2 * parties) (requestWord u p) (omega arith) (omega arith) Z) (laws.bit-zero b)
+    | yes e ↦ rw (eq-eqb (u % 16) (t % 16) e, laws.zeroed-word a r from (from + 2 * parties) (requestWord u p) (omega arith) (omega arith) Z) (limits-laws.Bits.bit-zero b)
     | no e ↦ rw (ne-eqb (u % 16) (t % 16) e) (elim (decLe (u % 16) (t % 16)) [
       | yes g ↦ word-below a r from (from + 2 * parties) (requestWord u p) b Z (below (u % 16) (t % 16) p l e g d)
       | no g ↦ word-above a r from (from + 2 * parties) (requestWord u p) b Z (above (u % 16) (t % 16) p g d)
@@ -124,7 +127,7 @@ taken a r t from d Z = record {
 pub unasked : (a r : List ℕ) → Zeroed a r calendarSize requestsEnd → SameOutside a r × Unasked r
 unasked a r Z = (
   zeroed-outside a r calendarSize requestsEnd (omega arith) (omega arith) Z,
-  record { requests = λ t p b l. rw (laws.zeroed-word a r calendarSize requestsEnd (requestWord t p) (omega arith) (omega arith) Z) (laws.bit-zero b) },
+  record { requests = λ t p b l. rw (laws.zeroed-word a r calendarSize requestsEnd (requestWord t p) (omega arith) (omega arith) Z) (limits-laws.Bits.bit-zero b) },
 )
 
 -- ---- the calendar where only requests change

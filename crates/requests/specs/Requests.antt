@@ -6,10 +6,11 @@ use mathlib.Core.List.{List}
 use Prim.Native.Nat.{ℕ, _+_, _*_, _/_, _%_, _≤_, _<_}
 use lib.Dec.{eqb, ltb}
 use lib.ListN.{length, getD}
-use Rattle.calendar.specs.declared.Sending.{Sending}
-use Rattle.calendar.specs.Bits.{bit, wordOf}
+use Rattle.tables.specs.declared.sending.Sending.{Sending}
+use Rattle.limits.specs.Bits.{bit}
+use Rattle.calendar.specs.Words.{wordOf}
 use Rattle.calendar.specs.Layout.{slots, calendarSize}
-use Rattle.calendar.specs.Posts.{arrivalOf}
+use Rattle.tables.specs.Sending.{arrivalOf}
 
 -- how many parties have room
 abbrev pub parties : ℕ

@@ -3,9 +3,9 @@
 ghost use mathlib.Core.Path.{_≡_};
 ghost use Prim.Native.Nat.{_+_, _*_, _≤_, _<_};
 ghost use lib.ListN.{length};
-ghost use Rattle.calendar.specs.Posts.{Sendable};
+ghost use Rattle.tables.specs.Sending.{Sendable};
 ghost use Rattle.requests.specs.Requests.{parties, requestWord, requestsEnd, reachedOf, askedFirst, Asked, Taken, Unasked, SameOutside};
-use calendar::Sending;
+use tables::sending::Sending;
 use calendar::words;
 
 // How many parties send requests, with room: the writer is 0, reader x is x.

@@ -14,12 +14,15 @@ use Rattle.plan.specs as plan-specs
 use Rattle.plan.specs.Packed.{planOf}
 use Rattle.plan.proofs as plan-laws
 use Rattle.cluster.specs as cluster-specs
+use Rattle.tables.specs as tables-specs
 use Rattle.calendar.specs as calendar-specs
+use Rattle.limits.specs as limits-specs
 use Rattle.requests.specs.Requests.{SameBehind}
 use Rattle.states.specs as states-specs
 use Rattle.states.proofs.RequestLaws.{asked-now}
 use Rattle.script.specs as script-specs
 use Rattle.script.proofs as script-laws
+use Rattle.tables.proofs as tables-laws
 
 -- the entries stay as they are where only the calendar and the requests change
 module _ (w : ℕ) (s after work values : List ℕ) (m : ℕ) (K : SameBehind after work) where
@@ -27,9 +30,9 @@ module _ (w : ℕ) (s after work values : List ℕ) (m : ℕ) (K : SameBehind af
   byte-kept e k = K .behind (script-specs.Forged.entriesAt + 8 * e + k) (omega arith)
 
   pub entries-kept : ((e : ℕ) → e < headerOf w s .forgeries
-      → script-specs.Forged.Entry after e (script-specs.Script.messageOf w s e) (script-specs.Script.messageDelay w s e) (script-specs.Script.messageNumber w s values m e))
+      → script-specs.Forged.Entry after e (tables-specs.Forged.messageOf w s e) (tables-specs.Forged.messageDelay w s e) (script-specs.Script.messageNumber w s values m e))
       → (e : ℕ) → e < headerOf w s .forgeries
-      → script-specs.Forged.Entry work e (script-specs.Script.messageOf w s e) (script-specs.Script.messageDelay w s e) (script-specs.Script.messageNumber w s values m e)
+      → script-specs.Forged.Entry work e (tables-specs.Forged.messageOf w s e) (tables-specs.Forged.messageDelay w s e) (script-specs.Script.messageNumber w s values m e)
   entries-kept E e l = script-laws.Entries.entry-kept after work e _ _ _ (λ k h. byte-kept e k) (E e l)
 
   pub starts-kept : (starts : List ℕ) → script-specs.Forged.Starts after (headerOf w s .forgeries) starts → script-specs.Forged.Starts work (headerOf w s .forgeries) starts
@@ -47,7 +50,7 @@ module _ (s before after : List ℕ) (r : script-specs.declared.Script.Script) (
   abbrev w : ℕ
   w = script-specs.Script.widthIn r
 
-  pub script-knows : cluster-specs.Inputs.Knows (planOf w s) (cluster-specs.Inputs.pairAt w (r .writes .known)) (r .writes .known .m)
+  pub script-knows : tables-specs.Known.Knows (planOf w s) (tables-specs.Known.pairAt w (r .writes .known)) (r .writes .known .m)
   script-knows = script-laws.Knowing.knows w s A (r .writes .known) (r .writes .begun) (R .writes)
 
   module _ (t : ℕ) (below : t < headerOf w s .ticks) (work ends : List ℕ) (number : ℕ) (arrivals : cluster-specs.declared.Arrivals.Arrivals) (movement : cluster-specs.declared.Movement.Movement)
@@ -55,14 +58,14 @@ module _ (s before after : List ℕ) (r : script-specs.declared.Script.Script) (
       (requested : states-specs.Requests.Requested (planOf w s) t work) (latest : script-specs.Inputs.LatestWrite (r .writes .begun) (r .writes .known .m) t number)
       (open-ends : (q : register-specs.Plan.Read) → states-specs.State.Open (planOf w s) t q → getD ends (q .reader - 1) 0 ≡ register-specs.Plan.readEnd (planOf w s) q) where
     live : (q : register-specs.Plan.Read) → register-specs.Lists.In q (planOf w s .reads) → q .begun < t → t ≤ register-specs.Plan.readEnd (planOf w s) q
-        → calendar-specs.Bits.bit (q .reader) (arrivals .live) ≡ not (eqb (register-specs.Plan.readEnd (planOf w s) q + 1) (t + 2 * headerOf w s .delta))
+        → limits-specs.Bits.bit (q .reader) (arrivals .live) ≡ not (eqb (register-specs.Plan.readEnd (planOf w s) q + 1) (t + 2 * headerOf w s .delta))
     unfolding script-specs.Inputs.liveAt
     live q iq begun lasts =
         let (lo, hi) = script-knows .readers q iq in
         ap (λ (f : ℕ → Bool). f (q .reader)) (comes .live)
         ∙ rw (lt-ltb (q .reader) cluster-specs.Inputs.requesters (omega arith), lt-ltb 0 (q .reader) (omega arith), open-ends q (record { listed = iq; begun = begun; lasts = lasts }))
 
-    pub script-fits : cluster-specs.Inputs.Fits (planOf w s) (cluster-specs.Inputs.pairAt w (r .writes .known)) t s (r .rules) (r .writes .known .m) (r .links) arrivals movement
+    pub script-fits : cluster-specs.Inputs.Fits (planOf w s) (tables-specs.Known.pairAt w (r .writes .known)) t s (r .rules) (r .writes .known .m) (r .links) arrivals movement
     unfolding planOf register-specs.Plan.isMove cluster-specs.Inputs.wroteAt cluster-specs.Inputs.asksAt
     script-fits = record {
       n = R .rules .n;
@@ -70,15 +73,15 @@ module _ (s before after : List ℕ) (r : script-specs.declared.Script.Script) (
       two = R .rules .two;
       echo = R .rules .echo;
       reply = R .rules .reply;
-      delays = λ i b li lb d. script-laws.Placing.server-delay w s A (r .links) (R .links) t i b below li (omega arith) (λ z. d (sym z)) (λ z. omega arith);
+      delays = λ i b li lb d. tables-laws.Placing.server-delay w s A (r .links) (R .links) t i b below li (omega arith) (λ z. d (sym z)) (λ z. omega arith);
       replies = λ i q li iq.
           let Q = plan-laws.AcceptReads.read-stands w s A q iq in (
             omega (arith, R .links .parties, Q .reader-hi),
-            script-laws.Placing.server-delay w s A (r .links) (R .links) t i (headerOf w s .n + q .reader) below li (omega (arith, Q .reader-hi)) (λ z. omega arith)
+            tables-laws.Placing.server-delay w s A (r .links) (R .links) t i (headerOf w s .n + q .reader) below li (omega (arith, Q .reader-hi)) (λ z. omega arith)
                 (λ z. omega (arith, Q .reader-lo)),
           );
       moving = moves .moving;
-      faulty = λ e b l. rw (moves .faulty (moves .moving ∙ e)) (script-laws.Placing.placed-bit w s A t b below l);
+      faulty = λ e b l. rw (moves .faulty (moves .moving ∙ e)) (tables-laws.Placing.placed-bit w s A t b below l);
       wrote = λ b j lb lj.
           script-laws.Knowing.wrote-last w s A (r .writes .known) (r .writes .begun) (R .writes) t b number latest j lj
           ∙ rw (comes .requests .each 0 (omega arith), comes .last, requested .writes t b (omega arith) (omega arith) lb);
@@ -110,8 +113,8 @@ module _ (s before after : List ℕ) (r : script-specs.declared.Script.Script) (
         pairs = R .writes .few;
         echo = omega (arith, R .rules .echo);
         reply = omega (arith, R .rules .reply);
-        linked = rw (R .rules .n) (script-laws.Placing.table w s A (r .links) (R .links) (R .narrow) (suc t) below);
+        linked = rw (R .rules .n) (tables-laws.Placing.table w s A (r .links) (R .links) (R .narrow) (suc t) below);
         delays = λ i q li lq d e.
-            rw (script-laws.Placing.server-delay w s A (r .links) (R .links) t i q below (rw (R .rules .n) at li) (rw (R .links .parties) at lq) d (rw (R .rules .n) at e))
+            rw (tables-laws.Placing.server-delay w s A (r .links) (R .links) t i q below (rw (R .rules .n) at li) (rw (R .links .parties) at lq) d (rw (R .rules .n) at e))
             (plan-laws.AcceptGood.delay-range w s A t i q .0);
       }

@@ -1,82 +1,36 @@
--- The forged part of a plan that can be played can be read into the entries, and what is then written there are the plan's forged messages.
--- It stands on Placing and Messages.
-use mathlib.Core.Path.{_≡_, ap, sym, subst, _∙_}
+-- What is written into the entries for the forged part of a plan that can be played are the plan's forged messages.
+-- It stands on the laws of that part.
+use mathlib.Core.Path.{_≡_, ap}
 use mathlib.Core.List.{List}
-use Prim.Native.Nat.{ℕ, _+_, _*_, _-_, _/_, _%_, _≤_, _<_}
-use native.Mathlib.Nat.{add-assoc}
-use native.Mathlib.Omega.{arith}
-use lib.ListN.{length, take, drop, length-drop}
-use Rattle.bits.proofs.Laws.{field-part}
-use Rattle.register.specs.Plan.{Forgery}
-use Rattle.register.proofs.Lists.{part-from}
+use Prim.Native.Nat.{ℕ, _%_, _≤_, _<_}
+use lib.ListN.{length}
 use Rattle.plan.specs as plan-specs
-use Rattle.plan.specs.Header.{Header, headerOf, operationAt}
-use Rattle.plan.proofs.Accept.{in-range}
-use Rattle.serving.specs as serving-specs
-use Rattle.calendar.specs.Layout.{places}
-use Rattle.script.specs.Forged.{entriesEnd, forgedAt, delayOf, knownNumber, Legible, Fillable, Filled, Starts}
-use Rattle.script.specs.Script.{LinksOf, messageOf, messageDelay, Entered}
-use Rattle.script.proofs as script-laws
-use Rattle.script.proofs.Messages.{sent-below, sender-below, on-link, message-reach}
-
-pub shape-ranged : (w : ℕ) (s : List ℕ) → plan-specs.Playable.Playable w s → (x : plan-specs.declared.header.Shape.Shape) → plan-specs.Shape.shape x ≡ headerOf w s
-    → plan-specs.Shape.Ranged (plan-specs.Shape.shape x)
-shape-ranged w s c x e = rw e (in-range w s c)
+use Rattle.plan.specs.Header.{headerOf, operationAt}
+use Rattle.tables.specs.declared.Links.{Links}
+use Rattle.limits.specs.Limits.{places}
+use Rattle.script.specs.Forged.{entriesEnd, knownNumber, Fillable, Filled, Starts}
+use Rattle.tables.specs.Forged.{forgedAt, delayOf}
+use Rattle.tables.specs.Rules.{LinksOf}
+use Rattle.script.specs.Script.{Entered}
+use Rattle.tables.proofs.Forging.{part, counted, message, legible, delay-same}
 
 module _ (w : ℕ) (s : List ℕ) (A : plan-specs.Playable.Playable w s) (x : plan-specs.declared.header.Shape.Shape) (same : plan-specs.Shape.shape x ≡ headerOf w s) (at : ℕ)
-    (starts-at : at ≡ operationAt w (plan-specs.Shape.shape x) (x .operations)) where
-  abbrev part : List ℕ
-  part = take (length s - at / 8) (drop (at / 8) s)
+    (starts-at : at ≡ operationAt w (plan-specs.Shape.shape x) (x .operations)) (links : Links) (linked : LinksOf w (plan-specs.Shape.shape x) links) where
+  abbrev bytes : List ℕ
+  bytes = part w s A x same at starts-at
 
-  first-bit : at ≡ operationAt w (headerOf w s) (headerOf w s .operations)
-  first-bit = starts-at ∙ ap (λ (h : Header). operationAt w h (h .operations)) same
+  messages : x .forgeries ≡ headerOf w s .forgeries
+  messages = counted w s A x same at starts-at
 
-  pub counted : x .forgeries ≡ headerOf w s .forgeries
-  counted = ap (λ (h : Header). h .forgeries) same
+  pub fillable : w ≤ plan-specs.Form.mostWidth → (work : List ℕ) (m : ℕ) → entriesEnd ≤ length work → m ≤ places → Fillable w work bytes (at % 8) (x .forgeries) s links (x .n) m
+  fillable narrow work m room pairs = record { messages = legible w s A x same at starts-at links linked narrow; room = room; pairs = pairs }
 
-  pub part-starts : at / 8 ≤ length s
-  part-starts = omega (arith, first-bit, script-laws.Placing.bits-inside w s A)
-
-  part-whole : part ≡ drop (at / 8) s
-  part-whole = part-from (at / 8) s
-
-  -- the part has the messages, from the byte that holds its first bit on, at an offset under eight
-  pub message : (e : ℕ) → forgedAt w part (at % 8) e ≡ messageOf w s e
-  unfolding plan-specs.Parts.forgeryOf
-  message e =
-      let z : 8 * (at / 8) + at % 8 ≡ at = omega arith in
-      let bits : forgedAt w (drop (at / 8) s) (at % 8) e ≡ forgedAt w s at e = simp (field-part, ← add-assoc, z) in
-      rw (part-whole, bits, first-bit)
-
-  module _ (links : serving-specs.declared.Links.Links) (linked : LinksOf w (plan-specs.Shape.shape x) links) where
-    L : LinksOf w (headerOf w s) links
-    L = rw same at linked
-
-    pub legible : w ≤ plan-specs.Form.mostWidth → Legible w part (at % 8) (x .forgeries) s links (x .n)
-    legible narrow = record {
-      narrow = narrow;
-      start = omega arith;
-      few = omega (arith, counted, in-range w s A .forgeries-hi);
-      inside = rw (part-whole, length-drop, counted) (omega (arith, first-bit, counted, script-laws.Placing.bits-inside w s A, part-starts));
-      reach = λ e l. rw (ap (λ (h : Header). h .n) same)
-          (subst (λ (g : Forgery). serving-specs.Links.Reach s links (headerOf w s .n) (g .at) (g .from) (g .to)) (sym (message e)) (message-reach w s A e (omega (arith, counted)) narrow links L));
-    }
-
-    pub fillable : w ≤ plan-specs.Form.mostWidth → (work : List ℕ) (m : ℕ) → entriesEnd ≤ length work → m ≤ places → Fillable w work part (at % 8) (x .forgeries) s links (x .n) m
-    fillable narrow work m room pairs = record { messages = legible narrow; room = room; pairs = pairs }
-
-    pub delay-same : (e : ℕ) → e < headerOf w s .forgeries → delayOf s links (forgedAt w part (at % 8) e) ≡ messageDelay w s e
-    delay-same e h =
-        ap (delayOf s links) (message e)
-        ∙ script-laws.Placing.link-delay w s A links L (messageOf w s e .at) (messageOf w s e .from) (messageOf w s e .to)
-        (sent-below w s A e h) (omega (arith, sender-below w s A e h)) (on-link w s A e h .0) (on-link w s A e h .1)
-
-    pub forged : (before after values : List ℕ) (m : ℕ) (starts : List ℕ)
-        → Filled before after (x .forgeries) (forgedAt w part (at % 8)) (λ e. delayOf s links (forgedAt w part (at % 8) e)) (λ e. knownNumber w values m (forgedAt w part (at % 8) e))
-        → Starts after (x .forgeries) starts → Entered w s before after values m starts
-    forged before after values m starts W S =
-        let X = rw counted at W in
-        record {
-          filled = record { size = X .size; entry = λ e l. rw (ap (knownNumber w values m) (message e), delay-same e l, message e) at (X .entry e l); other = X .other };
-          started = rw counted at S;
-        }
+  pub forged : (before after values : List ℕ) (m : ℕ) (starts : List ℕ)
+      → Filled before after (x .forgeries) (forgedAt w bytes (at % 8)) (λ e. delayOf s links (forgedAt w bytes (at % 8) e)) (λ e. knownNumber w values m (forgedAt w bytes (at % 8) e))
+      → Starts after (x .forgeries) starts → Entered w s before after values m starts
+  forged before after values m starts W S =
+      let X = rw messages at W in
+      record {
+        filled = record { size = X .size; entry = λ e l. rw (ap (knownNumber w values m) (message w s A x same at starts-at e), delay-same w s A x same at starts-at links linked e l, message w s A x same at starts-at e) at (X .entry e l); other = X .other };
+        started = rw messages at S;
+      }

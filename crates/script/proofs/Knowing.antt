@@ -15,17 +15,18 @@ use Rattle.register.proofs as register-laws
 use Rattle.plan.specs as plan-specs
 use Rattle.plan.specs.Packed.{planOf}
 use Rattle.plan.proofs as plan-laws
-use Rattle.cluster.specs.declared.Known.{Known}
+use Rattle.tables.specs.declared.Known.{Known}
 use Rattle.states.specs.Requests.{writeReaches, writeWay, writeBegins}
-use Rattle.cluster.specs.Inputs.{pairAt, Knows}
+use Rattle.tables.specs.Known.{pairAt, Knows}
 use Rattle.script.specs as script-specs
-use Rattle.script.proofs.Tables.{taken}
+use Rattle.tables.specs as tables-specs
+use Rattle.tables.proofs.Tables.{taken}
 
 module _ (w : ℕ) (s : List ℕ) (A : plan-specs.Playable.Playable w s) (known : Known) (begun : List ℕ)
-    (W : script-specs.Operations.Written w (planOf w s .writes) (plan-specs.Header.headerOf w s .initial) (known .values) begun (known .m)) where
+    (W : tables-specs.Operations.Written w (planOf w s .writes) (plan-specs.Header.headerOf w s .initial) (known .values) begun (known .m)) where
   -- write j of the tables is write j - 1 of the plan
   abbrev written : ℕ → Write
-  written j = getD (planOf w s .writes) (j - 1) script-specs.Operations.noWrite
+  written j = getD (planOf w s .writes) (j - 1) tables-specs.Operations.noWrite
 
   write-at : (j : ℕ) → 1 ≤ j → j < known .m → written j ≡ record { begun = getD begun j 0; pair = pairAt w known j }
   write-at j a l = let z : suc (j - 1) ≡ j = omega arith in rw z at (W .each (j - 1) (omega (arith, W .count)))
@@ -35,7 +36,7 @@ module _ (w : ℕ) (s : List ℕ) (A : plan-specs.Playable.Playable w s) (known 
 
   write-numbered : (x : Write) → register-specs.Lists.In x (planOf w s .writes) → (j : ℕ) × (1 ≤ j) × (j < known .m) × (x .pair ≡ pairAt w known j) × (x .begun ≡ getD begun j 0)
   write-numbered x h =
-      let (i, l, e) = plan-laws.Tests.in-getD (planOf w s .writes) x script-specs.Operations.noWrite h in
+      let (i, l, e) = plan-laws.Tests.in-getD (planOf w s .writes) x tables-specs.Operations.noWrite h in
       let q = e ∙ W .each i l in
       (suc i, omega arith, omega (arith, W .count), ap (λ (x : Write). x .pair) q, ap (λ (x : Write). x .begun) q)
 
@@ -45,7 +46,7 @@ module _ (w : ℕ) (s : List ℕ) (A : plan-specs.Playable.Playable w s) (known 
   -- each begins after the last one ended
   begun-apart : (i j : ℕ) → 1 ≤ i → i < j → j < known .m → getD begun i 0 + plan-specs.Header.headerOf w s .delta < getD begun j 0
   begun-apart i j a b c =
-      let apart = plan-laws.AcceptWrites.writes-apart w s A script-specs.Operations.noWrite (i - 1) (j - 1) (omega arith) (omega (arith, W .count)) in
+      let apart = plan-laws.AcceptWrites.writes-apart w s A tables-specs.Operations.noWrite (i - 1) (j - 1) (omega arith) (omega (arith, W .count)) in
       omega (arith, begun-at i a (omega arith), begun-at j (omega arith) c)
 
   begun-rises : (i j : ℕ) → 1 ≤ i → i ≤ j → j < known .m → getD begun i 0 ≤ getD begun j 0
@@ -108,7 +109,7 @@ module _ (w : ℕ) (s : List ℕ) (A : plan-specs.Playable.Playable w s) (known 
         let l : suc last < known .m = ltb→lt (suc last) (known .m) (and-l (ltb (suc last) (known .m)) _ c) in
         let e : written (suc last) .begun ≡ t = begun-at (suc last) (omega arith) l ∙ eqb→eq _ t (and-r (ltb (suc last) (known .m)) _ c) in
         register-laws.Lists.in-any hit (written (suc last)) (planOf w s .writes)
-        (plan-laws.Tests.getD-in (planOf w s .writes) (suc last - 1) script-specs.Operations.noWrite (omega (arith, W .count)))
+        (plan-laws.Tests.getD-in (planOf w s .writes) (suc last - 1) tables-specs.Operations.noWrite (omega (arith, W .count)))
         (and-i (eqb (written (suc last) .begun) t) _ (rw e (eqb-refl t)) (rw e (and-r begins _ y))))
 
   module _ (t b last : ℕ) (latest : script-specs.Inputs.LatestWrite begun (known .m) t last) where

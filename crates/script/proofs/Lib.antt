@@ -1,10 +1,5 @@
-pub mod Tables
-pub mod Storing
 pub mod Entries
-pub mod Placing
-pub mod Messages
 pub mod Forging
-pub mod Scripting
 pub mod Knowing
 pub mod Naming
 pub mod Windows

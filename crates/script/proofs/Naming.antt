@@ -15,11 +15,12 @@ use Rattle.register.proofs as register-laws
 use Rattle.plan.specs.Header.{headerOf}
 use Rattle.plan.specs.Packed.{planOf}
 use Rattle.register.proofs.Stamped.{value-stamped, number-stamped, stamped-back}
-use Rattle.cluster.specs as cluster-specs
+use Rattle.tables.specs as tables-specs
 use Rattle.states.specs.Way.{forgedAs}
 use Rattle.script.specs.Forged.{entryAt, numberIn, Entry}
-use Rattle.script.specs.Script.{messageOf, messageDelay, messageNumber}
-use Rattle.script.proofs.Tables.{tab-in, taken}
+use Rattle.tables.specs.Forged.{messageOf, messageDelay}
+use Rattle.script.specs.Script.{messageNumber}
+use Rattle.tables.proofs.Tables.{tab-in, taken}
 
 -- one of the messages of a table passes a test
 any-tab : (n : ℕ) (G : ℕ → Forgery) (F : Forgery → Bool) → any F (tab n G) ≡ anyUpTo n (λ e. F (G e))
@@ -49,7 +50,7 @@ module _ (w : ℕ) (values : List ℕ) (m : ℕ) (few : m ≤ 65) (small : (j : 
       rw (e, v, stamped-back w p) (eqb-refl p))
 
 -- the entries of a plan's forged messages
-module _ (w : ℕ) (s : List ℕ) (known : cluster-specs.declared.Known.Known) (few : known .m ≤ 65) (small : (j : ℕ) → getD (known .values) j 0 < 2 ^ w) (work : List ℕ)
+module _ (w : ℕ) (s : List ℕ) (known : tables-specs.declared.Known.Known) (few : known .m ≤ 65) (small : (j : ℕ) → getD (known .values) j 0 < 2 ^ w) (work : List ℕ)
     (E : (e : ℕ) → e < headerOf w s .forgeries → Entry work e (messageOf w s e) (messageDelay w s e) (messageNumber w s (known .values) (known .m) e)) where
   -- entry e was sent in tick t, goes to party q, arrives in tick u, names pair j and comes from server i
   abbrev pub entryAs : ℕ → ℕ → ℕ → ℕ → ℕ → ℕ → Bool
@@ -58,7 +59,7 @@ module _ (w : ℕ) (s : List ℕ) (known : cluster-specs.declared.Known.Known) (
 
   module _ (t u q j i : ℕ) (known-pair : j < known .m) where
     abbrev says : Forgery → Bool
-    says x = eqb (x .at) t && forgedAs (planOf w s) u q (cluster-specs.Inputs.pairAt w known j) i x
+    says x = eqb (x .at) t && forgedAs (planOf w s) u q (tables-specs.Known.pairAt w known j) i x
 
     says-entry : (e : ℕ) → e < headerOf w s .forgeries → says (messageOf w s e) ≡ entryAs t u q j i e
     says-entry e l =

@@ -9,8 +9,9 @@ use Rattle.plan.specs.Header.{headerOf}
 use Rattle.plan.specs.Playable.{Playable}
 use Rattle.plan.proofs.AcceptGood.{delay-range}
 use Rattle.script.specs.Forged.{entryAt, Entry, Starts}
-use Rattle.script.specs.Script.{messageOf, messageDelay, messageNumber}
-use Rattle.script.proofs.Messages.{messages-rise}
+use Rattle.tables.specs.Forged.{messageOf, messageDelay}
+use Rattle.script.specs.Script.{messageNumber}
+use Rattle.tables.proofs.Messages.{messages-rise}
 
 module _ (w : ℕ) (s : List ℕ) (A : Playable w s) (work values : List ℕ) (m : ℕ)
     (E : (e : ℕ) → e < headerOf w s .forgeries → Entry work e (messageOf w s e) (messageDelay w s e) (messageNumber w s values m e))

@@ -8,20 +8,14 @@ use Prim.Native.Nat.{ℕ, _+_, _*_, _≤_, _<_}
 use lib.Dec.{eqb, ltb}
 use lib.ListN.{length, getD, set}
 use Rattle.register.specs.Plan.{Forgery, valueOf, numberOf}
-use Rattle.plan.specs.Form.{mostWidth}
-use Rattle.plan.specs.Header.{forgeryBits}
-use Rattle.plan.specs.Parts.{forgeryIn}
-use Rattle.serving.specs.declared.Links.{Links}
-use Rattle.calendar.specs.Layout.{places}
+use Rattle.tables.specs.declared.Links.{Links}
+use Rattle.limits.specs.Limits.{places}
 use Rattle.requests.specs.Requests.{requestsEnd}
-use Rattle.serving.specs.Links.{delayAt, Reach}
+use Rattle.tables.specs.Forged.{mostEntries, Legible}
 
--- the byte at which they begin, how many there may be, and the byte behind them
+-- the byte at which they begin, and the byte behind them
 abbrev pub entriesAt : ℕ
 entriesAt = requestsEnd
-
-abbrev pub mostEntries : ℕ
-mostEntries = 1024
 
 abbrev pub entriesEnd : ℕ
 entriesEnd = entriesAt + 8 * mostEntries
@@ -30,18 +24,11 @@ entriesEnd = entriesAt + 8 * mostEntries
 abbrev pub entryAt : List ℕ → ℕ → ℕ → ℕ
 entryAt work e k = getD work (entriesAt + 8 * e + k) 0
 
--- forged message e of those from bit `at` on, with values of w bits
-abbrev pub forgedAt : ℕ → List ℕ → ℕ → ℕ → Forgery
-forgedAt w s at e = forgeryIn w s (at + forgeryBits w * e)
-
 -- the number, if it is that of a known pair with this value; else 255
 unfoldable pub numberIn : List ℕ → ℕ → ℕ → ℕ → ℕ
 numberIn values m value number = cond (ltb number m && eqb (getD values number 0) value) number 255
 
--- of a forged message: its delay, and the number of its pair
-abbrev pub delayOf : List ℕ → Links → Forgery → ℕ
-delayOf plan links g = delayAt plan links (g .at) (g .from) (g .to)
-
+-- of a forged message: the number of its pair
 abbrev pub knownNumber : ℕ → List ℕ → ℕ → Forgery → ℕ
 knownNumber w values m g = numberIn values m (valueOf w (g .pair)) (numberOf w (g .pair))
 
@@ -49,15 +36,7 @@ knownNumber w values m g = numberIn values m (valueOf w (g .pair)) (numberOf w (
 unfoldable pub entryBytes : List ℕ → ℕ → ℕ → ℕ → ℕ → ℕ → ℕ → List ℕ
 entryBytes work at a b c d e = set (set (set (set (set work at a) (at + 1) b) (at + 2) c) (at + 3) d) (at + 4) e
 
--- so many forged messages stand there, and their delays lie in the plan
-pub record Legible (w : ℕ) (part : List ℕ) (offset count : ℕ) (plan : List ℕ) (links : Links) (n : ℕ) : Type 0 where
-  pub narrow : w ≤ mostWidth
-  pub start : offset < 8
-  pub few : count ≤ mostEntries
-  pub inside : offset + forgeryBits w * count ≤ 8 * length part
-  pub reach : (e : ℕ) → e < count → let g : Forgery = forgedAt w part offset e in Reach plan links n (g .at) (g .from) (g .to)
-
--- and there is room for the entries
+-- so many forged messages can be read, and there is room for their entries
 pub record Fillable (w : ℕ) (work part : List ℕ) (offset count : ℕ) (plan : List ℕ) (links : Links) (n m : ℕ) : Type 0 where
   pub messages : Legible w part offset count plan links n
   pub room : entriesEnd ≤ length work

@@ -7,7 +7,7 @@ use lib.Dec.{eqb, ltb}
 use lib.ListN.{getD}
 use Rattle.bits.specs.Field.{fieldOf}
 use Rattle.plan.specs.Header.{placementBits, placementAt}
-use Rattle.calendar.specs.Bits.{bit}
+use Rattle.limits.specs.Bits.{bit}
 use Rattle.requests.specs.Requests.{reachedOf}
 use Rattle.cluster.specs.declared.Arrivals.{Arrivals}
 use Rattle.cluster.specs.declared.Movement.{Movement}

@@ -1,4 +1,3 @@
-pub mod Operations
 pub mod Inputs
 pub mod Forged
 pub mod Script

@@ -1,19 +1,16 @@
 // The forged messages of a plan, decoded once into the lent workspace, and where those of each tick start.
 ghost use mathlib.Core.Path.{_≡_};
-ghost use Prim.Native.Nat.{_+_, _*_, _^_, _≤_, _<_};
+ghost use Prim.Native.Nat.{_+_, _≤_, _<_};
 ghost use lib.ListN.{length};
-ghost use Rattle.plan.specs.Form.{mostWidth};
-ghost use Rattle.plan.specs.Header.{forgeryBits};
-ghost use Rattle.plan.specs.Parts.{forgeryIn};
-ghost use Rattle.plan.specs.Steps.{forgery};
-ghost use Rattle.script.specs.Forged.{numberIn, entryBytes, Fillable, Filled, forgedAt, delayOf, knownNumber, Start, Starts, entriesEnd, mostEntries};
-ghost use Rattle.calendar.specs.Layout.{places};
-ghost use Rattle.serving.specs.Links.{delayAt, Reach};
-use calendar::NO_PAIR;
-use calendar::PLACES;
+ghost use Rattle.script.specs.Forged.{numberIn, entryBytes, Fillable, Filled, knownNumber, Start, Starts, entriesEnd};
+ghost use Rattle.tables.specs.Forged.{forgedAt, delayOf, mostEntries};
+ghost use Rattle.limits.specs.Limits.{places};
+use limits::NO_PAIR;
+use limits::PLACES;
 use plan::forgeries::Forged;
-use serving::Links;
-use serving::delays;
+use tables::Links;
+use tables::forged::delay_of;
+use tables::forged::message_at;
 
 // The byte at which the forged entries begin, behind the requests.
 pub const ENTRIES: usize = requests::END;
@@ -23,29 +20,6 @@ pub const ENTRY: usize = 8;
 
 // How many ticks the starts are told for: one more than a plan may have.
 pub const STARTS: usize = 129;
-
-// The forged message that stands from bit `at` on.
-pub fn message_at(part: &[u8], at: usize, width: u8) -> Forged
-    requires { ⌜ (at + forgeryBits width ≤ 8 * length (now part)) × (at < 2 ^ 50) × (width ≤ mostWidth) ⌝ }
-    ensures { λ r. ⌜ (forgery width r ≡ forgeryIn width (now (part .entry)) at) × (r .at < 128) × (r .value < 2 ^ width) ⌝ }
-{
-    Forged::of(bits::field(part, at, Forged::bits(width)), width)
-}
-
-// How long it takes.
-pub fn delay_of(plan: &[u8], links: Links, n: usize, g: Forged) -> usize
-    requires { ⌜ Reach (now plan) links n (g .at) (g .from) (g .to) ⌝ }
-    ensures { λ r. ⌜ (r ≡ delayAt (now (plan .entry)) links (g .at) (g .from) (g .to)) × (r < 16) ⌝ }
-{
-    delays::delay(
-        plan,
-        links,
-        n,
-        g.at as usize,
-        g.from as usize,
-        g.to as usize,
-    )
-}
 
 // The number, if it is that of a known pair with this value; else NO_PAIR.
 fn known_number(values: &[u32; PLACES], m: usize, value: u32, number: u8) -> u8

@@ -3,10 +3,10 @@ ghost use mathlib.Core.Path.{_≡_};
 ghost use Prim.Native.Nat.{_+_, _*_, _/_, _≤_, _<_};
 ghost use lib.ListN.{length};
 ghost use Rattle.plan.specs.Header.{placementBits, placementAt};
-ghost use Rattle.calendar.specs.Bits.{bit};
+ghost use Rattle.limits.specs.Bits.{bit};
 ghost use Rattle.requests.specs.Requests.{requestsEnd};
 ghost use Rattle.script.specs.Inputs.{liveAt, Reached, Arrive, Moves};
-use calendar::READERS;
+use limits::READERS;
 use cluster::Arrivals;
 use cluster::Movement;
 use cluster::REQUESTERS;
@@ -34,7 +34,7 @@ fn live(ends: [u8; READERS], t: u8, delta: u8) -> u8
     let mut r: u8 = 0;
     let mut x: usize = 1;
     while x < REQUESTERS {
-        if calendar::size_of(ends[x - 1]) + 1 != fresh {
+        if limits::size_of(ends[x - 1]) + 1 != fresh {
             r = r | (1 << x);
         }
         x += 1;

@@ -5,20 +5,23 @@ ghost use lib.ListN.{length};
 ghost use Rattle.plan.specs.Form.{mostWidth};
 ghost use Rattle.plan.specs.Header.{headerOf};
 ghost use Rattle.plan.specs.Playable.{Playable};
-ghost use Rattle.plan.specs.Shape.{Ranged, shape};
-ghost use Rattle.calendar.specs.Layout.{places};
+ghost use Rattle.plan.specs.Shape.{shape};
+ghost use Rattle.limits.specs.Limits.{places};
 ghost use Rattle.script.specs.Forged.{entriesEnd};
-ghost use Rattle.script.specs.Script.{RulesOf, LinksOf, Entered, Scripted, widthIn};
+ghost use Rattle.tables.specs.Rules.{LinksOf};
+ghost use Rattle.script.specs.Script.{Entered, Scripted, widthIn};
 use forged::STARTS;
-use operations::Reads;
-use operations::Writes;
 use plan::header::Shape;
-use serving::Links;
-use serving::Rules;
+use tables::Links;
+use tables::Rules;
+use tables::links_of;
+use tables::operations;
+use tables::operations::Reads;
+use tables::operations::Writes;
+use tables::rules_of;
 
 pub mod forged;
 pub mod inputs;
-pub mod operations;
 
 // The parts of a plan that playing it needs. The forged entries stand in the workspace; `starts` says how many were sent before each tick.
 pub struct Script {
@@ -28,29 +31,6 @@ pub struct Script {
     pub writes: Writes,
     pub reads: Reads,
     pub starts: [u16; STARTS],
-}
-
-fn rules_of(header: Shape) -> Rules
-    ensures { λ r. ⌜ RulesOf (shape header) r ⌝ }
-{
-    Rules {
-        n: header.n as usize,
-        delta: header.delta,
-        two: header.k() == 2,
-        echo: header.echo_quorum(),
-        reply: header.reply_quorum(),
-    }
-}
-
-// Where the delays stand.
-pub fn links_of(header: Shape) -> Links
-    requires { ⌜ Ranged (shape header) × (header .width ≤ mostWidth) ⌝ }
-    ensures { λ r. ⌜ LinksOf (header .width) (shape header) r ⌝ }
-{
-    Links {
-        at: header.delays_at(),
-        parties: header.parties(),
-    }
 }
 
 // The forged entries, into the workspace, and where those of each tick start. The forged part is read from the byte that holds its first bit.

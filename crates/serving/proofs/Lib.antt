@@ -1,4 +1,3 @@
-pub mod BitLaws
 pub mod Settled
 pub mod StageLaws
 pub mod StoreLaws

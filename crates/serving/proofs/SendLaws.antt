@@ -1,10 +1,9 @@
--- What a server sends, posted: where its delays stand in the plan; its votes; its replies, reader by reader. And nothing that is sent arrives in the
+-- What a server sends, posted: its votes; its replies, reader by reader. And nothing that is sent arrives in the
 -- tick in which it is sent.
 use mathlib.Core.Path.{_≡_, refl, sym, _∙_}
 use mathlib.Core.Bool.{Bool, true, false, not, _&&_, _||_, and-false, and-assoc, and-or-distrib-left}
 use mathlib.Core.List.{List}
 use Prim.Native.Nat.{ℕ, _+_, _*_, _-_, _/_, _%_, _^_, _≤_, _<_}
-use native.Mathlib.Nat.{mul-le-mul}
 use native.Mathlib.Omega.{arith}
 use lib.Dec.{T, eqb, leb, ltb, eqb→eq, eqb-refl, leb→le, ltb→lt, T-not, not-T}
 use lib.ListN.{getD}
@@ -12,48 +11,23 @@ use borrow.Author.Tests.{lt-ltb, le-ltb, le-leb, lt-leb, eq-eqb, ne-eqb, eqb-tru
 use Rattle.bits.proofs.Laws.{field-lt}
 use Rattle.register.specs.Lists.{member}
 use Rattle.register.proofs.Logic.{and-l, and-r, F-eq}
-use Rattle.plan.specs.Header.{delayBits, DelaysIn}
 use Rattle.calendar.specs.declared.Stamped.{Stamped}
-use Rattle.calendar.specs.declared.Sending.{Sending}
-use Rattle.calendar.specs.{Bits.bit, Layout.receivers, Layout.rows, Layout.places, Layout.rowOf, View.Posted}
-use Rattle.calendar.specs.Posts.{Messages, inRow, among, dueIn, toOthers, Sent}
+use Rattle.tables.specs.declared.sending.Sending.{Sending}
+use Rattle.limits.specs.Bits.{bit}
+use Rattle.calendar.specs.Layout.{receivers, rows, rowOf}
+use Rattle.limits.specs.Limits.{places}
+use Rattle.calendar.specs.View.{Posted}
+use Rattle.calendar.specs.Posts.{Messages, inRow, among, dueIn, toOthers}
+use Rattle.tables.specs.Sending.{Sent}
 use Rattle.calendar.proofs as calendar-laws
 use Rattle.calendar.proofs.Posting.{posted-eq, posted-trans, posted-none}
-use Rattle.serving.specs.declared.Links.{Links}
 use Rattle.serving.specs.declared.Sender.{Sender}
-use Rattle.serving.specs.Links.{linkBit, delayAt, Linked}
+use Rattle.tables.specs.Links.{linkBit, delayAt}
+use Rattle.tables.proofs.LinkLaws.{link-at}
 use Rattle.serving.specs.Stored.{Said, keys}
 use Rattle.serving.specs.Sends.{reaches, sendsVote, sendsReply, sends, votesFor}
-use Rattle.serving.proofs.BitLaws.{bit-test}
+use Rattle.limits.proofs.Bits.{bit-test}
 use Rattle.serving.proofs.StoreLaws.{among-keys}
-
--- ---- where the delays stand
-
-pub row-small : (u p : ℕ) → u < 128 → p ≤ 24 → u * p ≤ 3048
-row-small u p h l = mul-le-mul {n₂ = 127} {m₂ = 24} (omega arith) l
-
-pub links-small : (u p i : ℕ) → u < 128 → p ≤ 24 → i < p → (u * p + i) * p ≤ 73704
-links-small u p i h l k = mul-le-mul {n₂ = 3071} {m₂ = 24} (omega (arith, row-small u p h l)) l
-
-pub link-at : (links : Links) (u i b : ℕ) → linkBit links u i 0 + delayBits * b ≡ linkBit links u i b
-unfolding linkBit
-link-at links u i b = omega arith
-
-module _ (plan : List ℕ) (links : Links) (n u : ℕ) (L : Linked plan links n (u + 1)) where
-  pub parties-few : links .parties ≤ 24
-  parties-few = omega (arith, L .servers, L .readers)
-
-  pub link-small : (i : ℕ) → i < links .parties → linkBit links u i 0 < 2 ^ 33
-  unfolding linkBit
-  link-small i h = omega (arith, L .start, links-small u (links .parties) i (omega (arith, L .ticks)) parties-few h)
-
-  -- all delays of party i in tick u lie in the plan
-  pub link-inside : (i : ℕ) → i < links .parties → DelaysIn plan (linkBit links u i 0) (links .parties)
-  unfolding linkBit
-  link-inside i h =
-      let p = links .parties in
-      let m : (u * p + (i + 1)) * p ≤ (u * p + p) * p = mul-le-mul {n₂ = u * p + p} {m₂ = p} (omega arith) (omega arith) in
-      omega (arith, m, L .inside)
 
 -- ---- its votes
 

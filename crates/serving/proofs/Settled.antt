@@ -13,8 +13,10 @@ use Rattle.register.specs.Server.{faulty, isFaulty, curedAt, insert}
 use Rattle.register.proofs as register-laws
 use Rattle.register.proofs.Logic.{test, T-eq, F-eq, cond-e}
 use Rattle.plan.specs.Packed.{storeDepth}
-use Rattle.calendar.specs.{Layout.rows, Layout.places, Layout.lowOf, Layout.highOf, Layout.sender, View.Spanned}
-use Rattle.serving.specs.declared.Rules.{Rules}
+use Rattle.calendar.specs.Layout.{rows, lowOf, highOf, sender}
+use Rattle.limits.specs.Limits.{places}
+use Rattle.calendar.specs.View.{Spanned}
+use Rattle.tables.specs.declared.Rules.{Rules}
 use Rattle.serving.specs.Stored.{Plain, Both}
 use Rattle.serving.specs.Stages.{noVotes, blankAs, resetAt, turned, within, joined, taken, voting, withWrite, delivered, deliveredOf, stageOne, stageTwo, movedOn, stageFour, stagesOf}
 use Rattle.serving.specs.Settled.{Settled}

@@ -14,14 +14,14 @@ use Rattle.register.specs.Lists.{sameList, one-if}
 use Rattle.register.specs.Server.{Status, faulty, cured, correct, isFaulty, isCorrect, curedAt, insert}
 use Rattle.register.proofs as register-laws
 use Rattle.plan.specs.Packed.{storeDepth}
-use Rattle.calendar.specs.Bits.{bit}
-use Rattle.calendar.proofs.Laws.{bit-zero, bit-or, under}
+use Rattle.limits.specs.Bits.{bit}
+use Rattle.limits.proofs.Bits.{bit-zero, bit-or, bit-and, ones-count}
+use Rattle.calendar.proofs.Laws.{under}
 use Rattle.serving.specs.declared.Status.{Status as StoredStatus}
 use Rattle.serving.specs.declared.Status.the-variants.{Faulty, Cured, Correct}
 use Rattle.serving.specs.declared.Server.{Server}
 use Rattle.serving.specs.Stored.{Plain, Said, Both, statusOf, keys, Becomes}
 use Rattle.serving.specs.Stages.{nobody, noVotes, blankAs, silent, restated, written, resetAt, cureEnded, within, quorate, taken, voting, withWrite, repliesTo, joined, delivered, deliveredOf, stageOne, stageTwo, movedOn, stageFour}
-use Rattle.serving.proofs.BitLaws.{bit-and, ones-count}
 
 pub zero-set : (λ x. bit x 0) ≡ nobody
 zero-set = fun-ext bit-zero

@@ -15,7 +15,7 @@ use Rattle.register.specs.Server.{insert}
 use Rattle.register.proofs.Logic.{eqb-comm}
 use Rattle.register.proofs.Lists.{in-append, in-take}
 use Rattle.calendar.specs.declared.Stamped.{Stamped}
-use Rattle.calendar.specs.Layout.{noPair}
+use Rattle.limits.specs.Limits.{noPair}
 use Rattle.calendar.specs.Posts.{vacant, amongFirst, among}
 use Rattle.serving.specs.Stored.{keys, placeOf, putAt, Faithful, Valued}
 

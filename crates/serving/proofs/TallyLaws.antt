@@ -15,10 +15,12 @@ use lib.Bits.{bitOr}
 use borrow.Author.Tests.{lt-ltb, ltb-true}
 use Rattle.register.specs.Server.{Status}
 use Rattle.register.proofs.Logic.{test, T-eq, F-eq}
-use Rattle.calendar.specs.Bits.{bit}
-use Rattle.calendar.specs.Layout.{places, rows, lowOf, highOf, sender}
+use Rattle.limits.specs.Bits.{bit}
+use Rattle.limits.specs.Limits.{places}
+use Rattle.calendar.specs.Layout.{rows, lowOf, highOf, sender}
 use Rattle.calendar.specs.View.{Spanned, Zeroed}
-use Rattle.calendar.proofs.Laws.{under, never, bit-or, bit-zero}
+use Rattle.calendar.proofs.Laws.{under, never}
+use Rattle.limits.proofs.Bits.{bit-or, bit-zero}
 use Rattle.serving.specs.declared.Server.{Server}
 use Rattle.serving.specs.Tallies.{recentAt, namedAt, tableSize, ofServer, holds, rowOfSets, Outside, Emptied, Aged, SameOthers}
 use Rattle.serving.specs.Stored.{Plain, server}

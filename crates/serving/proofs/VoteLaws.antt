@@ -15,8 +15,9 @@ use Rattle.register.specs.Lists.{sameList}
 use Rattle.register.specs.Server.{Status, isCorrect}
 use Rattle.register.proofs.Logic.{cond-ap}
 use Rattle.calendar.specs.declared.Stamped.{Stamped}
-use Rattle.calendar.specs.Bits.{bit}
-use Rattle.calendar.specs.Layout.{places, lowOf, highOf, sender, sendersOf}
+use Rattle.limits.specs.Bits.{bit}
+use Rattle.limits.specs.Limits.{places}
+use Rattle.calendar.specs.Layout.{lowOf, highOf, sender, sendersOf}
 use Rattle.serving.specs.declared.Server.{Server}
 use Rattle.serving.specs.declared.Turn.{Turn}
 use Rattle.serving.specs.Tallies.{recentAt, tableSize, ofServer, SameOthers}

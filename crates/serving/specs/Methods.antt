@@ -8,10 +8,11 @@ use lib.Bits.{bitOr}
 use Rattle.register.specs.Server.{faulty, isFaulty, insert}
 use Rattle.plan.specs.Packed.{storeDepth}
 use Rattle.calendar.specs.declared.Stamped.{Stamped}
-use Rattle.calendar.specs.Bits.{bit}
-use Rattle.calendar.specs.Layout.{mostServers, places, rows, calendarSize, lowOf, highOf, sender}
+use Rattle.limits.specs.Bits.{bit}
+use Rattle.limits.specs.Limits.{mostServers, places}
+use Rattle.calendar.specs.Layout.{rows, calendarSize, lowOf, highOf, sender}
 use Rattle.calendar.specs.View.{Spanned}
-use Rattle.serving.specs.declared.Rules.{Rules}
+use Rattle.tables.specs.declared.Rules.{Rules}
 use Rattle.serving.specs.declared.Server.{Server}
 use Rattle.serving.specs.declared.Turn.{Turn}
 use Rattle.serving.specs.declared.stages.Delivered.{Delivered}

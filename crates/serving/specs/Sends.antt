@@ -5,9 +5,10 @@ use Prim.Native.Nat.{ℕ, _+_, _-_, _/_, _%_, _<_}
 use lib.Dec.{eqb, leb, ltb}
 use lib.ListN.{getD}
 use Rattle.register.specs.Lists.{member}
-use Rattle.calendar.specs.Layout.{mostServers, slots, readersAt, receivers}
+use Rattle.limits.specs.Limits.{mostServers}
+use Rattle.calendar.specs.Layout.{slots, readersAt, receivers}
 use Rattle.serving.specs.declared.Sender.{Sender}
-use Rattle.serving.specs.Links.{delayAt, Linked}
+use Rattle.tables.specs.Links.{delayAt, Linked}
 use Rattle.serving.specs.Stored.{Said}
 
 -- its delays lie in the plan

@@ -7,8 +7,8 @@ use lib.ListN.{take}
 use Rattle.register.specs.Lists.{count, sameList}
 use Rattle.register.specs.Server.{Status, faulty, cured, correct, isFaulty, isCorrect, curedAt, insert}
 use Rattle.plan.specs.Packed.{storeDepth}
-use Rattle.calendar.specs.Layout.{mostServers, noPair}
-use Rattle.serving.specs.declared.Rules.{Rules}
+use Rattle.limits.specs.Limits.{mostServers, noPair}
+use Rattle.tables.specs.declared.Rules.{Rules}
 use Rattle.serving.specs.Stored.{Plain, Said, Both}
 
 abbrev pub nobody : ℕ → Bool

@@ -9,8 +9,8 @@ use Rattle.register.specs.Lists.{In}
 use Rattle.register.specs.Plan.{stamped}
 use Rattle.register.specs.Server.{Status, faulty, cured, correct}
 use Rattle.calendar.specs.declared.Stamped.{Stamped}
-use Rattle.calendar.specs.Bits.{bit}
-use Rattle.calendar.specs.Layout.{noPair}
+use Rattle.limits.specs.Bits.{bit}
+use Rattle.limits.specs.Limits.{noPair}
 use Rattle.serving.specs.declared.Status.{Status as StoredStatus}
 use Rattle.serving.specs.declared.Status.the-variants.{Faulty, Cured, Correct}
 use Rattle.serving.specs.declared.Server.{Server}

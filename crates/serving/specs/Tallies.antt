@@ -10,8 +10,8 @@ use mathlib.Core.List.{List}
 use Prim.Native.Nat.{ℕ, _+_, _*_, _≤_, _<_}
 use lib.Dec.{ltb}
 use lib.ListN.{length, getD}
-use Rattle.calendar.specs.Bits.{bit}
-use Rattle.calendar.specs.Layout.{mostServers, mostReaders, places}
+use Rattle.limits.specs.Bits.{bit}
+use Rattle.limits.specs.Limits.{mostServers, mostReaders, places}
 
 -- from a cell of the present period to that of the last k periods
 abbrev pub recentAt : ℕ

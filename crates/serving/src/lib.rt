@@ -1,14 +1,15 @@
 // A server as the engine keeps it, its stages, and what it sends. Pairs are known by number: pair 0 is the initial one, pair j the j-th write.
-pub mod delays;
 pub mod sending;
 pub mod servers;
 pub mod stages;
 pub mod store;
 pub mod tallies;
 
-use calendar::DEPTH;
-use calendar::READERS;
+use limits::DEPTH;
+use limits::READERS;
 use calendar::Stamped;
+use tables::Links;
+use tables::Rules;
 
 // One more than the last reader's number: they count from 1.
 pub const PAST_READERS: usize = 1 + READERS;
@@ -25,21 +26,6 @@ pub struct Server {
     pub status: Status,
     pub kept: [Stamped; DEPTH],
     pub pending: u8,
-}
-
-// The number of servers, δ, is k 2, the echo and the reply quorum.
-pub struct Rules {
-    pub n: usize,
-    pub delta: u8,
-    pub two: bool,
-    pub echo: u32,
-    pub reply: u32,
-}
-
-// Where the delays stand in the plan's bits, for so many parties.
-pub struct Links {
-    pub at: usize,
-    pub parties: usize,
 }
 
 // What reaches server `server` in a tick: the votes in a row of the calendar; the number of a WRITE, or NO_PAIR; the readers whose READ arrives. `live`

@@ -5,19 +5,22 @@ ghost use Prim.Native.Nat.{_≤_};
 ghost use lib.Dec.{eqb};
 ghost use lib.ListN.{length};
 ghost use Rattle.register.specs.Lists.{member};
-ghost use Rattle.calendar.specs.{Bits.bit, Layout.calendarSize, View.Posted, Posts.Sent};
-ghost use Rattle.serving.specs.Links.{linkBit};
+ghost use Rattle.limits.specs.Bits.{bit};
+ghost use Rattle.calendar.specs.Layout.{calendarSize};
+ghost use Rattle.calendar.specs.View.{Posted};
+ghost use Rattle.tables.specs.Sending.{Sent};
+ghost use Rattle.tables.specs.Links.{linkBit};
 ghost use Rattle.serving.specs.Stored.{keys};
 ghost use Rattle.serving.specs.Sends.{Ready, sendsVote, sendsReply};
 use super::PAST_READERS;
 use super::Sender;
-use super::delays;
-use calendar::DEPTH;
-use calendar::PLACES;
-use calendar::READERS;
+use limits::DEPTH;
+use limits::PLACES;
+use limits::READERS;
 use calendar::READERS_AT;
-use calendar::Sending;
+use tables::sending::Sending;
 use calendar::Stamped;
+use tables::delays;
 
 // Where and when what it sends reaches the servers.
 fn to_servers(plan: &[u8], from: Sender) -> Sending

@@ -4,20 +4,21 @@ ghost use mathlib.Core.List.{List};
 ghost use Prim.Native.Nat.{ℕ, _<_};
 ghost use lib.ListN.{length};
 ghost use Rattle.register.specs.Server.{isFaulty, isCorrect, curedAt};
-ghost use Rattle.calendar.specs.{Bits.bit, Layout.mostServers, Layout.noPair};
+ghost use Rattle.limits.specs.Bits.{bit};
+ghost use Rattle.limits.specs.Limits.{mostServers, noPair};
 ghost use Rattle.serving.specs.Tallies.{recentAt, tableSize};
 ghost use Rattle.serving.specs.Stored.{statusOf, Becomes, Faithful, Valued};
 ghost use Rattle.serving.specs.Stages.{quorate, written, cureEnded};
 ghost use Rattle.serving.specs.Methods.{Reachable, Heard, Voted, Reset};
-use super::Rules;
 use super::Server;
 use super::Status;
 use super::Turn;
 use super::store;
 use super::tallies;
 use super::tallies::RECENT;
-use calendar::PLACES;
+use limits::PLACES;
 use calendar::Stamped;
+use tables::Rules;
 
 pub fn is_faulty(s: Status) -> bool
     ensures { λ r. ⌜ r ≡ isFaulty (statusOf s) ⌝ }

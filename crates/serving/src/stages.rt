@@ -5,7 +5,7 @@ ghost use mathlib.Core.List.{List};
 ghost use Prim.Native.Nat.{ℕ, _≤_, _<_};
 ghost use lib.ListN.{length};
 ghost use Rattle.register.specs.Server.{isFaulty};
-ghost use Rattle.calendar.specs.Layout.{mostServers, places};
+ghost use Rattle.limits.specs.Limits.{mostServers, places};
 ghost use Rattle.serving.specs.Tallies.{tableSize};
 ghost use Rattle.serving.specs.Stored.{statusOf, server, Becomes, Valued};
 ghost use Rattle.serving.specs.Stages.{withWrite};
@@ -16,7 +16,7 @@ use super::Status;
 use super::Turn;
 use super::servers;
 use super::store;
-use calendar::PLACES;
+use limits::PLACES;
 use calendar::Stamped;
 
 // A server after stage 1, and the readers to which it sends its pairs then.

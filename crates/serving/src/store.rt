@@ -6,10 +6,10 @@ ghost use lib.ListN.{take};
 ghost use Rattle.register.specs.Lists.{sameList};
 ghost use Rattle.register.specs.Server.{insert};
 ghost use Rattle.plan.specs.Packed.{storeDepth};
-ghost use Rattle.calendar.specs.Layout.{noPair};
+ghost use Rattle.limits.specs.Limits.{noPair};
 ghost use Rattle.serving.specs.Stored.{keys, placeOf, putAt, Faithful, Valued};
-use calendar::DEPTH;
-use calendar::NO_PAIR;
+use limits::DEPTH;
+use limits::NO_PAIR;
 use calendar::Stamped;
 
 // The lower of two numbers.

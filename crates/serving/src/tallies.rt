@@ -4,12 +4,13 @@ ghost use mathlib.Core.Path.{_≡_};
 ghost use Prim.Native.Nat.{_+_, _*_, _≤_, _<_};
 ghost use lib.ListN.{length, getD, set};
 ghost use lib.Bits.{bitOr};
-ghost use Rattle.calendar.specs.Layout.{mostServers, mostReaders, places, rows, calendarSize, sender};
+ghost use Rattle.limits.specs.Limits.{mostServers, mostReaders, places};
+ghost use Rattle.calendar.specs.Layout.{rows, calendarSize, sender};
 ghost use Rattle.calendar.specs.View.{Spanned};
 ghost use Rattle.serving.specs.Tallies.{recentAt, namedAt, tableSize, ofServer, ofReader, Joined, Emptied, Aged};
-use calendar::PLACES;
-use calendar::READERS;
-use calendar::SERVERS;
+use limits::PLACES;
+use limits::READERS;
+use limits::SERVERS;
 
 // From the present period's cell of a server and a pair to that of its last k periods.
 pub const RECENT: usize = SERVERS * PLACES;

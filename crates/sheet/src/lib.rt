@@ -9,7 +9,7 @@ ghost use Rattle.regular.specs.Tables.{Tables};
 ghost use Rattle.fitting.specs.Answered.{Answered};
 ghost use Rattle.page.specs.Page.{readLine, readLines, pageOf};
 ghost use Rattle.sheet.specs.Sheet.{sheetAfter, sheetIn};
-use calendar::PLACES;
+use limits::PLACES;
 use fitting::times;
 use page::COLUMNS;
 use page::Row;

@@ -15,7 +15,7 @@ use Rattle.simulator.specs.declared.look.Place.{Place}
 use Rattle.simulator.specs.Look.{Stamped, placeWith, emptyPlace, placesOf}
 use Rattle.simulator.specs.Numbered.{storedIn, shownIn}
 use Rattle.calendar.specs.declared.Stamped.{Stamped as Kept}
-use Rattle.calendar.specs.Layout.{noPair}
+use Rattle.limits.specs.Limits.{noPair}
 use Rattle.calendar.specs.Posts.{vacant}
 
 abbrev pub pairOf : Place → Stamped

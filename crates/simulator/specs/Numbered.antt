@@ -8,7 +8,7 @@ use Rattle.plan.specs.Check.{Outcome, refused, result}
 use Rattle.plan.specs.Numbered.{refusalNumber}
 use lib.Dec.{eqb}
 use Rattle.calendar.specs.declared.Stamped.{Stamped as Kept}
-use Rattle.calendar.specs.Layout.{noPair}
+use Rattle.limits.specs.Limits.{noPair}
 use Rattle.simulator.specs.declared.look.{Place.Place, Seen.Seen, Looked.Looked}
 use Rattle.simulator.specs.declared.play.Played.{Played}
 use Rattle.simulator.specs.declared.play.Played.the-variants as P

@@ -10,11 +10,13 @@ use borrow.Author.Tests.{lt-ltb, le-ltb, le-leb, lt-leb, eq-eqb, ne-eqb}
 use Rattle.register.specs as register-specs
 use Rattle.register.specs.{Lists.any, Lists.In, Lists.member, Plan.Plan, Plan.Read, Plan.Forgery, Plan.readEnd}
 use Rattle.register.proofs.{Good.Good, Rising.member-map}
-use Rattle.calendar.specs.Layout.{rows, places, rowOf, sender}
+use Rattle.calendar.specs.Layout.{rows, rowOf, sender}
+use Rattle.limits.specs.Limits.{places}
 use Rattle.calendar.proofs.Spans.{row-receiver, row-slot}
 use Rattle.serving.specs as serving-specs
 use Rattle.serving.specs.{Tallies.namedAt, Tallies.ofReader, Tallies.holds, Stored.Said}
 use Rattle.cluster.specs as cluster-specs
+use Rattle.tables.specs as tables-specs
 use Rattle.cluster.specs.Tick.{Fed, Ticked, serverAt, allOf, sentBy}
 use Rattle.states.specs.{Way.forgedAs, Way.replyWay, Way.heardWay, State.Open, State.Idle, State.Hears, State.State}
 use Rattle.states.proofs.{NotedLaws.heard-end, RowLaws.open-or-idle, WayLaws.below, WayLaws.slot-is, VoteLaws.ended, VoteLaws.row-now}
@@ -44,7 +46,7 @@ module _ (P : Plan) (m t : ℕ) where
 -- ---- one tick
 
 module _ (P : Plan) (G : Good P) (F : Fed) {g : ℕ → ℕ} (fit : cluster-specs.Inputs.Fits P g (F .t) (F .plan) (F .rules) (F .m) (F .links) (F .arrivals) (F .movement))
-    (K : cluster-specs.Inputs.Knows P g (F .m)) (c : cluster-specs.declared.Cluster.Cluster) (r : List serving-specs.declared.Server.Server) (sets then work : List ℕ)
+    (K : tables-specs.Known.Knows P g (F .m)) (c : cluster-specs.declared.Cluster.Cluster) (r : List serving-specs.declared.Server.Server) (sets then work : List ℕ)
     (D : Ticked F (c .ends) (c .servers) r sets then work (P .n)) (S : State P g (F .m) (F .t) c sets (F .work)) where
   abbrev t : ℕ
   t = F .t

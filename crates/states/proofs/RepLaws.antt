@@ -14,9 +14,10 @@ use Rattle.register.proofs as register-laws
 use Rattle.register.proofs.Lists.{in-append, in-left, in-right, in-filter, filter-in, any-in, in-any, any-append}
 use Rattle.serving.specs.Stored.{Plain, Both}
 use Rattle.serving.specs.Stages.{silent, joined, taken, voting, withWrite, repliesTo, delivered, deliveredOf, stageOne, stageTwo}
-use Rattle.cluster.specs.Inputs.{Knows}
+use Rattle.tables.specs.Known.{Knows}
 use Rattle.states.specs.State.{Votes, Recently, Rep}
-use Rattle.serving.proofs.{BitLaws.count-cut, StageLaws.write-kept}
+use Rattle.limits.proofs.Bits.{count-cut}
+use Rattle.serving.proofs.StageLaws.{write-kept}
 use Rattle.states.proofs as states-laws
 use Rattle.plan.specs.Packed.{storeDepth}
 

@@ -13,7 +13,7 @@ use Rattle.register.specs.Lists.{any}
 use Rattle.register.specs.Plan.{Plan, Read, readEnd}
 use Rattle.register.proofs.Logic.{and-l, and-r, and-i, test}
 use Rattle.register.proofs.Lists.{any-in, in-any}
-use Rattle.calendar.specs.Layout.{mostServers, places}
+use Rattle.limits.specs.Limits.{mostServers, places}
 use Rattle.serving.specs.declared.Server.{Server}
 use Rattle.serving.specs.Tallies.{recentAt, namedAt, ofServer, rowOfSets}
 use Rattle.cluster.specs.Tick.{serverAt}

@@ -10,12 +10,16 @@ use borrow.Author.Tests.{le-ltb}
 use Rattle.register.specs as register-specs
 use Rattle.register.specs.{Lists.In, Plan.Plan, Plan.Read, Plan.readEnd, Plan.echoQuorum, Plan.replyQuorum}
 use Rattle.register.proofs as register-laws
-use Rattle.calendar.specs.{Layout.rows, Layout.places, Layout.rowOf, Layout.sender, View.Spanned, View.Empty}
+use Rattle.calendar.specs.Layout.{rows, rowOf, sender}
+use Rattle.limits.specs.Limits.{places}
+use Rattle.calendar.specs.View.{Spanned, Empty}
 use Rattle.calendar.proofs.Spans.{empty-spanned}
 use Rattle.serving.specs.{declared.Server.Server, Tallies.ofReader, Tallies.holds, Settled.Settled}
 use Rattle.serving.proofs.Settled.{stages-settled, unvoted-settled}
 use Rattle.cluster.specs as cluster-specs
-use Rattle.cluster.specs.{declared.Cluster.Cluster, Inputs.Knows, Inputs.Fits}
+use Rattle.cluster.specs.declared.Cluster.{Cluster}
+use Rattle.tables.specs.Known.{Knows}
+use Rattle.cluster.specs.Inputs.{Fits}
 use Rattle.cluster.specs.Tick.{Fed, Ticked, Started, firstServer, serverAt}
 use Rattle.states.specs.{Way.forgedAs, Way.voteWay, State.Open, State.Idle, State.State}
 use Rattle.states.proofs.{WayLaws.none-any, RowLaws.votes-stay, VoteLaws.new-server, VoteLaws.new-votes}

@@ -13,9 +13,11 @@ use Rattle.register.specs.Plan.{Plan, Forgery, echoQuorum, replyQuorum, isMove}
 use Rattle.register.specs.Cluster.{writesIn, readsIn, votesIn, serverOf, cluster}
 use Rattle.register.proofs as register-laws
 use Rattle.register.proofs.Trace.{before, delivered, mid, end, before-suc}
-use Rattle.calendar.specs.{Layout.receivers, Layout.rowOf, Layout.sender, Bits.bit}
+use Rattle.calendar.specs.Layout.{receivers, rowOf, sender}
+use Rattle.limits.specs.Bits.{bit}
 use Rattle.calendar.proofs.Spans.{row-receiver, row-slot}
 use Rattle.serving.specs as serving-specs
+use Rattle.tables.specs as tables-specs
 use Rattle.serving.specs.{Stored.Plain, Stored.Said, Stored.Both, Stages.stageOne, Stages.stageTwo, Stages.stageFour, Stages.stagesOf}
 use Rattle.cluster.specs as cluster-specs
 use Rattle.cluster.specs.Tick.{serverAt, isSeized, got, allOf, sentBy}
@@ -23,7 +25,7 @@ use Rattle.states.specs.{Way.forgedAs, Way.voteWay, State.Rep, State.Sta
 use Rattle.states.proofs as states-laws
 
 -- the stages, with the plan's numbers for those that are fed
-stages-law : (m : ℕ) (rules : serving-specs.declared.Rules.Rules) (w : ℕ) (got : ℕ → ℕ → Bool) (asks live : ℕ → Bool) (mv mv' h h' : Bool) (t : ℕ) (s : Plain) (k2 : Bool) (delta e r : ℕ)
+stages-law : (m : ℕ) (rules : tables-specs.declared.Rules.Rules) (w : ℕ) (got : ℕ → ℕ → Bool) (asks live : ℕ → Bool) (mv mv' h h' : Bool) (t : ℕ) (s : Plain) (k2 : Bool) (delta e r : ℕ)
     → rules .two ≡ k2 → rules .delta ≡ delta → rules .echo ≡ e → rules .reply ≡ r → mv ≡ mv' → (mv' ≡ true → h ≡ h') → stagesOf m rules w got asks live mv h t s
     ≡ cond mv' (stageFour k2 h' t (stageTwo delta t (stageOne m e r w got asks live s))) (stageTwo delta t (stageOne m e r w got asks live s))
 unfolding stagesOf
@@ -33,7 +35,7 @@ stages-law m rules w got asks live mv false h h' t s k2 delta e r a b c d f i = 
 -- ---- one tick
 
 module _ (P : Plan) (G : register-laws.Good.Good P) (F : cluster-specs.Tick.Fed) {g : ℕ → ℕ} (fit : cluster-specs.Inputs.Fits P g (F .t) (F .plan) (F .rules) (F .m) (F .links) (F .arrivals) (F .movement))
-    (K : cluster-specs.Inputs.Knows P g (F .m)) (c : cluster-specs.declared.Cluster.Cluster) (r : List serving-specs.declared.Server.Server) (sets then work : List ℕ)
+    (K : tables-specs.Known.Knows P g (F .m)) (c : cluster-specs.declared.Cluster.Cluster) (r : List serving-specs.declared.Server.Server) (sets then work : List ℕ)
     (D : cluster-specs.Tick.Ticked F (c .ends) (c .servers) r sets then work (P .n)) (S : State P g (F .m) (F .t) c sets (F .work)) where
   abbrev t : ℕ
   t = F .t

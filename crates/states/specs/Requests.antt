@@ -6,7 +6,8 @@ use Prim.Native.Nat.{ℕ, _+_, _≤_, _<_}
 use lib.Dec.{eqb, ltb}
 use Rattle.register.specs.Lists.{any}
 use Rattle.register.specs.Plan.{Plan, Write, Read}
-use Rattle.calendar.specs.Layout.{mostReaders, slots}
+use Rattle.limits.specs.Limits.{mostReaders}
+use Rattle.calendar.specs.Layout.{slots}
 use Rattle.requests.specs.Requests.{reachedBy}
 
 module _ (P : Plan) where

@@ -12,7 +12,8 @@ use Rattle.register.specs.Server.{Claim, Server, has, isFaulty}
 use Rattle.register.specs.Cluster.{Log, serverOf, cluster}
 use Rattle.register.specs.Reading.{sameRead}
 use Rattle.plan.specs.Packed.{storeDepth}
-use Rattle.calendar.specs.Layout.{mostReaders, slots, readersAt, rowOf, sender}
+use Rattle.limits.specs.Limits.{mostReaders}
+use Rattle.calendar.specs.Layout.{slots, readersAt, rowOf, sender}
 use Rattle.calendar.specs.View.{Spanned}
 use Rattle.serving.specs.Tallies.{ofReader, holds}
 use Rattle.serving.specs.Stored.{Plain}

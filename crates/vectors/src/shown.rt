@@ -1,6 +1,6 @@
 // What is printed of results, as `codes` has them.
 use super::sizes;
-use calendar::DEPTH;
+use limits::DEPTH;
 use report::kept;
 use report::lent;
 use report::number;

@@ -1,6 +1,6 @@
 // The sizes of what an operation is lent, and where answers stand in it.
 ghost use Prim.Native.Nat.{_*_, _^_, _≤_, _<_};
-use calendar::DEPTH;
+use limits::DEPTH;
 use plan::form;
 
 // Room for more answers than a plan has reads.

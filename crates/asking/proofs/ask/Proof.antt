@@ -2,8 +2,8 @@
 use Prim.Native.Nat.{_+_}
 use native.Mathlib.Omega.{arith}
 use borrow.Author.Needs.{needs}
-use Rattle.calendar.proofs.Sendings.{sent-sendable}
-use Rattle.serving.proofs.SendLaws.{parties-few, link-inside, link-small}
+use Rattle.tables.proofs.Sendings.{sent-sendable}
+use Rattle.tables.proofs.LinkLaws.{parties-few, link-inside, link-small}
 use Rattle.asking.proofs.Laws.{asked-sent}
 use Rattle.asking.proofs.ask.Statement.{statement}
 use Rattle.asking.proofs.ask.Tie as tie

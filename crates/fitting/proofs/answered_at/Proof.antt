@@ -13,7 +13,8 @@ use Rattle.plan.specs.{Header.placementAt, Header.moves, Shape.shape, Playable.
 use Rattle.plan.proofs.Accept.{playable, header-there}
 use Rattle.answers.specs.Answers.{answerSize}
 use Rattle.answers.proofs.Lengths.{answer-few}
-use Rattle.script.proofs.{Scripting.operations-room, Forging.shape-ranged}
+use Rattle.tables.proofs.Standing.{operations-room}
+use Rattle.tables.proofs.Forging.{shape-ranged}
 use Rattle.simulator.specs.Judge.{answerFits}
 use Rattle.fitting.specs.Answered.{answeredAfter}
 use Rattle.fitting.proofs.Decoded.{few-answers, fits-same}

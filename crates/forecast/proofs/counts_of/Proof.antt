@@ -9,7 +9,7 @@ use denote.Ref.{now}
 use Rattle.plan.specs.{declared.header.Shape.Shape, Form.mostWidth, Header.Header, Header.headerOf, Playable.Playable, Shape.Ranged, Shape.shape}
 use Rattle.plan.proofs.Accept.{playable, header-there, reads-counted}
 use Rattle.answers.proofs.Lengths.{answer-few}
-use Rattle.script.proofs.Forging.{shape-ranged}
+use Rattle.tables.proofs.Forging.{shape-ranged}
 use Rattle.forecast.specs.Steps.{mostReceipts}
 use Rattle.forecast.proofs.Counted.{operations-are, found}
 use borrow.Author.Needs.{needs}

@@ -1,7 +1,8 @@
 -- `script::forge` meets its contract. The forged part of an accepted plan: the part's start and the entries' room follow from its length; the rest is Forging.
 use native.Mathlib.Omega.{arith}
 use borrow.Author.Needs.{needs}
-use Rattle.script.proofs.Forging.{shape-ranged, part-starts, fillable, forged}
+use Rattle.tables.proofs.Forging.{shape-ranged, part-starts}
+use Rattle.script.proofs.Forging.{fillable, forged}
 use Rattle.script.proofs.forge.Statement.{statement}
 use Rattle.script.proofs.forge.Tie as tie
 

@@ -4,8 +4,8 @@ use borrow.Author.Needs.{needs}
 use denote.Ref.{now}
 use Rattle.plan.specs.Header.{Header}
 use Rattle.plan.proofs.Accept.{header-there}
-use Rattle.script.proofs.Scripting.{operations-room, initial-narrow, writes-same, reads-same}
-use Rattle.script.proofs.Forging.{shape-ranged}
+use Rattle.tables.proofs.Standing.{operations-room, initial-narrow, writes-same, reads-same}
+use Rattle.tables.proofs.Forging.{shape-ranged}
 use Rattle.script.proofs.read.Statement.{statement}
 use Rattle.script.proofs.read.Tie as tie
 

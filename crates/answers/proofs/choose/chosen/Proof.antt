@@ -7,9 +7,9 @@ use Prim.Native.Nat.{ℕ, suc, _≤_, _+_, _-_}
 use lib.ListN.{length, getD}
 use lib.Count.{ones}
 use Rattle.register.specs.Lists.{count}
-use Rattle.calendar.specs.Layout.{places}
+use Rattle.limits.specs.Limits.{places}
 use Rattle.serving.specs.Tallies.{holds}
-use Rattle.serving.proofs.BitLaws.{ones-count}
+use Rattle.limits.proofs.Bits.{ones-count}
 use Rattle.answers.specs.Choosing.{highestOf}
 use Rattle.answers.proofs.Chosen.{highest-here, highest-below}
 use Rattle.answers.proofs.choose.chosen.Statement.{statement}

@@ -8,7 +8,7 @@ use lib.Dec.{ltb}
 use lib.ListN.{getD}
 use borrow.Author.Needs.{needs}
 use borrow.Author.Tests.{lt-ltb}
-use Rattle.calendar.specs.Bits.{bit}
+use Rattle.limits.specs.Bits.{bit}
 use Rattle.cluster.specs.Inputs.{requesters, asksAt}
 use Rattle.cluster.proofs.Asking.{set-none, set-more, set-same}
 use Rattle.cluster.proofs.tick.asks_at.Statement.{statement}

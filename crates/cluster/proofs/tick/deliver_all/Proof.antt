@@ -7,7 +7,7 @@ use native.Mathlib.Omega.{arith}
 use lib.ListN.{length, getD}
 use denote.Ref.{now}
 use borrow.Author.Needs.{needs}
-use Rattle.calendar.specs.Layout.{mostServers}
+use Rattle.limits.specs.Limits.{mostServers}
 use Rattle.serving.specs.Stored.{absent}
 use Rattle.cluster.specs.Tick.{feedOf}
 use Rattle.cluster.proofs.RowLaws.{emptied-now, sized-after}

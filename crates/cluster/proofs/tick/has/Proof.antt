@@ -3,8 +3,8 @@ use native.Mathlib.Nat.{add-zero}
 use Prim.Native.Nat.{ℕ}
 use borrow.Author.Needs.{needs}
 use mathlib.Core.Path.{ap, _∙_}
-use Rattle.serving.proofs.BitLaws.{bit-shift}
-use Rattle.calendar.specs.Bits.{bit}
+use Rattle.limits.proofs.Bits.{bit-shift}
+use Rattle.limits.specs.Bits.{bit}
 use Rattle.cluster.proofs.tick.has.Statement.{statement}
 use Rattle.cluster.proofs.tick.has.Tie as tie
 

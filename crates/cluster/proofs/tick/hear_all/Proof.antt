@@ -4,7 +4,7 @@ use mathlib.Core.Logic.{inl, inr}
 use Prim.Native.Nat.{_-_, _≤_}
 use native.Mathlib.Omega.{arith}
 use borrow.Author.Needs.{needs}
-use Rattle.calendar.specs.Layout.{mostReaders}
+use Rattle.limits.specs.Limits.{mostReaders}
 use Rattle.cluster.proofs.HearLaws.{Hearing, hearing-none, hearing-more, hearing-same, hearing-all}
 use Rattle.cluster.proofs.tick.hear_all.Statement.{statement}
 use Rattle.cluster.proofs.tick.hear_all.Tie as tie

@@ -6,7 +6,7 @@ use native.Mathlib.Omega.{arith}
 use lib.ListN.{getD}
 use borrow.Author.Needs.{needs}
 use Rattle.register.specs.Lists.{anyUpTo}
-use Rattle.calendar.specs.Bits.{bit}
+use Rattle.limits.specs.Bits.{bit}
 use Rattle.cluster.specs.Inputs.{requesters, isAsked}
 use Rattle.cluster.proofs.Asking.{joined-none, joined-more}
 use Rattle.cluster.proofs.tick.together.Statement.{statement}

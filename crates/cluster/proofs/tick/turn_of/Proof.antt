@@ -4,8 +4,8 @@ use mathlib.Core.Bool.{Bool}
 use mathlib.Core.Logic.{inl, inr}
 use Prim.Native.Nat.{ℕ}
 use borrow.Author.Needs.{needs}
-use Rattle.calendar.specs.Bits.{bit}
-use Rattle.calendar.proofs.Laws.{bit-zero}
+use Rattle.limits.specs.Bits.{bit}
+use Rattle.limits.proofs.Bits.{bit-zero}
 use Rattle.cluster.specs.Inputs.{wroteAt, asksAt}
 use Rattle.cluster.proofs.Asking.{none-wrote, none-asks}
 use Rattle.cluster.proofs.tick.turn_of.Statement.{statement}

@@ -6,7 +6,8 @@ use denote.Ref.{now}
 use borrow.Author.Needs.{needs}
 use Rattle.plan.specs.{Header.placementAt, Header.moves, Shape.shape}
 use Rattle.plan.proofs.Accept.{header-there}
-use Rattle.script.proofs.{Scripting.operations-room, Scripting.initial-narrow, Forging.shape-ranged}
+use Rattle.tables.proofs.Standing.{operations-room, initial-narrow}
+use Rattle.tables.proofs.Forging.{shape-ranged}
 use Rattle.fitting.proofs.Decoded.{delta-same, write-tables}
 use Rattle.fitting.proofs.times.of_plan.Statement.{statement}
 use Rattle.fitting.proofs.times.of_plan.Tie as tie

@@ -8,7 +8,7 @@ use Rattle.register.specs.Plan.{Forgery}
 use Rattle.plan.specs.{Header.forgeryBits, Steps.forgery}
 use Rattle.plan.proofs.Sizes.{forgeries-few}
 use Rattle.bits.proofs.Records.{record-inside}
-use Rattle.script.specs.Forged.{forgedAt}
+use Rattle.tables.specs.Forged.{forgedAt}
 use Rattle.forecast.specs.Steps.{mostArrivals, arrivalAt, Arrived}
 use Rattle.forecast.proofs.Tables.{arrived-none, arrived-few, arrived-more}
 use Rattle.forecast.proofs.arrivals.counted.Statement.{statement}

@@ -2,7 +2,7 @@
 use mathlib.Core.Path.{_∙_}
 use native.Mathlib.Omega.{arith}
 use denote.Ref.{now}
-use Rattle.script.proofs.Forging.{shape-ranged, part-starts, legible}
+use Rattle.tables.proofs.Forging.{shape-ranged, part-starts, legible}
 use Rattle.forecast.proofs.Arriving.{most-arriving}
 use borrow.Author.Needs.{needs}
 use Rattle.forecast.proofs.arrivals.most.Statement.{statement}

@@ -5,8 +5,8 @@ use Prim.Native.Nat.{ℕ, zero, suc, _-_, _/_, _%_, _^_, _<_}
 use native.Mathlib.Omega.{arith}
 use lib.Dec.{eqb}
 use Rattle.register.specs.Lists.{one-if}
-use Rattle.calendar.specs.Layout.{mostServers}
-use Rattle.serving.proofs.BitLaws.{bit-test}
+use Rattle.limits.specs.Limits.{mostServers}
+use Rattle.limits.proofs.Bits.{bit-test}
 use borrow.Author.Needs.{needs}
 use Rattle.forecast.proofs.receipts.free.Statement.{statement}
 use Rattle.forecast.proofs.receipts.free.Tie as tie

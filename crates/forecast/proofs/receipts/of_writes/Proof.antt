@@ -9,12 +9,13 @@ use denote.Ref.{now}
 use Rattle.traffic.specs.Traffic.{sum}
 use Rattle.plan.specs.Header.{Header, headerOf}
 use Rattle.plan.proofs.Sizes.{playable-sizes}
-use Rattle.calendar.specs.{Layout.mostServers, Posts.Sent}
-use Rattle.calendar.proofs.Sendings.{sent-sendable}
-use Rattle.serving.specs.Links.{linkBit, Linked}
-use Rattle.serving.proofs.SendLaws.{parties-few, link-inside, link-small}
-use Rattle.script.specs.Script.{LinksOf}
-use Rattle.script.proofs.Forging.{shape-ranged}
+use Rattle.limits.specs.Limits.{mostServers}
+use Rattle.tables.specs.Sending.{Sent}
+use Rattle.tables.proofs.Sendings.{sent-sendable}
+use Rattle.tables.specs.Links.{linkBit, Linked}
+use Rattle.tables.proofs.LinkLaws.{parties-few, link-inside, link-small}
+use Rattle.tables.specs.Rules.{LinksOf}
+use Rattle.tables.proofs.Forging.{shape-ranged}
 use Rattle.forecast.specs.Steps.{InForce, receiptsBy}
 use Rattle.forecast.proofs.{Reached.sent-receipts, Reached.linked, Reached.sent-within, Written.begun-ends, Written.all-receipts}
 use Rattle.forecast.proofs.receipts.of_writes.Statement.{statement}

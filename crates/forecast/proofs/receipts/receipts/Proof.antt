@@ -8,7 +8,10 @@ use native.Mathlib.Omega.{arith}
 use lib.ListN.{getD}
 use borrow.Author.Needs.{needs}
 use Rattle.register.specs.Lists.{count}
-use Rattle.calendar.specs.{declared.Sending.Sending, Layout.mostServers, Bits.bit, Posts.arrivalOf}
+use Rattle.tables.specs.declared.sending.Sending.{Sending}
+use Rattle.limits.specs.Limits.{mostServers}
+use Rattle.limits.specs.Bits.{bit}
+use Rattle.tables.specs.Sending.{arrivalOf}
 use Rattle.forecast.proofs.receipts.receipts.Statement.{statement}
 use Rattle.forecast.proofs.receipts.receipts.Tie as tie
 

@@ -7,7 +7,8 @@ use denote.Ref.{now}
 use Rattle.register.specs.Plan.{Forgery}
 use Rattle.register.proofs.Stamped.{value-stamped, number-stamped}
 use Rattle.plan.specs.Header.{forgeryBits}
-use Rattle.script.specs.Forged.{numberIn, Filled, forgedAt, delayOf, knownNumber}
+use Rattle.script.specs.Forged.{numberIn, Filled, knownNumber}
+use Rattle.tables.specs.Forged.{forgedAt, delayOf}
 use Rattle.plan.proofs.Sizes.{forgeries-few}
 use Rattle.bits.proofs.Records.{record-inside}
 use Rattle.script.proofs.Entries.{filled-none, filled-more}

@@ -6,7 +6,7 @@ use native.Mathlib.Decide.{decLe}
 use lib.ListN.{length, length-set, getD}
 use borrow.Author.Needs.{needs}
 use Rattle.script.specs.Forged.{entryAt, Start}
-use Rattle.script.proofs.Tables.{each-more}
+use Rattle.tables.proofs.Tables.{each-more}
 use Rattle.script.proofs.forged.starts.Statement.{statement}
 use Rattle.script.proofs.forged.starts.Tie as tie
 

@@ -8,7 +8,7 @@ use lib.Dec.{eqb, ltb}
 use lib.ListN.{getD}
 use borrow.Author.Needs.{needs}
 use borrow.Author.Tests.{lt-ltb, eq-eqb, ne-eqb}
-use Rattle.calendar.specs.Bits.{bit}
+use Rattle.limits.specs.Bits.{bit}
 use Rattle.cluster.specs.Inputs.{requesters}
 use Rattle.cluster.proofs.Asking.{set-none, set-more, set-same}
 use Rattle.script.specs.Inputs.{liveAt}

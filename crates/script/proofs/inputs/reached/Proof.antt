@@ -6,7 +6,7 @@ use lib.ListN.{length, getD}
 use borrow.Author.Needs.{needs}
 use Rattle.requests.specs.Requests.{reachedOf}
 use Rattle.cluster.specs.Inputs.{requesters}
-use Rattle.script.proofs.Tables.{each-more}
+use Rattle.tables.proofs.Tables.{each-more}
 use Rattle.script.proofs.inputs.reached.Statement.{statement}
 use Rattle.script.proofs.inputs.reached.Tie as tie
 

@@ -1,7 +1,7 @@
 -- `sending::to_servers` meets its contract: the delays to the servers lie in the plan.
 use borrow.Author.Needs.{needs}
 use native.Mathlib.Omega.{arith}
-use Rattle.serving.proofs.SendLaws.{link-small, link-inside}
+use Rattle.tables.proofs.LinkLaws.{link-small, link-inside}
 use Rattle.serving.proofs.sending.to_servers.Statement.{statement}
 use Rattle.serving.proofs.sending.to_servers.Tie as tie
 

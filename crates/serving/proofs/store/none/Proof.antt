@@ -6,7 +6,7 @@ use Prim.Native.Nat.{ℕ, zero, suc}
 use native.Mathlib.Omega.{arith}
 use lib.ListN.{replicate}
 use Rattle.calendar.specs.declared.Stamped.{Stamped}
-use Rattle.calendar.specs.Layout.{noPair}
+use Rattle.limits.specs.Limits.{noPair}
 use Rattle.plan.specs.Packed.{storeDepth}
 use Rattle.serving.specs.Stored.{keys, Valued}
 use Rattle.serving.proofs.store.none.Statement.{statement}

@@ -4,7 +4,7 @@ use Prim.Native.Nat.{_+_, _≤_, _-_}
 use native.Mathlib.Omega.{arith}
 use lib.ListN.{length, length-set}
 use borrow.Author.Needs.{needs}
-use Rattle.calendar.specs.Layout.{places}
+use Rattle.limits.specs.Limits.{places}
 use Rattle.calendar.specs.View.{Zeroed}
 use Rattle.calendar.proofs.Laws.{zeroed-none, zeroed-more}
 use Rattle.serving.specs.Tallies.{tableSize}

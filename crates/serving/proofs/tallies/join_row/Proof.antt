@@ -6,7 +6,8 @@ use native.Mathlib.Omega.{arith}
 use lib.ListN.{length, length-set, getD}
 use lib.Seq.{getD-set-other}
 use borrow.Author.Needs.{needs}
-use Rattle.calendar.specs.Layout.{places, rows, calendarSize, sender, highOf}
+use Rattle.limits.specs.Limits.{places}
+use Rattle.calendar.specs.Layout.{rows, calendarSize, sender, highOf}
 use Rattle.serving.specs.Tallies.{tableSize, Outside}
 use Rattle.serving.proofs.TallyLaws.{Part, part-none, part-more, part-all, none-below, none-beyond}
 use Rattle.serving.proofs.tallies.join_row.Statement.{statement}
