@@ -1,4 +1,3 @@
-pub mod Choosing
 pub mod Answers
 pub mod Parts
 pub mod Workspace

@@ -1,4 +1,4 @@
-// The answers of the reads: the pair that a reader chooses, and its bytes.
+// The bytes of the answers of the reads, and the workspace zeroed.
 ghost use mathlib.Core.Path.{_≡_};
 ghost use mathlib.Core.List.{_++_};
 ghost use Prim.Native.Nat.{_+_, _*_, _^_, _≤_, _<_};
@@ -9,15 +9,6 @@ ghost use Rattle.answers.specs.Answers.{answerWidths, answerBits, answer
 ghost use Rattle.answers.specs.Parts.{IsAnswer};
 ghost use Rattle.answers.specs.Workspace.{workspaceSize, zeroed};
 use plan::header::Shape;
-
-pub mod choose;
-
-// The pair that a reader chooses, if there is one, and how many servers named it.
-pub struct Choice {
-    pub found: bool,
-    pub number: u8,
-    pub count: u32,
-}
 
 // An answer: the read that it is to, its pair, how many servers named it, and the zero bit behind.
 pub struct Answer {

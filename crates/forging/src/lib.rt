@@ -9,7 +9,7 @@ ghost use Rattle.tables.specs.Forged.{mostEntries};
 ghost use Rattle.forging.specs.Forging.{forgedEntry, SentIn, forges};
 use limits::READERS;
 use calendar::READERS_AT;
-use reading::size_of;
+use limits::size_of;
 use script::forged;
 
 // Byte k of entry e.

@@ -18,7 +18,7 @@ use Rattle.cluster.specs as cluster-specs
 use Rattle.tables.specs as tables-specs
 use Rattle.cluster.specs.Tick.{Ticked, Calm, feedOf}
 use Rattle.script.{specs.declared.Script.Script, specs.Script.widthIn, specs.Inputs.LatestWrite, specs.Forged.entriesEnd, proofs.Fitting.script-fits, proofs.Fitting.script-sized}
-use Rattle.answers.proofs.Answered.{answered}
+use Rattle.reading.proofs.Answered.{answered}
 use Rattle.reading.specs.Reading.{Until, readAt, chosenBytes, placed, begunBy, SetUp}
 use Rattle.reading.proofs.Cursors.{placed-same, begun-size, begun-other, begun-there}
 use Rattle.player.specs.Run.{Decoded, FedBy, answerIn}

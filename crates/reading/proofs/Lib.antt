@@ -1,1 +1,3 @@
+pub mod Chosen
+pub mod Answered
 pub mod Cursors

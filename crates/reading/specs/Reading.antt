@@ -16,7 +16,8 @@ use Rattle.register.specs.Plan.{Read}
 use Rattle.plan.specs.Form.{mostWidth}
 use Rattle.requests.specs.Requests.{Asked}
 use Rattle.asking.specs.Asking.{askedBetween}
-use Rattle.answers.specs.{Answers.answerSize, Answers.answerBytes, Choosing.highestOf, Choosing.answerBy}
+use Rattle.answers.specs.Answers.{answerSize, answerBytes}
+use Rattle.reading.specs.Choosing.{highestOf, answerBy}
 use Rattle.reading.specs.declared.Reading.{Reading}
 
 -- of m reads, from read k on, those before r begin before tick u, and read r does not

@@ -9,16 +9,19 @@ ghost use Rattle.serving.specs.Tallies.{tableSize, ofReader, holds};
 ghost use Rattle.tables.specs.Links.{Linked};
 ghost use Rattle.tables.specs.Known.{pairAt, Narrow};
 ghost use Rattle.answers.specs.Answers.{answerSize, answerBytes};
-ghost use Rattle.answers.specs.Choosing.{highestOf, answerBy};
+ghost use Rattle.reading.specs.Choosing.{highestOf, answerBy};
 ghost use Rattle.plan.specs.Form.{mostWidth};
 ghost use Rattle.requests.specs.Requests.{requestsEnd};
 ghost use Rattle.script.specs.Script.{widthIn};
 ghost use Rattle.reading.specs.Reading.{Until, There, chosenBytes, placed, begunBy, SetUp, isBefore, Begun, WentOn};
 use limits::READERS;
+use limits::size_of;
 use tables::Known;
 use script::Script;
 use tables::operations::TABLE_READS;
 use serving::tallies;
+
+pub mod choose;
 
 // The ticks in which the readers' last reads end, and how many reads have begun and been answered.
 pub struct Reading {
@@ -27,11 +30,11 @@ pub struct Reading {
     pub answered: usize,
 }
 
-// A byte as a count.
-pub fn size_of(x: u8) -> usize
-    ensures { λ r. ⌜ r ≡ x ⌝ }
-{
-    x as usize
+// The pair that a reader chooses, if there is one, and how many servers named it.
+pub struct Choice {
+    pub found: bool,
+    pub number: u8,
+    pub count: u32,
 }
 
 // The first read from read k on that begins in tick u or later.
@@ -56,7 +59,7 @@ fn answer(out: &mut [u8], width: u8, sets: &[u16], known: Known, reply: u32, beg
         (answerBy (pairAt width known) (highestOf (λ j k. holds (now (sets .entry)) (ofReader (reader - 1) + j) k) reply (known .m))) ++ drop (answerSize width) (now (out .entry)) ⌝ }
 {
     let at = tallies::of_reader(size_of(reader) - 1);
-    let choice = answers::choose::chosen(sets, at, known.m, reply);
+    let choice = choose::chosen(sets, at, known.m, reply);
     if !choice.found {
         answers::write(out, width, begun, reader, 0, 0, 0);
         return;

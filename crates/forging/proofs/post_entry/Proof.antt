@@ -12,8 +12,8 @@ returns c =
     let v = w .before .before in
     let u = v .before .before .before in
     let s = u .before .before .before in
-    entry-posted _ _ _ _ _ _ _ _ _ _ (u .size-of2 .ensures ∙ u .before .byte2 .ensures) (s .size-of .ensures ∙ s .before .byte .ensures)
-    (v .size-of3 .ensures ∙ v .before .byte3 .ensures) (w .byte4 .ensures)
+    entry-posted _ _ _ _ _ _ _ _ _ _ (u .size-of2 .ensures .0 ∙ u .before .byte2 .ensures) (s .size-of .ensures .0 ∙ s .before .byte .ensures)
+    (v .size-of3 .ensures .0 ∙ v .before .byte3 .ensures) (w .byte4 .ensures)
     (λ x. goes-server _ _ _ _ x (c .before .before .before .before .before .if1 .taken) ∙ ap (eqb x) (sym (c .before .before .before .row .ensures .0)))
     (c .before .before .post .ensures)
 
@@ -21,20 +21,20 @@ returns-2 : tie.Need-returns-2
 returns-2 c =
     let u = c .before .before .before .before .before .before .before in
     let s = u .before .before .before in
-    entry-none _ _ _ _ _ _ (u .size-of2 .ensures ∙ u .before .byte2 .ensures) (s .size-of .ensures ∙ s .before .byte .ensures) (λ x. goes-writer _ _ _ _ x (c .before .if1 .left) (c .if2 .taken))
+    entry-none _ _ _ _ _ _ (u .size-of2 .ensures .0 ∙ u .before .byte2 .ensures) (s .size-of .ensures .0 ∙ s .before .byte .ensures) (λ x. goes-writer _ _ _ _ x (c .before .if1 .left) (c .if2 .taken))
 
 returns-3 : tie.Need-returns-3
 returns-3 c =
     let u = c .before .before .before .before .before .before .before .before in
     let s = u .before .before .before in
-    entry-none _ _ _ _ _ _ (u .size-of2 .ensures ∙ u .before .byte2 .ensures) (s .size-of .ensures ∙ s .before .byte .ensures) (λ x. goes-nowhere _ _ _ _ x (c .before .if2 .left) (c .if3 .taken))
+    entry-none _ _ _ _ _ _ (u .size-of2 .ensures .0 ∙ u .before .byte2 .ensures) (s .size-of .ensures .0 ∙ s .before .byte .ensures) (λ x. goes-nowhere _ _ _ _ x (c .before .if2 .left) (c .if3 .taken))
 
 returns-4 : tie.Need-returns-4
 returns-4 c =
     let u = c .before .before .before .before .before .before .before .before .before .before in
     let s = u .before .before .before in
-    entry-none _ _ _ _ _ _ (u .size-of2 .ensures ∙ u .before .byte2 .ensures) (s .size-of .ensures ∙ s .before .byte .ensures)
-    (λ x. goes-late _ _ _ _ x (c .before .before .before .if2 .left) (c .before .before .if3 .left) (rw (c .before .size-of4 .ensures) at (c .if4 .taken)))
+    entry-none _ _ _ _ _ _ (u .size-of2 .ensures .0 ∙ u .before .byte2 .ensures) (s .size-of .ensures .0 ∙ s .before .byte .ensures)
+    (λ x. goes-late _ _ _ _ x (c .before .before .before .if2 .left) (c .before .before .if3 .left) (rw (c .before .size-of4 .ensures .0) at (c .if4 .taken)))
 
 returns-5 : tie.Need-returns-5
 returns-5 c =
@@ -43,9 +43,9 @@ returns-5 c =
     let u = v .before .before .before in
     let s = u .before .before .before in
     let p = c .before .before .before .before .before in
-    entry-posted _ _ _ _ _ _ _ _ _ _ (u .size-of2 .ensures ∙ u .before .byte2 .ensures) (s .size-of .ensures ∙ s .before .byte .ensures)
-    (v .size-of3 .ensures ∙ v .before .byte3 .ensures) (w .byte4 .ensures)
-    (λ x. goes-reader _ _ _ _ x (p .before .before .before .if2 .left) (p .before .before .if3 .left) (rw (p .before .size-of4 .ensures) at (p .if4 .left))
+    entry-posted _ _ _ _ _ _ _ _ _ _ (u .size-of2 .ensures .0 ∙ u .before .byte2 .ensures) (s .size-of .ensures .0 ∙ s .before .byte .ensures)
+    (v .size-of3 .ensures .0 ∙ v .before .byte3 .ensures) (w .byte4 .ensures)
+    (λ x. goes-reader _ _ _ _ x (p .before .before .before .if2 .left) (p .before .before .if3 .left) (rw (p .before .size-of4 .ensures .0) at (p .if4 .left))
     ∙ ap (eqb x) (sym (c .before .before .before .row2 .ensures .0)))
     (c .before .before .post2 .ensures)
 

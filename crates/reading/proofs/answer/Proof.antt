@@ -4,8 +4,8 @@ use Prim.Native.Nat.{_+_, _-_, _<_}
 use lib.Pow.{pow-pos}
 use borrow.Author.Tests.{not-true, not-false}
 use Rattle.serving.specs.Tallies.{ofReader, holds}
-use Rattle.answers.specs.Choosing.{highestOf}
-use Rattle.answers.proofs.Chosen.{choice-below}
+use Rattle.reading.specs.Choosing.{highestOf}
+use Rattle.reading.proofs.Chosen.{choice-below}
 use Rattle.reading.proofs.Cursors.{answer-none, answer-found}
 use borrow.Author.Needs.{needs}
 use Rattle.reading.proofs.answer.Statement.{statement}
@@ -13,7 +13,7 @@ use Rattle.reading.proofs.answer.Tie as tie
 
 -- the choice is made in the reader's row
 in-row : (c : tie.After-chosen) → let s = c .before .before .before .before .before .args in c .chosen .result ≡ highestOf (λ j k. holds (s .sets .now) (ofReader (s .reader - 1) + j) k) (s .reply) (s .t4 .m)
-in-row c = rw (c .before .of-reader .ensures .0, c .before .before .size-of .ensures) at (c .chosen .ensures)
+in-row c = rw (c .before .of-reader .ensures .0, c .before .before .size-of .ensures .0) at (c .chosen .ensures)
 
 write-requires : tie.Need-write-requires
 write-requires c κs = let s = c .before .before .before .before .before .before .before .before in (s .pre .0, s .pre .1, pow-pos _)

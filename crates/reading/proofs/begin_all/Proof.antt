@@ -25,7 +25,7 @@ reader : (c : tie.After-size-of Inv-loop μ-loop) → (1 ≤ c .size-of .result)
 reader c =
     let l = c .before .before .before .loop in
     let h = l .inv .6 .readers (l .i) (l .inv .0) (c .before .before .loop-test .taken) in
-    (omega (arith, h .0, c .size-of .ensures), omega (arith, h .1, c .size-of .ensures))
+    (omega (arith, h .0, c .size-of .ensures .0), omega (arith, h .1, c .size-of .ensures .0))
 
 -- the loop is not at the table's end
 inside : (c : tie.In-loop Inv-loop μ-loop) → c .before .loop .i < 255
@@ -40,8 +40,8 @@ loop-again c =
       omega (arith, a .before .before .loop-test .taken),
       simp length-set (l .inv .2),
       c .before .before .empty .ensures .size ∙ l .inv .3,
-      begun-more _ _ _ _ (l .i) (l .ends) _ (l .inv .0) (l .inv .4) (rw (a .size-of .ensures)),
-      set-up-more _ _ _ (l .i) (l .sets) _ (l .inv .0) (l .inv .5) (rw (r .of-reader .ensures .0, a .size-of .ensures) at (c .before .before .empty .ensures)),
+      begun-more _ _ _ _ (l .i) (l .ends) _ (l .inv .0) (l .inv .4) (rw (a .size-of .ensures .0)),
+      set-up-more _ _ _ (l .i) (l .sets) _ (l .inv .0) (l .inv .5) (rw (r .of-reader .ensures .0, a .size-of .ensures .0) at (c .before .before .empty .ensures)),
       l .inv .6,
     )
 

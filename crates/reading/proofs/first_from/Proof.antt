@@ -16,7 +16,7 @@ abbrev μ-loop : tie.MeasureT-loop
 returns : tie.Need-returns Inv-loop μ-loop
 returns c =
     let l = c .before .before .before .before .loop in
-    until-found _ _ _ _ (l .i) (l .inv .0) (l .inv .2) (c .before .before .before .loop-test .taken) (rw (c .before .size-of .ensures) at (c .if1 .taken))
+    until-found _ _ _ _ (l .i) (l .inv .0) (l .inv .2) (c .before .before .before .loop-test .taken) (rw (c .before .size-of .ensures .0) at (c .if1 .taken))
 
 add-i : tie.Need-add-i Inv-loop μ-loop
 add-i c = let h : c .before .before .before .before .loop .i < 255 = omega (arith, c .before .before .before .loop-test .taken, c .before .before .before .before .before .pre .1) in search needs
@@ -24,7 +24,7 @@ add-i c = let h : c .before .before .before .before .loop .i < 255 = omega (arit
 loop-again : tie.Need-loop-again Inv-loop μ-loop
 loop-again c =
     let l = c .before .before .before .before .loop in
-    (omega (arith, l .inv .0), omega (arith, c .before .before .before .loop-test .taken), until-passed (c .before .before .before .before .before .args .begun .now) (c .before .before .before .before .before .args .m) _ _ (l .i) (l .inv .0) (l .inv .2) (rw (c .before .size-of .ensures) at (c .if1 .left)))
+    (omega (arith, l .inv .0), omega (arith, c .before .before .before .loop-test .taken), until-passed (c .before .before .before .before .before .args .begun .now) (c .before .before .before .before .before .args .m) _ _ (l .i) (l .inv .0) (l .inv .2) (rw (c .before .size-of .ensures .0) at (c .if1 .left)))
 
 pub first-from-spec : {M : Type 1} → statement M
 first-from-spec =

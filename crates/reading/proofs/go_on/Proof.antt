@@ -43,7 +43,7 @@ returns c =
     let e = a .before .before .before .before .before .before .before .before .before .before in
     record {
       ended = rw (e .before .ended-by .ensures) at (e .first-from .ensures);
-      began = rw (a .before .size-of .ensures) at (a .first-from2 .ensures);
+      began = rw (a .before .size-of .ensures .0) at (a .first-from2 .ensures);
       answers = a .before .before .before .before .before .before .before .end-all .ensures;
       ends = b .begin-all .ensures .0;
       table = b .begin-all .ensures .1;

@@ -8,8 +8,8 @@ use borrow.Author.Tests.{le-leb, lt-leb}
 use Rattle.register.specs.Lists.{count}
 use Rattle.register.proofs.Logic.{cond-e}
 use Rattle.limits.specs.Limits.{places}
-use Rattle.answers.specs.declared.Choice.{Choice}
-use Rattle.answers.specs.Choosing.{highestOf}
+use Rattle.reading.specs.declared.Choice.{Choice}
+use Rattle.reading.specs.Choosing.{highestOf}
 
 -- no pair above j has a quorum; pair j has one, or it has none either
 module _ (named : ℕ → ℕ → Bool) (reply m j n : ℕ) (above : highestOf named reply m ≡ highestOf named reply (suc j)) (is : n ≡ count (named j) 16) where

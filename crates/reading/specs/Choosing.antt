@@ -4,7 +4,7 @@ use Prim.Native.Nat.{ℕ, zero, suc}
 use lib.Dec.{leb}
 use Rattle.register.specs.Lists.{count}
 use Rattle.register.specs.Reading.{Answer}
-use Rattle.answers.specs.declared.Choice.{Choice}
+use Rattle.reading.specs.declared.Choice.{Choice}
 
 -- of the pairs below m, the highest that `reply` servers named, with how many they are; `named j i`: server i named pair j
 unfoldable pub highestOf : (ℕ → ℕ → Bool) → ℕ → ℕ → Choice

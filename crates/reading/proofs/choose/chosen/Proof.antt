@@ -10,10 +10,10 @@ use Rattle.register.specs.Lists.{count}
 use Rattle.limits.specs.Limits.{places}
 use Rattle.serving.specs.Tallies.{holds}
 use Rattle.limits.proofs.Bits.{ones-count}
-use Rattle.answers.specs.Choosing.{highestOf}
-use Rattle.answers.proofs.Chosen.{highest-here, highest-below}
-use Rattle.answers.proofs.choose.chosen.Statement.{statement}
-use Rattle.answers.proofs.choose.chosen.Tie as tie
+use Rattle.reading.specs.Choosing.{highestOf}
+use Rattle.reading.proofs.Chosen.{highest-here, highest-below}
+use Rattle.reading.proofs.choose.chosen.Statement.{statement}
+use Rattle.reading.proofs.choose.chosen.Tie as tie
 
 abbrev Inv-loop : tie.InvT-loop
 Inv-loop sets at m reply j₀ j =

@@ -4,7 +4,7 @@ ghost use Prim.Native.Nat.{_+_, _≤_};
 ghost use lib.ListN.{length};
 ghost use Rattle.limits.specs.Limits.{places};
 ghost use Rattle.serving.specs.Tallies.{holds};
-ghost use Rattle.answers.specs.Choosing.{highestOf};
+ghost use Rattle.reading.specs.Choosing.{highestOf};
 use super::Choice;
 
 // The highest number below m that at least `reply` servers named: who named pair j stands in cell at + j.

@@ -18,8 +18,8 @@ use Rattle.register.proofs.Good.{Good}
 use Rattle.register.proofs.ReadSafety.{quorum-genuine, answer-from}
 use Rattle.tables.specs.Known.{Knows}
 use Rattle.limits.proofs.Bits.{count-cut}
-use Rattle.answers.specs.declared.Choice.{Choice}
-use Rattle.answers.specs.Choosing.{highestOf, answerBy}
+use Rattle.reading.specs.declared.Choice.{Choice}
+use Rattle.reading.specs.Choosing.{highestOf, answerBy}
 
 -- how many servers named pair j
 votes : (ℕ → ℕ → Bool) → ℕ → ℕ
