@@ -6,11 +6,11 @@ ghost use Rattle.tables.specs.Links.{Linked};
 ghost use Rattle.requests.specs.Requests.{requestsEnd, Asked};
 ghost use Rattle.asking.specs.Asking.{askedBy, Readers, askedBetween, WroteOn};
 use limits::PLACES;
-use tables::sending::Sending;
 use limits::size_of;
-use tables::operations::TABLE_READS;
 use tables::Links;
 use tables::delays;
+use tables::operations::TABLE_READS;
+use tables::sending::Sending;
 
 // The request of party p, the writer as 0 and reader x as x, goes to all servers in tick t.
 fn ask(work: &mut [u8], plan: &[u8], links: Links, n: usize, t: usize, p: usize)

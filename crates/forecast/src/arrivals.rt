@@ -8,9 +8,9 @@ ghost use Rattle.tables.specs.Forged.{Legible};
 ghost use Rattle.forecast.specs.Steps.{mostTicks, mostArrivals, arrivalAt, Arrived};
 use plan::forgeries::Forged;
 use plan::header::Shape;
+use tables::Links;
 use tables::forged;
 use tables::links_of;
-use tables::Links;
 
 // One more than the last tick in which what is sent in a plan can arrive.
 const ARRIVALS: usize = Shape::MOST_TICKS as usize + Shape::MOST_DELTA as usize;

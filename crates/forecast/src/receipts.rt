@@ -10,14 +10,14 @@ ghost use Rattle.limits.specs.Bits.{bit};
 ghost use Rattle.tables.specs.Sending.{arrivalOf, Sendable};
 ghost use Rattle.regular.specs.Tables.{Tables};
 ghost use Rattle.forecast.specs.Steps.{mostTicks, InForce, allReceipts, mostReceipts};
-use limits::SERVERS;
-use tables::sending::Sending;
-use limits::size_of;
 use fitting::times;
+use limits::SERVERS;
+use limits::size_of;
 use plan::header::Shape;
+use tables::delays;
 use tables::links_of;
 use tables::operations::Writes;
-use tables::delays;
+use tables::sending::Sending;
 
 const TICKS: usize = Shape::MOST_TICKS as usize;
 

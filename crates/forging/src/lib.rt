@@ -7,8 +7,8 @@ ghost use Rattle.calendar.specs.View.{Posted};
 ghost use Rattle.script.specs.Forged.{entryAt, entriesEnd};
 ghost use Rattle.tables.specs.Forged.{mostEntries};
 ghost use Rattle.forging.specs.Forging.{forgedEntry, SentIn, forges};
-use limits::READERS;
 use calendar::READERS_AT;
+use limits::READERS;
 use limits::size_of;
 use script::forged;
 

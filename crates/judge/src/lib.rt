@@ -1,6 +1,6 @@
 // Judge: answers against a plan. The plan's writes are decoded once; one loop tests each answer's pair.
-use limits::PLACES;
 use fitting::times;
+use limits::PLACES;
 use plan::Checked;
 use plan::form;
 use regular::is_allowed;

@@ -1,1 +1,2 @@
+pub mod StoredPlaces
 pub mod LookCases

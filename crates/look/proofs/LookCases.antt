@@ -20,7 +20,8 @@ use Rattle.simulator.specs as simulator-specs
 use Rattle.serving.specs.Stored.{pairsIn}
 use Rattle.answers.specs.Workspace.{workspaceSize, zeroed}
 use Rattle.simulator.specs.Look.{Stamped, conditionOf, shownBy, placeWith, emptyPlace, placesOf, Looked, lookShown, lookRefused, lookAfter, lookIn}
-use Rattle.simulator.specs.Numbered.{storedIn, shownIn, lookedAs, seenOf}
+use Rattle.look.specs.Shown.{storedIn, seenOf}
+use Rattle.simulator.specs.Numbered.{shownIn, lookedAs}
 
 -- In a form, whose values have w bits.
 module _ (form : ℕ) (s workspace : List ℕ) (b t : ℕ) where

@@ -10,9 +10,9 @@ ghost use Rattle.plan.specs.Form.{mostWidth};
 ghost use Rattle.plan.specs.Packed.{storeDepth};
 ghost use Rattle.simulator.specs.Numbered.{looked, shownIn};
 ghost use Rattle.codes.specs.Codes.{shownCode, pairSize, ThreeBytes, pairBytes, pairsOf, pairsOver, lookCoded};
-use limits::DEPTH;
 use codes::REFUSED;
 use codes::of_seen;
+use limits::DEPTH;
 use simulator::look::Looked;
 use simulator::look::Place;
 

@@ -16,10 +16,10 @@ ghost use Rattle.script.specs.Script.{widthIn};
 ghost use Rattle.reading.specs.Reading.{Until, There, chosenBytes, placed, begunBy, SetUp, isBefore, Begun, WentOn};
 use limits::READERS;
 use limits::size_of;
-use tables::Known;
 use script::Script;
-use tables::operations::TABLE_READS;
 use serving::tallies;
+use tables::Known;
+use tables::operations::TABLE_READS;
 
 pub mod choose;
 

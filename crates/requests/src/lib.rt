@@ -5,8 +5,8 @@ ghost use Prim.Native.Nat.{_+_, _*_, _≤_, _<_};
 ghost use lib.ListN.{length};
 ghost use Rattle.tables.specs.Sending.{Sendable};
 ghost use Rattle.requests.specs.Requests.{parties, requestWord, requestsEnd, reachedOf, askedFirst, Asked, Taken, Unasked, SameOutside};
-use tables::sending::Sending;
 use calendar::words;
+use tables::sending::Sending;
 
 // How many parties send requests, with room: the writer is 0, reader x is x.
 const PARTIES: usize = 8;

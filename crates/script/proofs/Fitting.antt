@@ -1,5 +1,5 @@
 -- What a script and its ticks are fed fits the plan: the laws that the crate above cites.
--- It stands on Knowing, Placing, Entries and the laws of requests.
+-- It stands on Knowing, Entries, where the parts of the plan stand, and the laws of requests.
 use mathlib.Core.Path.{_≡_, sym, ap, _∙_}
 use mathlib.Core.Bool.{Bool, not}
 use mathlib.Core.List.{List}

@@ -2,7 +2,7 @@
 -- It stands on the laws of that part.
 use mathlib.Core.Path.{_≡_, ap}
 use mathlib.Core.List.{List}
-use Prim.Native.Nat.{ℕ, _%_, _≤_, _<_}
+use Prim.Native.Nat.{ℕ, _%_, _≤_}
 use lib.ListN.{length}
 use Rattle.plan.specs as plan-specs
 use Rattle.plan.specs.Header.{headerOf, operationAt}

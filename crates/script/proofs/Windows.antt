@@ -1,5 +1,5 @@
 -- Which forged entries were sent in a tick: the entries rise by the tick in which they were sent.
--- It stands on Messages.
+-- It stands on the laws of a plan's forged messages.
 use mathlib.Core.List.{List}
 use Prim.Native.Nat.{ℕ, _+_, _≤_, _<_}
 use native.Mathlib.Omega.{arith}

@@ -6,10 +6,10 @@ ghost use Rattle.plan.specs.Header.{placementBits, placementAt};
 ghost use Rattle.limits.specs.Bits.{bit};
 ghost use Rattle.requests.specs.Requests.{requestsEnd};
 ghost use Rattle.script.specs.Inputs.{liveAt, Reached, Arrive, Moves};
-use limits::READERS;
 use cluster::Arrivals;
 use cluster::Movement;
 use cluster::REQUESTERS;
+use limits::READERS;
 use plan::header::Shape;
 
 // The servers that each party's request reaches in tick t.

@@ -1,5 +1,5 @@
 -- Steps of the stages' proofs: the quorum's test by masks, a turn of taking in, and the stages put together from what their calls give.
--- It stands on BitLaws.
+-- It stands on the laws of sets kept as the bits of a number.
 use mathlib.Core.Path.{_≡_, refl, sym, ap, _∙_, fun-ext}
 use mathlib.Core.Bool.{Bool, true, false, _&&_, _||_, cond}
 use mathlib.Core.List.{List, []}

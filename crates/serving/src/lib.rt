@@ -5,9 +5,9 @@ pub mod stages;
 pub mod store;
 pub mod tallies;
 
+use calendar::Stamped;
 use limits::DEPTH;
 use limits::READERS;
-use calendar::Stamped;
 use tables::Links;
 use tables::Rules;
 

@@ -14,13 +14,13 @@ ghost use Rattle.serving.specs.Stored.{keys};
 ghost use Rattle.serving.specs.Sends.{Ready, sendsVote, sendsReply};
 use super::PAST_READERS;
 use super::Sender;
+use calendar::READERS_AT;
+use calendar::Stamped;
 use limits::DEPTH;
 use limits::PLACES;
 use limits::READERS;
-use calendar::READERS_AT;
-use tables::sending::Sending;
-use calendar::Stamped;
 use tables::delays;
+use tables::sending::Sending;
 
 // Where and when what it sends reaches the servers.
 fn to_servers(plan: &[u8], from: Sender) -> Sending

@@ -16,8 +16,8 @@ use super::Turn;
 use super::store;
 use super::tallies;
 use super::tallies::RECENT;
-use limits::PLACES;
 use calendar::Stamped;
+use limits::PLACES;
 use tables::Rules;
 
 pub fn is_faulty(s: Status) -> bool

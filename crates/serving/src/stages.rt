@@ -16,8 +16,8 @@ use super::Status;
 use super::Turn;
 use super::servers;
 use super::store;
-use limits::PLACES;
 use calendar::Stamped;
+use limits::PLACES;
 
 // A server after stage 1, and the readers to which it sends its pairs then.
 pub struct Delivered {

@@ -8,9 +8,9 @@ ghost use Rattle.register.specs.Server.{insert};
 ghost use Rattle.plan.specs.Packed.{storeDepth};
 ghost use Rattle.limits.specs.Limits.{noPair};
 ghost use Rattle.serving.specs.Stored.{keys, placeOf, putAt, Faithful, Valued};
+use calendar::Stamped;
 use limits::DEPTH;
 use limits::NO_PAIR;
-use calendar::Stamped;
 
 // The lower of two numbers.
 pub fn lower(a: usize, b: usize) -> usize

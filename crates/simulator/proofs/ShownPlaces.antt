@@ -1,22 +1,17 @@
--- An array or a store is walked from its first place: the pairs passed are the first of those that it shows, and the array of what was passed grows by one.
+-- An array is walked from its first place: the pairs passed are the first of those that it shows, and the array of what was passed grows by one.
 -- It stands on the definitions alone.
 use mathlib.Core.Path.{_≡_, refl, sym, ap, _∙_}
-use mathlib.Core.Bool.{Bool, true, false, not, cond}
+use mathlib.Core.Bool.{true, false}
 use mathlib.Core.List.{List, [], _∷_, _++_, map, map-append}
 use Prim.Native.Nat.{ℕ, suc, _+_, _-_, _≤_, _<_}
 use native.Mathlib.Numerals.{add-one}
 use native.Mathlib.Omega.{arith}
-use lib.Dec.{eqb}
-use lib.ListN.{length, take, drop, getD, set, replicate, length-append, length-drop, length-map, drop-of-length-le, List·getD-map}
+use lib.ListN.{length, take, drop, getD, set, replicate, length-append, length-drop, length-map, drop-of-length-le}
 use lib.Seq.{drop-cons, take-suc, take-all, length-take-le, append-snoc, set-at}
-use borrow.Author.Tests.{eq-eqb, ne-eqb}
 use Rattle.plan.specs.Packed.{storeDepth}
 use Rattle.simulator.specs.declared.look.Place.{Place}
 use Rattle.simulator.specs.Look.{Stamped, placeWith, emptyPlace, placesOf}
-use Rattle.simulator.specs.Numbered.{storedIn, shownIn}
-use Rattle.calendar.specs.declared.Stamped.{Stamped as Kept}
-use Rattle.limits.specs.Limits.{noPair}
-use Rattle.calendar.specs.Posts.{vacant}
+use Rattle.simulator.specs.Numbered.{shownIn}
 
 abbrev pub pairOf : Place → Stamped
 pairOf p = record { value = p .value; number = p .number }
@@ -76,46 +71,7 @@ module _ (ps : List Place) (k : ℕ) (h : Passed ps k) where
     passed-more = let e : getD (shownIn ps) k (pairOf d) ≡ pairOf (getD ps k d) = cc both in rw (add-one k, take-suc (shownIn ps) k (pairOf d) inside, e)
 
     -- the array of what was passed has it in its first empty place
-    placed-more : k < storeDepth → set (placesOf (passed ps k)) k (placeWith (pairOf (getD ps k d))) ≡ placesOf (passed ps (k + 1))
+    pub placed-more : k < storeDepth → set (placesOf (passed ps k)) k (placeWith (pairOf (getD ps k d))) ≡ placesOf (passed ps (k + 1))
     placed-more r =
         let n : length (passed ps k) ≡ k = length-take-le k (shownIn ps) (h .within) in
         rw passed-more (rw n at (place-more (passed ps k) (pairOf (getD ps k d)) (omega arith)))
-
--- a place of a store as a place of the array
-abbrev pub placeIn : Kept → Place
-placeIn p = record { kept = not (eqb (p .number) noPair); number = p .number; value = p .value }
-
--- a store shows the pairs that it has
-stored-shown : (kept : List Kept) → shownIn (map placeIn kept) ≡ storedIn kept
-unfolding storedIn shownIn
-stored-shown [] = refl
-stored-shown (p ∷ ps) = rw (stored-shown ps) (go (eqb (p .number) noPair))
-  where
-    go : (b : Bool) → cond (not b) (pairOf (placeIn p) ∷ storedIn ps) [] ≡ cond b [] (pairOf (placeIn p) ∷ storedIn ps)
-    go true = refl
-    go false = refl
-
--- the same walk along a store
-module _ (kept : List Kept) (k : ℕ) (h : Passed (map placeIn kept) k) where
-  pub store-end : length kept ≤ k → passed (map placeIn kept) k ≡ storedIn kept
-  store-end l = at-end (map placeIn kept) k h (omega (arith, length-map kept placeIn)) .1 ∙ stored-shown kept
-
-  module _ (l : k < length kept) where
-    within : k < length (map placeIn kept)
-    within = omega (arith, length-map kept placeIn)
-
-    here : getD (map placeIn kept) k (placeIn vacant) ≡ placeIn (getD kept k vacant)
-    here = List·getD-map placeIn kept k vacant
-
-    pub store-empty : getD kept k vacant .number ≡ noPair → passed (map placeIn kept) k ≡ storedIn kept
-    store-empty e = at-empty (map placeIn kept) k h (placeIn vacant) within (rw (here, eq-eqb (getD kept k vacant .number) noPair e)) .1 ∙ stored-shown kept
-
-    module _ (e : getD kept k vacant .number ≡ noPair → ⊥) where
-      has : getD (map placeIn kept) k (placeIn vacant) .kept ≡ true
-      has = rw (here, ne-eqb (getD kept k vacant .number) noPair e)
-
-      pub store-more : Passed (map placeIn kept) (k + 1)
-      store-more = one-more (map placeIn kept) k h (placeIn vacant) within has
-
-      pub store-placed : k < storeDepth → set (placesOf (passed (map placeIn kept) k)) k (placeWith (pairOf (placeIn (getD kept k vacant)))) ≡ placesOf (passed (map placeIn kept) (k + 1))
-      store-placed r = rw here at (placed-more (map placeIn kept) k h (placeIn vacant) within has r)

@@ -3,12 +3,8 @@ use mathlib.Core.Path.{_≡_}
 use mathlib.Core.Bool.{Bool, true, false, cond}
 use mathlib.Core.List.{List, [], _∷_}
 use Prim.Native.Nat.{ℕ}
-use Rattle.register.specs.Server.{Status, faulty, cured, correct}
 use Rattle.plan.specs.Check.{Outcome, refused, result}
 use Rattle.plan.specs.Numbered.{refusalNumber}
-use lib.Dec.{eqb}
-use Rattle.calendar.specs.declared.Stamped.{Stamped as Kept}
-use Rattle.limits.specs.Limits.{noPair}
 use Rattle.simulator.specs.declared.look.{Place.Place, Seen.Seen, Looked.Looked}
 use Rattle.simulator.specs.declared.play.Played.{Played}
 use Rattle.simulator.specs.declared.play.Played.the-variants as P
@@ -25,11 +21,6 @@ abbrev pub played : Played → Outcome ℕ
 played (P.Reads m) = result m
 played (P.Refused r) = refused (refusalNumber r)
 
--- the pairs of a store, before its first empty place
-unfoldable pub storedIn : List Kept → List Stamped
-storedIn [] = []
-storedIn (p ∷ ps) = cond (eqb (p .number) noPair) [] (record { value = p .value; number = p .number } ∷ storedIn ps)
-
 -- the pairs in the places before the first empty one
 unfoldable pub shownIn : List Place → List Stamped
 shownIn [] = []
@@ -44,12 +35,6 @@ lookedAs pairs (S.Refused r) = refused (refusalNumber r)
 
 abbrev pub looked : Looked → Outcome Shown
 looked x = lookedAs (shownIn (x .places)) (x .seen)
-
--- a server's status as Look gives it
-abbrev pub seenOf : Status → Seen
-seenOf faulty = S.Faulty
-seenOf (cured since) = S.Cured
-seenOf correct = S.Correct
 
 -- Judge: 'Then yes or no'
 abbrev pub judged : Judged → Outcome Bool

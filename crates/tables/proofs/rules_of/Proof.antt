@@ -1,4 +1,4 @@
--- `script::rules_of` meets its contract. The rules of a plan's cluster: each is what the header's own functions give.
+-- `rules_of` meets its contract. The rules of a plan's cluster: each is what the header's own functions give.
 use mathlib.Core.Path.{refl}
 use borrow.Author.Needs.{needs}
 use Rattle.tables.proofs.rules_of.Statement.{statement}

@@ -1,4 +1,4 @@
--- `script::forged::message_at` meets its contract: the fields are parts of one number.
+-- `forged::message_at` meets its contract: the fields are parts of one number.
 use borrow.Author.Needs.{needs}
 use denote.Ref.{now}
 use Rattle.plan.proofs.Taken.{forged-in}

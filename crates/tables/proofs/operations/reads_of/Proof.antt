@@ -1,4 +1,4 @@
--- `script::operations::reads_of` meets its contract. The loop's invariant: the tables have the reads among the operations passed.
+-- `operations::reads_of` meets its contract. The loop's invariant: the tables have the reads among the operations passed.
 use mathlib.Core.Logic.{inl, inr}
 use mathlib.Core.Path.{_≡_, ap, _∙_}
 use Prim.Native.Nat.{ℕ, _+_, _*_, _-_, _≤_, _<_}

@@ -1,4 +1,4 @@
--- `look::shown_places` meets its contract. The loop's invariant: the places passed have pairs, and the array has these and no other.
+-- `shown::shown_places` meets its contract. The loop's invariant: the places passed have pairs, and the array has these and no other.
 use mathlib.Core.Path.{_≡_, ap, _∙_}
 use mathlib.Core.List.{map}
 use Prim.Native.Nat.{_-_, _≤_, _<_}
@@ -6,10 +6,11 @@ use native.Mathlib.Omega.{arith}
 use lib.ListN.{length}
 use borrow.Author.Needs.{needs}
 use Rattle.plan.specs.Packed.{storeDepth}
 use Rattle.simulator.specs.Look.{placesOf}
-use Rattle.simulator.proofs.ShownPlaces.{placeIn, Passed, passed, none-passed, store-more, store-placed, store-empty, store-end}
-use Rattle.simulator.proofs.look.shown_places.Statement.{statement}
-use Rattle.simulator.proofs.look.shown_places.Tie as tie
+use Rattle.look.proofs.StoredPlaces.{placeIn, store-more, store-placed, store-empty, store-end}
+use Rattle.simulator.proofs.ShownPlaces.{Passed, passed, none-passed}
+use Rattle.look.proofs.shown.shown_places.Statement.{statement}
+use Rattle.look.proofs.shown.shown_places.Tie as tie
 
 abbrev Inv-loop : tie.InvT-loop
 Inv-loop kept shown₀ i₀ shown i = (i ≤ storeDepth) × (length kept ≡ storeDepth) × Passed (map placeIn kept) i × (shown ≡ placesOf (passed (map placeIn kept) i))
