@@ -20,7 +20,7 @@ use plan::header::Shape;
 pub extern "C" fn register_check(form: usize, plan: &[u8]) -> usize
     ensures { λ r. ⌜ r ≡ codeOf (checkIn form (now (plan .entry))) ⌝ }
 {
-    codes::of_check(checks::check(form, plan))
+    codes::of_outcome(checks::check(form, plan))
 }
 
 // The number of reads; an answer's bytes for each of them.
@@ -33,7 +33,7 @@ pub extern "C" fn register_play(
 ) -> usize
     ensures { λ r. ⌜ record { code = r; answers = now (answers .exit); workspace = now (workspace .exit) } ≡ playExported form (now (plan .entry)) (now (answers .entry)) (now (workspace .entry)) ⌝ }
 {
-    codes::of_play(play::play(form, plan, answers, workspace))
+    codes::of_outcome(play::play(form, plan, answers, workspace))
 }
 
 // A server's condition and 4 for each pair that it keeps. As many whole pairs as fit stand at the start of `pairs`, four bytes each.
@@ -64,7 +64,7 @@ pub extern "C" fn register_judge(form: usize, plan: &[u8], answers: &[u8]) -> us
 pub extern "C" fn register_sheet(form: usize, plan: &[u8], answers: &[u8], page: &mut [u8]) -> usize
     ensures { λ r. ⌜ record { code = r; out = now (page .exit) } ≡ writtenBy (sheetIn form (now (plan .entry)) (now (answers .entry)) (now (page .entry))) ⌝ }
 {
-    codes::of_output(sheet::sheet(form, plan, answers, page))
+    codes::of_outcome(sheet::sheet(form, plan, answers, page))
 }
 
 // How many numbers there are. As many of them as fit stand at the start of `numbers`: 0 bytes of answers, 1 movements, 2 WRITEs and 3 READs sent, 4 votes sent on
@@ -90,7 +90,7 @@ pub extern "C" fn register_pack(
     ensures { λ r. ⌜ record { code = r; out = now (out .exit) } ≡ packExported form
         (listsFrom (now (header .entry)) (now (placements .entry)) (now (operations .entry)) (now (forgeries .entry)) (now (delays .entry))) (now (out .entry)) ⌝ }
 {
-    codes::of_output(pack::pack(form, header, placements, operations, forgeries, delays, out))
+    codes::of_outcome(pack::pack(form, header, placements, operations, forgeries, delays, out))
 }
 
 // The number of bytes of the plan of form one carried to form two, at the start of `out`.
@@ -98,7 +98,7 @@ pub extern "C" fn register_pack(
 pub extern "C" fn register_carry(plan: &[u8], out: &mut [u8]) -> usize
     ensures { λ r. ⌜ record { code = r; out = now (out .exit) } ≡ writtenBy (carryOf (widthOf formOne) (widthOf formTwo) (now (plan .entry)) (now (out .entry))) ⌝ }
 {
-    codes::of_output(carry::carry(plan, out))
+    codes::of_outcome(carry::carry(plan, out))
 }
 
 // The same on the way back, from form two to form one.
@@ -106,7 +106,7 @@ pub extern "C" fn register_carry(plan: &[u8], out: &mut [u8]) -> usize
 pub extern "C" fn register_carry_back(plan: &[u8], out: &mut [u8]) -> usize
     ensures { λ r. ⌜ record { code = r; out = now (out .exit) } ≡ writtenBy (carryOf (widthOf formTwo) (widthOf formOne) (now (plan .entry)) (now (out .entry))) ⌝ }
 {
-    codes::of_output(carry::carry_back(plan, out))
+    codes::of_outcome(carry::carry_back(plan, out))
 }
 
 // A field of answer i: 0 begin, 1 reader, 2 value, 3 number, 4 count. 0 where there is no such form, answer or field.

@@ -6,11 +6,10 @@ ghost use mathlib.Core.Bool.{true};
 ghost use mathlib.Core.List.{_++_};
 ghost use Prim.Native.Nat.{_≤_};
 ghost use lib.ListN.{length, drop};
-ghost use Rattle.plan.specs.{Form.formOne, Form.formTwo, Form.isForm, Form.widthOf, Form.mostWidth, Header.headerOf, Playable.Playable, Buffer.intoBuffer, Shape.shape, Shape.Sized, Numbered.output};
+ghost use Rattle.plan.specs.{Form.formOne, Form.formTwo, Form.isForm, Form.widthOf, Form.mostWidth, Header.headerOf, Playable.Playable, Buffer.intoBuffer, Shape.shape, Shape.Sized, Numbered.numbered};
 ghost use Rattle.carrying.specs.Carrying.{carriedPlan, valuesFit, carryTests, carryOf};
 use moving::Places;
-use plan::Checked;
-use plan::Output;
+use plan::Outcome;
 use plan::Refusal;
 use plan::forgeries::Forged;
 use plan::form;
@@ -47,44 +46,44 @@ fn write(out: &mut [u8], plan: &[u8], h: Shape, width: u8)
 }
 
 // A plan that passed Check, from values of some width to values of another.
-fn carry_at(plan: &[u8], had: u8, wanted: u8, out: &mut [u8]) -> Output
+fn carry_at(plan: &[u8], had: u8, wanted: u8, out: &mut [u8]) -> Outcome
     requires { ⌜ Playable had (now plan) × (had ≤ mostWidth) × (wanted ≤ mostWidth) ⌝ }
-    ensures { λ r. ⌜ record { outcome = output r; out = now (out .exit) } ≡ intoBuffer (carriedPlan had wanted (now (plan .entry))) (now (out .entry))
+    ensures { λ r. ⌜ record { outcome = numbered r; out = now (out .exit) } ≡ intoBuffer (carriedPlan had wanted (now (plan .entry))) (now (out .entry))
         (carryTests had wanted (now (plan .entry)) (length (now (out .entry)))) ⌝ }
 {
     let h = Shape::read(plan, had);
     if !values::all_fit(plan, h, wanted) {
-        return Output::Refused(Refusal::ValueTooWide);
+        return Outcome::Refused(Refusal::ValueTooWide);
     }
     let size = with_width(h, wanted).bytes();
     if out.len() < size {
-        return Output::Refused(Refusal::CarriedShort);
+        return Outcome::Refused(Refusal::CarriedShort);
     }
     write(out, plan, h, wanted);
-    Output::Bytes(size)
+    Outcome::Number(size)
 }
 
-fn carry_between(from: usize, to: usize, plan: &[u8], out: &mut [u8]) -> Output
+fn carry_between(from: usize, to: usize, plan: &[u8], out: &mut [u8]) -> Outcome
     requires { ⌜ isForm from ≡ true ⌝ }
-    ensures { λ r. ⌜ record { outcome = output r; out = now (out .exit) } ≡ carryOf (widthOf from) (widthOf to) (now (plan .entry)) (now (out .entry)) ⌝ }
+    ensures { λ r. ⌜ record { outcome = numbered r; out = now (out .exit) } ≡ carryOf (widthOf from) (widthOf to) (now (plan .entry)) (now (out .entry)) ⌝ }
 {
     let checked = checks::check(from, plan);
     match checked {
-        Checked::Refused(why) => Output::Refused(why),
-        Checked::Reads(_reads) => carry_at(plan, form::width(from), form::width(to), out),
+        Outcome::Refused(why) => Outcome::Refused(why),
+        Outcome::Number(_reads) => carry_at(plan, form::width(from), form::width(to), out),
     }
 }
 
 // From form one to form two.
-pub fn carry(plan: &[u8], out: &mut [u8]) -> Output
-    ensures { λ r. ⌜ record { outcome = output r; out = now (out .exit) } ≡ carryOf (widthOf formOne) (widthOf formTwo) (now (plan .entry)) (now (out .entry)) ⌝ }
+pub fn carry(plan: &[u8], out: &mut [u8]) -> Outcome
+    ensures { λ r. ⌜ record { outcome = numbered r; out = now (out .exit) } ≡ carryOf (widthOf formOne) (widthOf formTwo) (now (plan .entry)) (now (out .entry)) ⌝ }
 {
     carry_between(form::ONE, form::TWO, plan, out)
 }
 
 // And back.
-pub fn carry_back(plan: &[u8], out: &mut [u8]) -> Output
-    ensures { λ r. ⌜ record { outcome = output r; out = now (out .exit) } ≡ carryOf (widthOf formTwo) (widthOf formOne) (now (plan .entry)) (now (out .entry)) ⌝ }
+pub fn carry_back(plan: &[u8], out: &mut [u8]) -> Outcome
+    ensures { λ r. ⌜ record { outcome = numbered r; out = now (out .exit) } ≡ carryOf (widthOf formTwo) (widthOf formOne) (now (plan .entry)) (now (out .entry)) ⌝ }
 {
     carry_between(form::TWO, form::ONE, plan, out)
 }

@@ -7,53 +7,53 @@ ghost use Rattle.plan.specs.Numbered.{numbered};
 use parts::forgeries;
 use parts::placements;
 use parts::reads;
-use plan::Checked;
+use plan::Outcome;
 use plan::Refusal;
 use plan::form;
 use plan::header::Shape;
 
 // At values of so many bits.
-fn check_at(plan: &[u8], width: u8) -> Checked
+fn check_at(plan: &[u8], width: u8) -> Outcome
     requires { ⌜ width ≤ mostWidth ⌝ }
     ensures { λ r. ⌜ numbered r ≡ checkOf width (now (plan .entry)) ⌝ }
 {
     if plan.len() < Shape::header_bytes(width) {
-        return Checked::Refused(Refusal::TooShort);
+        return Outcome::Refused(Refusal::TooShort);
     }
     let h = Shape::read(plan, width);
     if !h.is_in_range() {
-        return Checked::Refused(Refusal::HeaderRange);
+        return Outcome::Refused(Refusal::HeaderRange);
     }
     if !h.has_enough_servers() {
-        return Checked::Refused(Refusal::TooFewServers);
+        return Outcome::Refused(Refusal::TooFewServers);
     }
     if plan.len() != h.bytes() {
-        return Checked::Refused(Refusal::Length);
+        return Outcome::Refused(Refusal::Length);
     }
     if !placements::all_stand(plan, h) {
-        return Checked::Refused(Refusal::Placement);
+        return Outcome::Refused(Refusal::Placement);
     }
     if !operations::all_stand(plan, h) {
-        return Checked::Refused(Refusal::Operation);
+        return Outcome::Refused(Refusal::Operation);
     }
     if !forgeries::all_stand(plan, h) {
-        return Checked::Refused(Refusal::Forgery);
+        return Outcome::Refused(Refusal::Forgery);
     }
     if !delays::all_stand(plan, h) {
-        return Checked::Refused(Refusal::Delay);
+        return Outcome::Refused(Refusal::Delay);
     }
     if !delays::are_final_bits_zero(plan, h) {
-        return Checked::Refused(Refusal::Delay);
+        return Outcome::Refused(Refusal::Delay);
     }
-    Checked::Reads(reads::count(plan, h))
+    Outcome::Number(reads::count(plan, h))
 }
 
 // In the form that the caller names.
-pub fn check(form: usize, plan: &[u8]) -> Checked
+pub fn check(form: usize, plan: &[u8]) -> Outcome
     ensures { λ r. ⌜ numbered r ≡ checkIn form (now (plan .entry)) ⌝ }
 {
     if !form::is_known(form) {
-        return Checked::Refused(Refusal::TooShort);
+        return Outcome::Refused(Refusal::TooShort);
     }
     check_at(plan, form::width(form))
 }

@@ -2,15 +2,13 @@
 ghost use mathlib.Core.Path.{_≡_};
 ghost use mathlib.Core.List.{[]};
 ghost use Prim.Native.Nat.{_≤_};
-ghost use Rattle.plan.specs.Numbered.{refusalNumber, numbered, output};
-ghost use Rattle.simulator.specs.Numbered.{played, judged, lookedAs};
+ghost use Rattle.plan.specs.Numbered.{refusalNumber, numbered};
+ghost use Rattle.simulator.specs.Numbered.{judged, lookedAs};
 ghost use Rattle.codes.specs.Codes.{refusalCode, codeOf, verdictCode, shownCode};
-use plan::Checked;
-use plan::Output;
+use plan::Outcome;
 use plan::Refusal;
 use simulator::judge::Judged;
 use simulator::look::Seen;
-use simulator::play::Played;
 
 // What a refusal's number is added to, 2 ^ 24.
 pub const REFUSED: usize = 16777216;
@@ -53,21 +51,13 @@ pub fn refusal(why: Refusal) -> usize
     REFUSED + number(why)
 }
 
-pub fn of_check(c: Checked) -> usize
-    ensures { λ r. ⌜ r ≡ codeOf (numbered c) ⌝ }
+// The number itself: of reads, or of bytes.
+pub fn of_outcome(o: Outcome) -> usize
+    ensures { λ r. ⌜ r ≡ codeOf (numbered o) ⌝ }
 {
-    match c {
-        Checked::Reads(m) => m,
-        Checked::Refused(why) => refusal(why),
-    }
-}
-
-pub fn of_play(p: Played) -> usize
-    ensures { λ r. ⌜ r ≡ codeOf (played p) ⌝ }
-{
-    match p {
-        Played::Reads(m) => m,
-        Played::Refused(why) => refusal(why),
+    match o {
+        Outcome::Number(m) => m,
+        Outcome::Refused(why) => refusal(why),
     }
 }
 
@@ -91,15 +81,5 @@ pub fn of_seen(seen: Seen) -> usize
         Seen::Cured => 1,
         Seen::Correct => 2,
         Seen::Refused(why) => refusal(why),
-    }
-}
-
-// The number of bytes.
-pub fn of_output(o: Output) -> usize
-    ensures { λ r. ⌜ r ≡ codeOf (output o) ⌝ }
-{
-    match o {
-        Output::Bytes(m) => m,
-        Output::Refused(why) => refusal(why),
     }
 }

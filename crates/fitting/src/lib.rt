@@ -2,7 +2,7 @@
 // answer is to its read.
 pub mod times;
 
-use plan::Checked;
+use plan::Outcome;
 use plan::Refusal;
 use plan::form;
 use plan::header::Shape;
@@ -56,30 +56,30 @@ fn all_fit<'a>(
 }
 
 // The answers to an accepted plan with so many reads.
-fn answered_at(plan: &[u8], width: u8, answers: &[u8], count: usize) -> Checked
+fn answered_at(plan: &[u8], width: u8, answers: &[u8], count: usize) -> Outcome
     requires { ⌜ (checkOf width (now plan) ≡ result count) × (width ≤ mostWidth) ⌝ }
     ensures { λ r. ⌜ numbered r ≡ answeredAfter width (now (plan .entry)) (now (answers .entry)) (result count) ⌝ }
 {
     if answers.len() != answers::size(width) * count {
-        return Checked::Refused(Refusal::WrongLength);
+        return Outcome::Refused(Refusal::WrongLength);
     }
     let shape = Shape::read(plan, width);
     let at = shape.operations_at();
     let operations = shape.operations as usize;
     let reads = reads_of(plan, at, width, operations);
     if !all_fit(answers, width, &reads.begun, &reads.reader, count) {
-        return Checked::Refused(Refusal::WrongRead);
+        return Outcome::Refused(Refusal::WrongRead);
     }
-    Checked::Reads(count)
+    Outcome::Number(count)
 }
 
 // Tests answers against the reads of a plan: Check's refusals, 12, 13, else the number of reads.
-pub fn answered(form: usize, plan: &[u8], answers: &[u8]) -> Checked
+pub fn answered(form: usize, plan: &[u8], answers: &[u8]) -> Outcome
     ensures { λ r. ⌜ numbered r ≡ answeredIn form (now (plan .entry)) (now (answers .entry)) ⌝ }
 {
     let checked = checks::check(form, plan);
     match checked {
-        Checked::Refused(refusal) => Checked::Refused(refusal),
-        Checked::Reads(count) => answered_at(plan, form::width(form), answers, count),
+        Outcome::Refused(refusal) => Outcome::Refused(refusal),
+        Outcome::Number(count) => answered_at(plan, form::width(form), answers, count),
     }
 }

@@ -8,7 +8,7 @@ ghost use Rattle.plan.specs.Form.{mostWidth};
 ghost use Rattle.plan.specs.Check.{result, checkOf};
 ghost use Rattle.forecast.specs.Forecast.{countsOf, forecastIn};
 ghost use Rattle.forecast.specs.Numbered.{counts, foreseen};
-use plan::Checked;
+use plan::Outcome;
 use plan::Refusal;
 use plan::form;
 use plan::header::Shape;
@@ -57,7 +57,7 @@ pub fn forecast(form: usize, plan: &[u8]) -> Foreseen
 {
     let checked = checks::check(form, plan);
     match checked {
-        Checked::Refused(why) => Foreseen::Refused(why),
-        Checked::Reads(reads) => Foreseen::Takes(counts_of(plan, form::width(form), reads)),
+        Outcome::Refused(why) => Foreseen::Refused(why),
+        Outcome::Number(reads) => Foreseen::Takes(counts_of(plan, form::width(form), reads)),
     }
 }

@@ -1,7 +1,7 @@
 // Judge: answers against a plan. The plan's writes are decoded once; one loop tests each answer's pair.
 use fitting::times;
 use limits::PLACES;
-use plan::Checked;
+use plan::Outcome;
 use plan::form;
 use regular::is_allowed;
 use simulator::judge::Judged;
@@ -79,7 +79,7 @@ pub fn judge(form: usize, plan: &[u8], answers: &[u8]) -> Judged
 {
     let checked = fitting::answered(form, plan, answers);
     match checked {
-        Checked::Refused(refusal) => Judged::Refused(refusal),
-        Checked::Reads(count) => judge_answers(plan, form::width(form), answers, count),
+        Outcome::Refused(refusal) => Judged::Refused(refusal),
+        Outcome::Number(count) => judge_answers(plan, form::width(form), answers, count),
     }
 }

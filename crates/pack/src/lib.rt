@@ -5,12 +5,12 @@ ghost use mathlib.Core.List.{_++_};
 ghost use Prim.Native.Nat.{_*_, _≤_};
 ghost use lib.ListN.{length, drop};
 ghost use Rattle.bits.specs.{Field.Bytes, Layout.fits, Writing.Wrote};
-ghost use Rattle.plan.specs.{Form.mostWidth, Widths.headerWidths, Widths.placementWidths, Widths.operationWidths, Widths.forgeryWidths, Widths.delayWidths, Header.headerOf, Header.moves, Header.delayCount, Limits.impliedBytes, Check.placementsStand, Check.operationsStand, Check.forgeriesStand, Check.delaysStand, Buffer.intoBuffer, Shape.shape, Shape.Ranged, Shape.Sized, Numbered.output};
+ghost use Rattle.plan.specs.{Form.mostWidth, Widths.headerWidths, Widths.placementWidths, Widths.operationWidths, Widths.forgeryWidths, Widths.delayWidths, Header.headerOf, Header.moves, Header.delayCount, Limits.impliedBytes, Check.placementsStand, Check.operationsStand, Check.forgeriesStand, Check.delaysStand, Buffer.intoBuffer, Shape.shape, Shape.Ranged, Shape.Sized, Numbered.numbered};
 ghost use Rattle.lists.specs.{Lists.Full, Lists.placementsWidths, Lists.operationsWidths, Lists.forgeriesWidths, Lists.delaysWidths, Lists.planBits};
 ghost use Rattle.pack.specs.{Pack.lengthsImplied, Pack.partTests, Pack.packOf, Pack.packIn, Numbered.listsFrom, Numbered.partsFrom, Numbered.Listed};
 use parts::forgeries;
 use parts::placements;
-use plan::Output;
+use plan::Outcome;
 use plan::Refusal;
 use plan::forgeries::Forged;
 use plan::form;
@@ -145,29 +145,29 @@ fn finish(
     forgeries: &[u32],
     delays: &[u32],
     out: &mut [u8],
-) -> Output
+) -> Outcome
     requires { ⌜ Sized (h .width) (now plan) (shape h) × (shape h ≡ headerOf (h .width) (now plan))
         × Full (h .width) (shape h) (partsFrom (now placements) (now operations) (now forgeries) (now delays)) ⌝ }
-    ensures { λ r. ⌜ record { outcome = output r; out = now (out .exit) } ≡ intoBuffer (now (plan .entry)) (now (out .entry)) (partTests (h .width) (shape h) (now (plan .entry))
+    ensures { λ r. ⌜ record { outcome = numbered r; out = now (out .exit) } ≡ intoBuffer (now (plan .entry)) (now (out .entry)) (partTests (h .width) (shape h) (now (plan .entry))
         (partsFrom (now (placements .entry)) (now (operations .entry)) (now (forgeries .entry)) (now (delays .entry))) (length (now (out .entry)))) ⌝ }
 {
     if !placements_pass(plan, h, placements) {
-        return Output::Refused(Refusal::Placement);
+        return Outcome::Refused(Refusal::Placement);
     }
     if !operations_pass(plan, h, operations) {
-        return Output::Refused(Refusal::Operation);
+        return Outcome::Refused(Refusal::Operation);
     }
     if !forgeries_pass(plan, h, forgeries) {
-        return Output::Refused(Refusal::Forgery);
+        return Outcome::Refused(Refusal::Forgery);
     }
     if !delays_pass(plan, h, delays) {
-        return Output::Refused(Refusal::Delay);
+        return Outcome::Refused(Refusal::Delay);
     }
     if out.len() < plan.len() {
-        return Output::Refused(Refusal::BufferShort);
+        return Outcome::Refused(Refusal::BufferShort);
     }
     copy(out, plan);
-    Output::Bytes(plan.len())
+    Outcome::Number(plan.len())
 }
 
 // Are there ten numbers that fit the header's fields.
@@ -191,23 +191,23 @@ fn pack_at(
     forgeries: &[u32],
     delays: &[u32],
     out: &mut [u8],
-) -> Output
+) -> Outcome
     requires { ⌜ width ≤ mostWidth ⌝ }
-    ensures { λ r. ⌜ record { outcome = output r; out = now (out .exit) } ≡ packOf width
+    ensures { λ r. ⌜ record { outcome = numbered r; out = now (out .exit) } ≡ packOf width
         (listsFrom (now (header .entry)) (now (placements .entry)) (now (operations .entry)) (now (forgeries .entry)) (now (delays .entry))) (now (out .entry)) ⌝ }
 {
     if !is_header(header, width) {
-        return Output::Refused(Refusal::HeaderRange);
+        return Outcome::Refused(Refusal::HeaderRange);
     }
     let h = Shape::of(header, width);
     if !h.is_in_range() {
-        return Output::Refused(Refusal::HeaderRange);
+        return Outcome::Refused(Refusal::HeaderRange);
     }
     if !h.has_enough_servers() {
-        return Output::Refused(Refusal::TooFewServers);
+        return Outcome::Refused(Refusal::TooFewServers);
     }
     if !are_implied(h, placements, operations, forgeries, delays) {
-        return Output::Refused(Refusal::Length);
+        return Outcome::Refused(Refusal::Length);
     }
     let mut own = [0u8; Shape::IMPLIED_BYTES];
     write(
@@ -240,12 +240,12 @@ pub fn pack(
     forgeries: &[u32],
     delays: &[u32],
     out: &mut [u8],
-) -> Output
-    ensures { λ r. ⌜ record { outcome = output r; out = now (out .exit) } ≡ packIn form
+) -> Outcome
+    ensures { λ r. ⌜ record { outcome = numbered r; out = now (out .exit) } ≡ packIn form
         (listsFrom (now (header .entry)) (now (placements .entry)) (now (operations .entry)) (now (forgeries .entry)) (now (delays .entry))) (now (out .entry)) ⌝ }
 {
     if !form::is_known(form) {
-        return Output::Refused(Refusal::TooShort);
+        return Outcome::Refused(Refusal::TooShort);
     }
     pack_at(
         form::width(form),

@@ -22,7 +22,7 @@ fn run(case: &[u32])
         cases::list(case, 4),
         lent::first_mut(&mut out, room),
     );
-    report::written(codes::of_output(packed), &out);
+    report::written(codes::of_outcome(packed), &out);
     report::word(b"\n");
 }
 

@@ -1,12 +1,9 @@
--- The number that documents 01 and 02 give every refusal, and the number or value of every case of what Check returns, and of what an operation
--- that fills a lent buffer returns.
+-- The number that documents 01 and 02 give every refusal, and the two cases of what an operation with a number for its result returns.
 use Prim.Native.Nat.{ℕ}
 use Rattle.plan.specs.declared.Refusal.{Refusal}
 use Rattle.plan.specs.declared.Refusal.the-variants as R
-use Rattle.plan.specs.declared.Checked.{Checked}
-use Rattle.plan.specs.declared.Checked.the-variants as C
-use Rattle.plan.specs.declared.Output.{Output}
-use Rattle.plan.specs.declared.Output.the-variants as O
+use Rattle.plan.specs.declared.Outcome.{Outcome as Returned}
+use Rattle.plan.specs.declared.Outcome.the-variants as O
 use Rattle.plan.specs.Check.{Outcome, refused, result}
 
 -- Check: '1 under 8 bytes; 2 a header field outside its range; 3 n below (k+3)f+1; 4 byte length other than the header implies; 5 a placement; 6 an
@@ -47,11 +44,7 @@ refusalNumber R.Rights = 21
 refusalNumber R.NoRight = 22
 refusalNumber R.TextShort = 23
 
-abbrev pub numbered : Checked → Outcome ℕ
-numbered (C.Reads m) = result m
-numbered (C.Refused r) = refused (refusalNumber r)
-
--- 'returns the number of bytes written' ('One'), or the refusal's number
-abbrev pub output : Output → Outcome ℕ
-output (O.Bytes m) = result m
-output (O.Refused r) = refused (refusalNumber r)
+-- Check and Play: 'it returns the number of reads'; document 02, 'One': 'returns the number of bytes written'; or the refusal's number
+abbrev pub numbered : Returned → Outcome ℕ
+numbered (O.Number m) = result m
+numbered (O.Refused r) = refused (refusalNumber r)

@@ -1,4 +1,4 @@
-// The packed plan (document 01, 'The plan, packed'): its header, an operation and a forgery as values, what Check and those that fill a lent buffer return, and all refusals.
+// The packed plan (document 01, 'The plan, packed'): its header, an operation and a forgery as values, what an operation with a number for its result returns, and all refusals.
 pub mod forgeries;
 pub mod form;
 pub mod header;
@@ -55,14 +55,9 @@ pub enum Refusal {
     TextShort,
 }
 
-// What Check returns: the number of reads of an accepted plan, or the first refusal that applies.
-pub enum Checked {
-    Reads(usize),
-    Refused(Refusal),
-}
-
-// What an operation that fills a lent buffer returns: the number of bytes written, or the first refusal that applies.
-pub enum Output {
-    Bytes(usize),
+// What an operation with a number for its result returns: the number, of an accepted plan's reads or of the bytes written, or the first refusal that
+// applies.
+pub enum Outcome {
+    Number(usize),
     Refused(Refusal),
 }

@@ -2,9 +2,9 @@
 ghost use mathlib.Core.Path.{_≡_};
 ghost use Rattle.simulator.specs.Rehearse.{rehearseIn};
 ghost use Rattle.simulator.specs.Numbered.{rehearsed, saysYes, NotNo};
+use plan::Outcome;
 use plan::form;
 use simulator::judge::Judged;
-use simulator::play::Played;
 use simulator::rehearse::Rehearsed;
 
 fn is_yes(verdict: Judged) -> bool
@@ -24,8 +24,8 @@ pub fn rehearse(form: usize, plan: &[u8], answers: &mut [u8], work: &mut [u8]) -
 {
     let played = play::play(form, plan, answers, work);
     match played {
-        Played::Refused(why) => Rehearsed::Refused(why),
-        Played::Reads(reads) => {
+        Outcome::Refused(why) => Rehearsed::Refused(why),
+        Outcome::Number(reads) => {
             let end = answers::size(form::width(form)) * reads;
             if is_yes(judge::judge(form, plan, &answers[..end])) {
                 return Rehearsed::Yes(reads);

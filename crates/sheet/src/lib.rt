@@ -3,7 +3,7 @@ ghost use mathlib.Core.{Path._≡_, List.List};
 ghost use Prim.Native.Nat.{ℕ, _+_, _*_, _^_, _≤_, _<_};
 ghost use lib.ListN.{length};
 ghost use Rattle.decimal.specs.Stored.{Stored};
-ghost use Rattle.plan.specs.{Form.mostWidth, Packed.planOf, Check.result, Buffer.intoBuffer, Numbered.output};
+ghost use Rattle.plan.specs.{Form.mostWidth, Packed.planOf, Check.result, Buffer.intoBuffer, Numbered.numbered};
 ghost use Rattle.answers.specs.Answers.{answerSize};
 ghost use Rattle.regular.specs.Tables.{Tables};
 ghost use Rattle.fitting.specs.Answered.{Answered};
@@ -14,8 +14,7 @@ use limits::PLACES;
 use page::COLUMNS;
 use page::Row;
 use page::put_line;
-use plan::Checked;
-use plan::Output;
+use plan::Outcome;
 use plan::Refusal;
 use plan::form;
 use regular::has_concurrent;
@@ -88,24 +87,24 @@ fn write(page: &mut [u8], plan: &[u8], width: u8, answers: &[u8], count: usize) 
 }
 
 // Answers to the reads of an accepted plan.
-fn sheet_at(plan: &[u8], width: u8, answers: &[u8], count: usize, page: &mut [u8]) -> Output
+fn sheet_at(plan: &[u8], width: u8, answers: &[u8], count: usize, page: &mut [u8]) -> Outcome
     requires { ⌜ (width ≤ mostWidth) × Answered width (now plan) (now answers) count ⌝ }
-    ensures { λ r. ⌜ record { outcome = output r; out = now (page .exit) } ≡ intoBuffer (pageOf width (now (plan .entry)) (now (answers .entry))) (now (page .entry))
+    ensures { λ r. ⌜ record { outcome = numbered r; out = now (page .exit) } ≡ intoBuffer (pageOf width (now (plan .entry)) (now (answers .entry))) (now (page .entry))
         (sheetAfter (pageOf width (now (plan .entry)) (now (answers .entry))) (length (now (page .entry))) (result count)) ⌝ }
 {
     if page.len() < page::LINE_BYTES * (count + OTHER_LINES) {
-        return Output::Refused(Refusal::PageShort);
+        return Outcome::Refused(Refusal::PageShort);
     }
-    Output::Bytes(write(page, plan, width, answers, count))
+    Outcome::Number(write(page, plan, width, answers, count))
 }
 
 // Prints the answers to a plan: Check's refusals, 12, 13, 15, else the number of bytes written.
-pub fn sheet(form: usize, plan: &[u8], answers: &[u8], page: &mut [u8]) -> Output
-    ensures { λ r. ⌜ record { outcome = output r; out = now (page .exit) } ≡ sheetIn form (now (plan .entry)) (now (answers .entry)) (now (page .entry)) ⌝ }
+pub fn sheet(form: usize, plan: &[u8], answers: &[u8], page: &mut [u8]) -> Outcome
+    ensures { λ r. ⌜ record { outcome = numbered r; out = now (page .exit) } ≡ sheetIn form (now (plan .entry)) (now (answers .entry)) (now (page .entry)) ⌝ }
 {
     let answered = fitting::answered(form, plan, answers);
     match answered {
-        Checked::Refused(why) => Output::Refused(why),
-        Checked::Reads(count) => sheet_at(plan, form::width(form), answers, count, page),
+        Outcome::Refused(why) => Outcome::Refused(why),
+        Outcome::Number(count) => sheet_at(plan, form::width(form), answers, count, page),
     }
 }

@@ -6,8 +6,6 @@ use Prim.Native.Nat.{ℕ}
 use Rattle.plan.specs.Check.{Outcome, refused, result}
 use Rattle.plan.specs.Numbered.{refusalNumber}
 use Rattle.simulator.specs.declared.look.{Place.Place, Seen.Seen, Looked.Looked}
-use Rattle.simulator.specs.declared.play.Played.{Played}
-use Rattle.simulator.specs.declared.play.Played.the-variants as P
 use Rattle.simulator.specs.declared.look.Seen.the-variants as S
 use Rattle.simulator.specs.declared.judge.Judged.{Judged}
 use Rattle.simulator.specs.declared.judge.Judged.the-variants as J
@@ -15,11 +13,6 @@ use Rattle.simulator.specs.declared.rehearse.Rehearsed.{Rehearsed}
 use Rattle.simulator.specs.declared.rehearse.Rehearsed.the-variants as R
 use Rattle.simulator.specs.Rehearse.{Verdict, yes, no}
 use Rattle.simulator.specs.Look.{Stamped, Shown, is-faulty, is-cured, is-correct}
-
--- Play: 'It returns the number of reads'
-abbrev pub played : Played → Outcome ℕ
-played (P.Reads m) = result m
-played (P.Refused r) = refused (refusalNumber r)
 
 -- the pairs in the places before the first empty one
 unfoldable pub shownIn : List Place → List Stamped

@@ -23,7 +23,7 @@ pub fn write(plan: &[u8], out: &mut [u8]) -> usize
 {
     let mut answers = [0u8; answers::MOST_SIZE * Shape::MOST_READS];
     let mut work = [0u8; Shape::WORKSPACE_BYTES];
-    let code = codes::of_play(play::play(lines::FORM, plan, &mut answers, &mut work));
+    let code = codes::of_outcome(play::play(lines::FORM, plan, &mut answers, &mut work));
     if codes::REFUSED <= code {
         return put_first(out, b"refused ", (code - codes::REFUSED) as u64);
     }

@@ -66,7 +66,7 @@ fn look(form: usize, plan: &[u8], tick: usize, server: usize) {
 // What Check says of a plan, and Forecast; in form one also the program's text.
 fn check(form: usize, plan: &[u8]) {
     word(b"check ");
-    shown::outcome(codes::of_check(checks::check(form, plan)));
+    shown::outcome(codes::of_outcome(checks::check(form, plan)));
     let mut numbers = [0u32; figures::FIGURES];
     let code = figures::forecast(form, plan, &mut numbers);
     word(b"\nforecast");
@@ -85,7 +85,7 @@ fn run(form: usize, plan: &[u8], index: u64) -> [u8; sizes::ANSWERS] {
     check(form, plan);
     let mut answers = [0u8; sizes::ANSWERS];
     let mut work = [0u8; sizes::WORKSPACE];
-    let code = codes::of_play(play::play(form, plan, &mut answers, &mut work));
+    let code = codes::of_outcome(play::play(form, plan, &mut answers, &mut work));
     if codes::REFUSED <= code {
         return answers;
     }

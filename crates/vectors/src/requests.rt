@@ -35,7 +35,7 @@ fn play(form: usize, plan: &[u8], room: usize, space: usize) {
         lent::first_mut(&mut work, space),
     );
     word(b"play ");
-    shown::outcome(codes::of_play(played));
+    shown::outcome(codes::of_outcome(played));
     kept(&answers);
     kept(&work);
 }
@@ -93,15 +93,15 @@ fn sheet(form: usize, plan: &[u8], answers: [u8; sizes::ANSWERS], request: [u8; 
         lent::first_mut(&mut page, room),
     );
     word(b"sheet ");
-    shown::page(codes::of_output(written), &page);
+    shown::page(codes::of_outcome(written), &page);
 }
 
 // From the plan's form to the other one.
 fn carried(form: usize, plan: &[u8], out: &mut [u8]) -> usize {
     if form == form::TWO {
-        return codes::of_output(carry::carry_back(plan, out));
+        return codes::of_outcome(carry::carry_back(plan, out));
     }
-    codes::of_output(carry::carry(plan, out))
+    codes::of_outcome(carry::carry(plan, out))
 }
 
 // Carry: the length of the buffer.

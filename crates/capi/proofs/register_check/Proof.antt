@@ -8,11 +8,11 @@ use Rattle.capi.proofs.register_check.Tie as tie
 check-requires : tie.Need-check-requires
 check-requires c κs = search needs
 
-of-check-requires : tie.Need-of-check-requires
-of-check-requires c κs = search needs
+of-outcome-requires : tie.Need-of-outcome-requires
+of-outcome-requires c κs = search needs
 
 returns : tie.Need-returns
-returns c = c .of-check .ensures ∙ ap codeOf (c .before .check .ensures)
+returns c = c .of-outcome .ensures ∙ ap codeOf (c .before .check .ensures)
 
 pub register-check-spec : {M : Type 1} → statement M
-register-check-spec = tie.close (tie.spec check-requires of-check-requires returns)
+register-check-spec = tie.close (tie.spec check-requires of-outcome-requires returns)

@@ -8,8 +8,8 @@ use Rattle.capi.proofs.register_play.Tie as tie
 play-requires : tie.Need-play-requires
 play-requires c κs = search needs
 
-of-play-requires : tie.Need-of-play-requires
-of-play-requires c κs = search needs
+of-outcome-requires : tie.Need-of-outcome-requires
+of-outcome-requires c κs = search needs
 
 same-length : tie.Need-same-length
 same-length c = search needs
@@ -18,8 +18,8 @@ same-length-2 : tie.Need-same-length-2
 same-length-2 c = search needs
 
 returns : tie.Need-returns
-returns c = rw (c .of-play .ensures) (ap handedBy (c .before .before .before .before .before .play .ensures .0))
+returns c = rw (c .of-outcome .ensures) (ap handedBy (c .before .before .before .before .before .play .ensures .0))
 
 pub register-play-spec : {M : Type 1} → statement M
 register-play-spec =
-    tie.close (tie.spec play-requires of-play-requires same-length same-length-2 returns)
+    tie.close (tie.spec play-requires of-outcome-requires same-length same-length-2 returns)

@@ -6,17 +6,16 @@ use native.Mathlib.Omega.{arith}
 use denote.Ref.{now}
 use lib.ListN.{length}
 use lib.Seq.{length-take-le}
-use Rattle.plan.specs.{Form.widthOf, Check.result}
+use Rattle.plan.specs.{Form.widthOf, Check.result, Numbered.numbered}
 use Rattle.answers.specs.Answers.{answerSize}
-use Rattle.simulator.specs.Numbered.{played}
 use Rattle.rehearse.proofs.RehearseCases.{is-yes, not-no, isNo, play-room, rehearse-refused, rehearse-yes, judge-at}
 use borrow.Author.Needs.{needs}
 use Rattle.rehearse.proofs.rehearse.Statement.{statement}
 use Rattle.rehearse.proofs.rehearse.Tie as tie
 
 -- what Play returned, and so the room that its answers have, in the form's bytes
-result-is : (c : tie.After-size) → played (c .before .before .before .before .before .before .before .before .before .play .result) ≡ result (c .before .before .before .played2 .given .0 .0)
-result-is c = ap played (c .before .before .before .played2 .given .1)
+result-is : (c : tie.After-size) → numbered (c .before .before .before .before .before .before .before .before .before .play .result) ≡ result (c .before .before .before .played2 .given .0 .0)
+result-is c = ap numbered (c .before .before .before .played2 .given .1)
 
 sized : (c : tie.After-size) → c .size .result ≡ answerSize (widthOf (c .before .before .before .before .before .before .before .before .before .before .before .before .before .before .before .args .form))
 sized c = c .size .ensures ∙ ap answerSize (c .before .width .ensures .0)
@@ -78,7 +77,7 @@ same-length-4 c = search needs
 
 returns-2 : tie.Need-returns-2
 unfolding isNo
-returns-2 c = (rehearse-refused _ _ _ _ _ (c .before .before .before .before .before .before .before .play .ensures .0) _ (ap played (c .before .played .given .1)), not-no _ refl)
+returns-2 c = (rehearse-refused _ _ _ _ _ (c .before .before .before .before .before .before .before .play .ensures .0) _ (ap numbered (c .before .played .given .1)), not-no _ refl)
 
 same-length-5 : tie.Need-same-length-5
 same-length-5 c = search needs

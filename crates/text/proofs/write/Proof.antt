@@ -25,8 +25,8 @@ ends : {l o : List ℕ} {r : ℕ} (s : List ℕ) → Stored l 0 (textOf programW
 ends s S = (stored-over S, omega (arith, S .next-is, text-length s))
 
 -- the array of answers has room for the most reads, and the workspace has its bytes
-by-play : (c : tie.After-of-play) → Decided (now (c .before .before .before .before .before .before .before .before .args .plan)) (c .of-play .result) (c .before .before .before .play .last .1 .1 .0)
-by-play c = decided _ _ _ (lit≤ tt) (le-of-eq (sym (length-replicate {A = ℕ} 60000 0))) _ (c .before .before .before .play .ensures .0) _ (c .of-play .ensures)
+by-play : (c : tie.After-of-outcome) → Decided (now (c .before .before .before .before .before .before .before .before .args .plan)) (c .of-outcome .result) (c .before .before .before .play .last .1 .1 .0)
+by-play c = decided _ _ _ (lit≤ tt) (le-of-eq (sym (length-replicate {A = ℕ} 60000 0))) _ (c .before .before .before .play .ensures .0) _ (c .of-outcome .ensures)
 
 slice-aggregate-play : tie.Need-slice-aggregate-play
 slice-aggregate-play c = search needs
@@ -37,8 +37,8 @@ slice-aggregate-play-2 c = search needs
 play-requires : tie.Need-play-requires
 play-requires c κs = search needs
 
-of-play-requires : tie.Need-of-play-requires
-of-play-requires c κs = search needs
+of-outcome-requires : tie.Need-of-outcome-requires
+of-outcome-requires c κs = search needs
 
 slice-aggregate-put-first : tie.Need-slice-aggregate-put-first
 slice-aggregate-put-first c = search needs
@@ -71,7 +71,7 @@ size-requires c κs = search needs
 sized : (c : tie.After-size) → c .size .result ≡ answerSize programWidth
 sized c = c .size .ensures ∙ ap answerSize (c .before .width .ensures .0)
 
-few : (c : tie.After-size) → c .size .result * c .before .before .before .before .before .before .before .before .of-play .result ≤ answerSize programWidth * mostReads
+few : (c : tie.After-size) → c .size .result * c .before .before .before .before .before .before .before .before .of-outcome .result ≤ answerSize programWidth * mostReads
 few c = let e = c .before .before .before .before .before .before .before in rw (sized c) (mul-le-mul-left (answerSize programWidth) (by-play (e .before) .few (e .if1 .left)))
 
 mul-end : tie.Need-mul-end
@@ -84,7 +84,7 @@ slice-aggregate-put-lines : tie.Need-slice-aggregate-put-lines
 slice-aggregate-put-lines c =
     let l = c .before .before in
     let x = l .before .before .before .before .before .before .before .before .before .before .before .play in
-    sym (length-take-le (l .size .result * l .before .before .before .before .before .before .before .before .of-play .result) (x .last .1 .1 .0) (omega (arith, few l, x .kept .1 .1 .0)))
+    sym (length-take-le (l .size .result * l .before .before .before .before .before .before .before .before .of-outcome .result) (x .last .1 .1 .0) (omega (arith, few l, x .kept .1 .1 .0)))
 
 put-lines-requires : tie.Need-put-lines-requires
 put-lines-requires c κs =
@@ -110,7 +110,7 @@ write-spec =
     slice-aggregate-play
     slice-aggregate-play-2
     play-requires
-    of-play-requires
+    of-outcome-requires
     slice-aggregate-put-first
     put-first-requires
     same-length

@@ -1,7 +1,7 @@
--- `of_output` meets its contract: a refusal has its code.
+-- `of_outcome` meets its contract: a refusal has its code.
 use borrow.Author.Needs.{needs}
-use Rattle.codes.proofs.of_output.Statement.{statement}
-use Rattle.codes.proofs.of_output.Tie as tie
+use Rattle.codes.proofs.of_outcome.Statement.{statement}
+use Rattle.codes.proofs.of_outcome.Tie as tie
 
 enum-known-o : tie.Need-enum-known-o
 enum-known-o c = search needs
@@ -18,5 +18,5 @@ returns c = search needs
 returns-2 : tie.Need-returns-2
 returns-2 c = rw (c .refusal .ensures, c .before .before .o2 .given .1)
 
-pub of-output-spec : {M : Type 1} → statement M
-of-output-spec = tie.close (tie.spec enum-known-o enum-known-o-2 refusal-requires returns returns-2)
+pub of-outcome-spec : {M : Type 1} → statement M
+of-outcome-spec = tie.close (tie.spec enum-known-o enum-known-o-2 refusal-requires returns returns-2)
