@@ -255,7 +255,7 @@ fn refuse_option(word: &[u8]) -> Asked
 }
 
 // What the program does with its one argument. What it did is returned.
-pub fn obey(word: &[u8], output: i32) -> Asked
+fn obey(word: &[u8], output: i32) -> Asked
     ensures { λ r. ⌜ r ≡ askedOf (now (word .entry)) ⌝ }
 {
     let asked = asked_of(word);
@@ -267,6 +267,7 @@ pub fn obey(word: &[u8], output: i32) -> Asked
     }
 }
 
+// The plan at standard input.
 fn use_input() -> Source
     ensures { λ r. ⌜ r ≡ Source.Input ⌝ }
 {
@@ -274,7 +275,8 @@ fn use_input() -> Source
     Source::Input
 }
 
-fn use_argument(i: usize) -> Source
+// The plan, or what else is asked for, that argument i names.
+pub fn use_argument(i: usize, output: i32) -> Source
     ensures { λ r. ⌜ r ≡ Source.Argument i ⌝ }
 {
     let mut word = io::buffer();
@@ -283,7 +285,7 @@ fn use_argument(i: usize) -> Source
         fail(b"argument");
         return Source::Argument(i);
     }
-    obey(&word[..length], STDOUT_FILENO);
+    obey(&word[..length], output);
     Source::Argument(i)
 }
 
@@ -301,7 +303,7 @@ fn serve(count: usize) -> Source
     let source = source_of(count);
     match source {
         Source::Input => use_input(),
-        Source::Argument(i) => use_argument(i),
+        Source::Argument(i) => use_argument(i, STDOUT_FILENO),
         Source::Many => refuse_many(),
     }
 }

@@ -37,7 +37,7 @@ fn one(what: &[u8], i: usize, output: i32) {
     let mut word = io::buffer();
     let length = os::arg(i, &mut word);
     begin(what, &word[..length]);
-    console::obey(&word[..length], output);
+    console::use_argument(i, output);
     end();
 }
 
