@@ -8,12 +8,12 @@ use lib.ListN.{getD}
 use Rattle.register.specs.Lists.{anyUpTo}
 use Rattle.calendar.specs.Layout.{slots}
 use Rattle.tables.specs.declared.Links.{Links}
-use Rattle.tables.specs.Links.{delayAt}
-use Rattle.requests.specs.Requests.{parties, reachedBy, SameOutside}
+use Rattle.tables.specs.Links.{linkDelay}
+use Rattle.requests.specs.Requests.{partySlots, reachedBy, SameOutside}
 
 -- party p's request, sent in tick t to all servers, reaches server b in tick s
 unfoldable pub askedBy : List ℕ → Links → ℕ → ℕ → ℕ → ℕ → ℕ → ℕ → Bool
-askedBy plan links n t p s q b = ltb b n && (eqb q p && eqb ((t + delayAt plan links t (n + p) b) % slots) (s % slots))
+askedBy plan links n t p s q b = ltb b n && (eqb q p && eqb ((t + linkDelay plan links t (n + p) b) % slots) (s % slots))
 
 -- the reads from .. to - 1 are in the table, and their readers are parties
 pub record Readers (by : List ℕ) (from to n parties : ℕ) : Type 0 where
@@ -33,5 +33,5 @@ begins begun m t number = ltb (suc number) m && eqb (getD begun (suc number) 0) 
 pub record WroteOn (plan : List ℕ) (links : Links) (n t : ℕ) (begun : List ℕ) (m number r : ℕ) (a b : List ℕ) : Type 0 where
   pub next : r ≡ cond (begins begun m t number) (suc number) number
   pub outside : SameOutside a b
-  pub requests : (s q c : ℕ) → q < parties
+  pub requests : (s q c : ℕ) → q < partySlots
       → reachedBy b s q c ≡ ((not (eqb (s % slots) (t % slots)) && reachedBy a s q c) || (begins begun m t number && askedBy plan links n t 0 s q c))

@@ -41,7 +41,7 @@ unfolding servers Cluster.sentIn Cluster.writesIn Cluster.readsIn Cluster.votesF
 ticks = 0
 
 reads : ℕ
-unfolding ticks Reading.sameRead Reading.replyFrom Reading.forgedTo Reading.noted Reading.notedBy Reading.countIn Reading.best Reading.answerFrom
+unfolding ticks Reading.sameRead Reading.replyFrom Reading.forgedTo Reading.noted Reading.notedBy Reading.countNaming Reading.best Reading.answerFrom
 reads = 0
 
 promises : ℕ

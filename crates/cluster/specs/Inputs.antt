@@ -17,7 +17,7 @@ use Rattle.tables.specs.declared.Rules.{Rules}
 use Rattle.tables.specs.declared.Links.{Links}
 use Rattle.cluster.specs.declared.Arrivals.{Arrivals}
 use Rattle.cluster.specs.declared.Movement.{Movement}
-use Rattle.tables.specs.Links.{delayAt, Linked}
+use Rattle.tables.specs.Links.{linkDelay, Linked}
 
 -- ---- what arrives at one server
 
@@ -51,7 +51,7 @@ pub record Tickable (plan work : List ℕ) (t : ℕ) (rules : Rules) (m : ℕ) (
   pub reply : 1 ≤ rules .reply
   pub linked : Linked plan links (rules .n) (suc t)
   -- what a server sends to another one or to a reader does not arrive in the same tick
-  pub delays : (i q : ℕ) → i < rules .n → q < links .parties → (q ≡ i → ⊥) → (q ≡ rules .n → ⊥) → 1 ≤ delayAt plan links t i q
+  pub delays : (i q : ℕ) → i < rules .n → q < links .parties → (q ≡ i → ⊥) → (q ≡ rules .n → ⊥) → 1 ≤ linkDelay plan links t i q
 
 -- what is handed to tick t is what the plan, whose pairs are g 0, g 1 .., says of it
 pub record Fits (P : Plan) (g : ℕ → ℕ) (t : ℕ) (plan : List ℕ) (rules : Rules) (m : ℕ) (links : Links) (arrivals : Arrivals) (movement : Movement) : Type 0 where
@@ -61,8 +61,8 @@ pub record Fits (P : Plan) (g : ℕ → ℕ) (t : ℕ) (plan : List ℕ) (rules 
   pub echo : rules .echo ≡ echoQuorum P
   pub reply : rules .reply ≡ replyQuorum P
   -- a server sends nothing to itself: its packed delay is 0 there
-  pub delays : (i b : ℕ) → i < P .n → b < P .n → (i ≡ b → ⊥) → delayAt plan links t i b ≡ P .delay t i b
-  pub replies : (i : ℕ) (r : Read) → i < P .n → In r (P .reads) → (P .n + r .reader < links .parties) × (delayAt plan links t i (P .n + r .reader) ≡ P .delay t i (P .n + r .reader))
+  pub delays : (i b : ℕ) → i < P .n → b < P .n → (i ≡ b → ⊥) → linkDelay plan links t i b ≡ P .delay t i b
+  pub replies : (i : ℕ) (r : Read) → i < P .n → In r (P .reads) → (P .n + r .reader < links .parties) × (linkDelay plan links t i (P .n + r .reader) ≡ P .delay t i (P .n + r .reader))
   pub moving : movement .moving ≡ isMove P t
   pub faulty : isMove P t ≡ true → (b : ℕ) → b < P .n → bit (mostServers - 1 - b) (movement .faulty) ≡ P .placed (t / P .period) b
   pub wrote : (b j : ℕ) → b < P .n → j < m → member (g j) (writesIn P t b) ≡ eqb j (wroteAt (arrivals .requests) (arrivals .number) b)

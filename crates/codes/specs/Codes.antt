@@ -70,9 +70,9 @@ pairsOver pairs buffer =
     written ++ drop (length written) buffer
 
 -- the pairs that are shown; a refusal shows none
-abbrev pub pairsOf : Outcome Shown → List Stamped
-pairsOf (refused number) = []
-pairsOf (result shown) = shown .pairs
+abbrev pub shownPairs : Outcome Shown → List Stamped
+shownPairs (refused number) = []
+shownPairs (result shown) = shown .pairs
 
 -- What Look returns as a number, and both lent buffers afterwards.
 pub record Coded : Type 0 where
@@ -81,7 +81,7 @@ pub record Coded : Type 0 where
   pub pairs : List ℕ
 
 abbrev pub codedIn : List ℕ → Looked → Coded
-codedIn pairs x = record { code = shownCode (x .outcome); workspace = x .workspace; pairs = pairsOver (pairsOf (x .outcome)) pairs }
+codedIn pairs x = record { code = shownCode (x .outcome); workspace = x .workspace; pairs = pairsOver (shownPairs (x .outcome)) pairs }
 
 -- Look in a form
 abbrev pub lookCoded : ℕ → List ℕ → List ℕ → ℕ → ℕ → List ℕ → Coded

@@ -19,7 +19,7 @@ use Rattle.register.specs.Lists.{one-if, allUpTo}
 use Rattle.register.proofs.Counting.{one-if-le}
 use Rattle.plan.specs.{Header.Header, Header.parties, Parts.isLink}
 use Rattle.plan.proofs.Laws.{all-same}
-use Rattle.delays.specs.Steps.{allowed, linkStands, rowStands, tickStands, linkBit, needOf, Needed, bitStands, orderStands, firstStand}
+use Rattle.delays.specs.Steps.{delayAllowed, linkStands, rowStands, tickStands, linkMark, needOf, Needed, bitStands, orderStands, firstStand}
 
 -- a delay by its link's bit
 bit-cases : (bit delta d : ℕ) → bit ≤ 1 → d ≤ 15 → Dec (bit ≡ 1) → Dec (d ≡ 0)
@@ -58,25 +58,25 @@ byte-stands need delta x n m h =
     )
     (and-swap (eqb a (need / 16)) (eqb b (need % 16)) (leb (x % 16) delta) (leb (x / 16) delta))
 
-pub link-bit-few : (n p q : ℕ) → linkBit n p q ≤ 1
-unfolding linkBit
-link-bit-few n p q = one-if-le (isLink n (q / p) (q % p))
+pub link-mark-few : (n p q : ℕ) → linkMark n p q ≤ 1
+unfolding linkMark
+link-mark-few n p q = one-if-le (isLink n (q / p) (q % p))
 
 one-if-cond : (b x y : Bool) → cond (eqb (one-if b) 1) x y ≡ cond b x y
 one-if-cond true x y = refl
 one-if-cond false x y = refl
 
-pub link-allowed : (h : Header) (q d : ℕ) → bitStands (linkBit (h .n) (parties h) q) (h .delta) d ≡ allowed h (q / parties h) (q % parties h) d
-unfolding bitStands linkBit
+pub link-allowed : (h : Header) (q d : ℕ) → bitStands (linkMark (h .n) (parties h) q) (h .delta) d ≡ delayAllowed h (q / parties h) (q % parties h) d
+unfolding bitStands linkMark
 link-allowed h q d = one-if-cond (isLink (h .n) (q / parties h) (q % parties h)) _ _
 
-pub need-high : (n p k : ℕ) → needOf n p k / 16 ≡ linkBit n p (2 * k)
+pub need-high : (n p k : ℕ) → needOf n p k / 16 ≡ linkMark n p (2 * k)
 unfolding needOf
-need-high n p k = let a = link-bit-few n p (2 * k) in let b = link-bit-few n p (2 * k + 1) in omega (arith, a, b)
+need-high n p k = let a = link-mark-few n p (2 * k) in let b = link-mark-few n p (2 * k + 1) in omega (arith, a, b)
 
-pub need-low : (n p k : ℕ) → needOf n p k % 16 ≡ linkBit n p (2 * k + 1)
+pub need-low : (n p k : ℕ) → needOf n p k % 16 ≡ linkMark n p (2 * k + 1)
 unfolding needOf
-need-low n p k = let a = link-bit-few n p (2 * k) in let b = link-bit-few n p (2 * k + 1) in omega (arith, a, b)
+need-low n p k = let a = link-mark-few n p (2 * k) in let b = link-mark-few n p (2 * k + 1) in omega (arith, a, b)
 
 all-plus : (g : ℕ → Bool) (a b : ℕ) → allUpTo (a + b) g ≡ allUpTo b (λ j. g (a + j)) && allUpTo a g
 unfolding allUpTo

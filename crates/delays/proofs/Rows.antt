@@ -10,7 +10,7 @@ use Rattle.register.specs.Lists.{allUpTo}
 use Rattle.plan.specs.Header.{Header, parties, forgeryAt}
 use Rattle.plan.specs.Parts.{delayOf}
 use Rattle.plan.specs.Check.{delayStands, delaysStand}
-use Rattle.delays.specs.Steps.{allowed, rowStands, tickStands}
+use Rattle.delays.specs.Steps.{delayAllowed, rowStands, tickStands}
 
 place : (a p t i j : ℕ) → a + 4 * (t * (p * p)) + 4 * (i * p) + 4 * j ≡ a + 4 * ((t * p + i) * p + j)
 place a p t i j =
@@ -23,7 +23,7 @@ module _ (w : ℕ) (s : List ℕ) (h : Header) where
   abbrev pub tickAt : ℕ → ℕ
   tickAt t = forgeryAt w h (h .forgeries) + 4 * (t * (parties h * parties h))
 
-  delay-stands : (t i j : ℕ) → allowed h i j (fieldOf s (tickAt t + 4 * (i * parties h) + 4 * j) 4) ≡ delayStands w s h t i j
+  delay-stands : (t i j : ℕ) → delayAllowed h i j (fieldOf s (tickAt t + 4 * (i * parties h) + 4 * j) 4) ≡ delayStands w s h t i j
   unfolding delayStands delayOf
   delay-stands t i j = rw (place (forgeryAt w h (h .forgeries)) (parties h) t i j)
 

@@ -12,12 +12,12 @@ use Rattle.plan.specs.Parts.{isLink}
 use Rattle.plan.specs.Check.{within}
 
 -- may the link from party i to party j have the delay d
-abbrev pub allowed : Header → ℕ → ℕ → ℕ → Bool
-allowed h i j d = cond (isLink (h .n) i j) (within 1 (h .delta) d) (eqb d 0)
+abbrev pub delayAllowed : Header → ℕ → ℕ → ℕ → Bool
+delayAllowed h i j d = cond (isLink (h .n) i j) (within 1 (h .delta) d) (eqb d 0)
 
 -- the delay from party i to party j, in the row that begins at bit `at`
 abbrev pub linkStands : List ℕ → Header → ℕ → ℕ → ℕ → Bool
-linkStands s h at i j = allowed h i j (fieldOf s (at + delayBits * j) delayBits)
+linkStands s h at i j = delayAllowed h i j (fieldOf s (at + delayBits * j) delayBits)
 
 -- the row of party i
 unfoldable pub rowStands : List ℕ → Header → ℕ → ℕ → Bool
@@ -32,12 +32,12 @@ unfoldable pub tickStands : List ℕ → Header → ℕ → Bool
 tickStands s h at = allUpTo (parties h) (senderStands s h at)
 
 -- delay q of a tick, in the order of its rows: 1 where it is of a link
-unfoldable pub linkBit : ℕ → ℕ → ℕ → ℕ
-linkBit n p q = one-if (isLink n (q / p) (q % p))
+unfoldable pub linkMark : ℕ → ℕ → ℕ → ℕ
+linkMark n p q = one-if (isLink n (q / p) (q % p))
 
 -- the same of delays 2k and 2k + 1, as the two nibbles of a byte
 unfoldable pub needOf : ℕ → ℕ → ℕ → ℕ
-needOf n p k = 16 * linkBit n p (2 * k) + linkBit n p (2 * k + 1)
+needOf n p k = 16 * linkMark n p (2 * k) + linkMark n p (2 * k + 1)
 
 -- of 21 parties at most
 abbrev pub mostPairs : ℕ
@@ -53,7 +53,7 @@ bitStands bit delta d = cond (eqb bit 1) (within 1 delta d) (eqb d 0)
 
 -- delay q of the tick that begins at bit `at`
 abbrev pub orderStands : List ℕ → Header → ℕ → ℕ → Bool
-orderStands s h at q = allowed h (q / parties h) (q % parties h) (fieldOf s (at + delayBits * q) delayBits)
+orderStands s h at q = delayAllowed h (q / parties h) (q % parties h) (fieldOf s (at + delayBits * q) delayBits)
 
 -- its first m delays
 unfoldable pub firstStand : List ℕ → Header → ℕ → ℕ → Bool

@@ -10,7 +10,7 @@ ghost use Rattle.plan.specs.Header.{DelaysIn, parties};
 ghost use Rattle.plan.specs.Parts.{isLink};
 ghost use Rattle.plan.specs.Check.{delaysStand, finalBitsZero};
 ghost use Rattle.plan.specs.Shape.{shape, Sized};
-ghost use Rattle.delays.specs.Steps.{allowed, tickStands, linkBit, needOf, mostPairs, Needed, bitStands, firstStand};
+ghost use Rattle.delays.specs.Steps.{delayAllowed, tickStands, linkMark, needOf, mostPairs, Needed, bitStands, firstStand};
 
 // The pairs of delays in a tick of the most parties: half of 21 times 21.
 const MOST_PAIRS: usize = 220;
@@ -22,7 +22,7 @@ fn is_link(n: usize, i: usize, j: usize) -> bool
 }
 
 fn is_allowed(h: Shape, i: usize, j: usize, delay: u8) -> bool
-    ensures { λ r. ⌜ r ≡ allowed (shape h) i j delay ⌝ }
+    ensures { λ r. ⌜ r ≡ delayAllowed (shape h) i j delay ⌝ }
 {
     if is_link(h.n as usize, i, j) {
         is_within(1, h.delta, delay)
@@ -32,9 +32,9 @@ fn is_allowed(h: Shape, i: usize, j: usize, delay: u8) -> bool
 }
 
 // 1 where delay q of a tick is of a link.
-fn link_bit(n: usize, parties: usize, q: usize) -> u8
+fn link_mark(n: usize, parties: usize, q: usize) -> u8
     requires { ⌜ 1 ≤ parties ⌝ }
-    ensures { λ r. ⌜ (r ≡ linkBit n parties q) × (r ≤ 1) ⌝ }
+    ensures { λ r. ⌜ (r ≡ linkMark n parties q) × (r ≤ 1) ⌝ }
 {
     if is_link(n, q / parties, q % parties) {
         1
@@ -48,7 +48,7 @@ fn need_of(n: usize, parties: usize, k: usize) -> u8
     requires { ⌜ (1 ≤ parties) × (k < 2 ^ 60) ⌝ }
     ensures { λ r. ⌜ r ≡ needOf n parties k ⌝ }
 {
-    16 * link_bit(n, parties, 2 * k) + link_bit(n, parties, 2 * k + 1)
+    16 * link_mark(n, parties, 2 * k) + link_mark(n, parties, 2 * k + 1)
 }
 
 // These bytes for a tick.

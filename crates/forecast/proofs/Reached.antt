@@ -19,7 +19,7 @@ use Rattle.limits.specs.Limits.{mostServers}
 use Rattle.limits.specs.Bits.{bit}
 use Rattle.tables.specs.Sending.{arrivalOf, Sent}
 use Rattle.tables.specs.declared.Links.{Links}
-use Rattle.tables.specs.Links.{linkBit, delayAt, Linked}
+use Rattle.tables.specs.Links.{linkBit, linkDelay, Linked}
 use Rattle.tables.proofs.LinkLaws.{link-at}
 use Rattle.tables.specs.Rules.{LinksOf}
 use Rattle.tables.proofs.Placing.{table, link-delay, placed-bit}
@@ -44,7 +44,7 @@ module _ (w : ℕ) (s : List ℕ) (A : Playable w s) (links : Links) (L : LinksO
   linked narrow u below = rw servers (table w s A links L narrow (u + 1) (omega arith))
 
   module _ (u : ℕ) (below : u + headerOf w s .delta < headerOf w s .ticks) where
-    arrives : (b : ℕ) → b < n → u + delayAt s links u n b ≡ reachedIn (planOf w s) u b
+    arrives : (b : ℕ) → b < n → u + linkDelay s links u n b ≡ reachedIn (planOf w s) u b
     unfolding planOf
     arrives b l = rw servers (ap (λ d. u + d) (link-delay w s A links L u (headerOf w s .n) b (omega arith) (omega arith) (omega arith) (to-server (headerOf w s .n) b (omega arith))))
 

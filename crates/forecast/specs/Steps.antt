@@ -14,9 +14,9 @@ use Rattle.plan.specs.Header.{Header, placementBits, placementAt}
 use Rattle.limits.specs.Limits.{mostServers}
 use Rattle.limits.specs.Bits.{bit}
 use Rattle.tables.specs.declared.Links.{Links}
-use Rattle.tables.specs.Links.{delayAt}
+use Rattle.tables.specs.Links.{linkDelay}
 use Rattle.tables.specs.Operations.{noWrite}
-use Rattle.tables.specs.Forged.{forgedAt, delayOf}
+use Rattle.tables.specs.Forged.{forgedAt, forgedDelay}
 
 -- the most ticks of a plan; those in which what is sent in them can arrive, since no delay is over 15
 abbrev pub mostTicks : ℕ
@@ -32,7 +32,7 @@ pub record InForce (w : ℕ) (s : List ℕ) (h : Header) (i : ℕ) (table : List
 
 -- how many of n servers are not in the placement of the tick before the one in which the WRITE of tick u reaches them
 unfoldable pub receiptsBy : List ℕ → Links → ℕ → List ℕ → ℕ → ℕ
-receiptsBy plan links n placements u = count (λ b. not (bit (mostServers - 1 - b) (getD placements (u + delayAt plan links u n b - 1) 0))) n
+receiptsBy plan links n placements u = count (λ b. not (bit (mostServers - 1 - b) (getD placements (u + linkDelay plan links u n b - 1) 0))) n
 
 -- the receipts of all writes by servers that are not faulty then
 unfoldable pub allReceipts : Plan → ℕ
@@ -44,7 +44,7 @@ mostReceipts = 64 * 16
 
 -- the tick in which forged message e of those from bit `at` on arrives
 abbrev pub arrivalAt : ℕ → List ℕ → ℕ → List ℕ → Links → ℕ → ℕ
-arrivalAt w part at plan links e = let g : Forgery = forgedAt w part at e in g .at + delayOf plan links g
+arrivalAt w part at plan links e = let g : Forgery = forgedAt w part at e in g .at + forgedDelay plan links g
 
 -- a table has how many of the first i arrive in each tick
 pub record Arrived (arrival : ℕ → ℕ) (i : ℕ) (table : List ℕ) : Type 0 where

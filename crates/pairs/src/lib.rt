@@ -9,7 +9,7 @@ ghost use lib.Seq.{sets};
 ghost use Rattle.plan.specs.Form.{mostWidth};
 ghost use Rattle.plan.specs.Packed.{storeDepth};
 ghost use Rattle.simulator.specs.Numbered.{looked, shownIn};
-ghost use Rattle.codes.specs.Codes.{shownCode, pairSize, ThreeBytes, pairBytes, pairsOf, pairsOver, lookCoded};
+ghost use Rattle.codes.specs.Codes.{shownCode, pairSize, ThreeBytes, pairBytes, shownPairs, pairsOver, lookCoded};
 use codes::REFUSED;
 use codes::of_seen;
 use limits::DEPTH;
@@ -71,7 +71,7 @@ fn put_pairs(out: &mut [u8], places: [Place; DEPTH]) -> usize
 // What Look returned: the condition and PER_PAIR for each pair. As many whole pairs as fit stand at the start of `pairs`; a refusal writes none.
 fn of_look(l: Looked, pairs: &mut [u8]) -> usize
     requires { ⌜ ThreeBytes (l .places) ⌝ }
-    ensures { λ r. ⌜ (r ≡ shownCode (looked l)) × (now (pairs .exit) ≡ pairsOver (pairsOf (looked l)) (now (pairs .entry))) ⌝ }
+    ensures { λ r. ⌜ (r ≡ shownCode (looked l)) × (now (pairs .exit) ≡ pairsOver (shownPairs (looked l)) (now (pairs .entry))) ⌝ }
 {
     let seen = l.seen;
     let code = of_seen(seen);

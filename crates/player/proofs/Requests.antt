@@ -10,7 +10,7 @@ use Rattle.register.specs.Plan.{Read}
 use Rattle.register.proofs.{Logic.T-iff, Logic.and-l, Logic.and-r, Logic.and-i, Counting.anyUpTo-e, Counting.anyUpTo-i, Lists.any-in, Lists.in-any}
 use Rattle.plan.{specs.Parts.isLink, specs.Header.headerOf, specs.Packed.planOf, proofs.AcceptGood.good, proofs.AcceptGood.delay-range, proofs.AcceptReads.read-stands}
 use Rattle.calendar.proofs.Spans.{own-rows}
-use Rattle.tables.specs.Links.{delayAt}
+use Rattle.tables.specs.Links.{linkDelay}
 use Rattle.requests.specs.Requests.{reachedBy, Asked}
 use Rattle.states.{specs.Requests.readReaches, specs.Requests.Requested, specs.Requests.writeBegins, specs.Requests.readBegins, proofs.RequestLaws.requested-next, proofs.RequestLaws.same-arrival}
 use Rattle.script.specs as script-specs
@@ -24,7 +24,7 @@ use Rattle.player.proofs as player-laws
 
 module _ (s : List ℕ) (r : script-specs.declared.Script.Script) (R : Decoded s r) (t : ℕ) (below : t < r .shape .ticks) where
   -- the delay of a request is the plan's, and of 16 ticks each has its own rows
-  delay-same : (p b : ℕ) → p ≤ headerOf (widthIn r) s .readers → b < planOf (widthIn r) s .n → delayAt s (r .links) t (r .rules .n + p) b ≡ planOf (widthIn r) s .delay t (planOf (widthIn r) s .n + p) b
+  delay-same : (p b : ℕ) → p ≤ headerOf (widthIn r) s .readers → b < planOf (widthIn r) s .n → linkDelay s (r .links) t (r .rules .n + p) b ≡ planOf (widthIn r) s .delay t (planOf (widthIn r) s .n + p) b
   unfolding planOf isLink
   delay-same p b h l =
       rw (R .scripted .rules .n) (tables-laws.Placing.link-delay (widthIn r) s (R .playable) (r .links) (R .scripted .links) t (headerOf (widthIn r) s .n + p) b

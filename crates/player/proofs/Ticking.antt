@@ -21,7 +21,7 @@ use Rattle.script.{specs.declared.Script.Script, specs.Script.widthIn, specs.In
 use Rattle.reading.proofs.Answered.{answered}
 use Rattle.reading.specs.Reading.{Until, readAt, chosenBytes, placed, begunBy, SetUp}
 use Rattle.reading.proofs.Cursors.{placed-same, begun-size, begun-other, begun-there}
-use Rattle.player.specs.Run.{Decoded, FedBy, answerIn}
+use Rattle.player.specs.Run.{Decoded, FedBy, answerPart}
 use Rattle.player.proofs as player-laws
 use Rattle.player.proofs.Tables.{knows, delta-same, listed, in-table, reader-range, not-before}
 
@@ -63,7 +63,7 @@ module _ (s : List ℕ) (r : Script) (R : Decoded s r) where
           omega (arith, not-before s r R (t - 2 * r .rules .delta) k i U a (omega (arith, W .few)), W .below i (omega arith) b, (delta-same s r R))
 
       answer-same : (i : ℕ) → i < r .reads .m → t ≡ readEnd (planOf (widthIn r) s) (readAt (r .reads) i)
-          → chosenBytes (widthIn r) then (r .reads) (r .writes .known) (r .rules .reply) i ≡ answerIn (widthIn r) s i
+          → chosenBytes (widthIn r) then (r .reads) (r .writes .known) (r .rules .reply) i ≡ answerPart (widthIn r) s i
       answer-same i l e =
           let q = readAt (r .reads) i in
           let a = answered (planOf (widthIn r) s) (tables-specs.Known.pairAt (widthIn r) (r .writes .known)) (r .writes .known .m) (good (widthIn r) s (R .playable)) (knows s r R) q (λ j k. holds then (ofReader (getD (r .reads .reader) i 0 - 1) + j) k)
@@ -71,9 +71,9 @@ module _ (s : List ℕ) (r : Script) (R : Decoded s r) where
           rw (R .scripted .reads .each i l, fits .reply, a)
 
       pub answers-are : (k k′ : ℕ) (answers : List ℕ) → Until (r .reads .begun) (r .reads .m) 0 (t - 2 * r .rules .delta) k → Until (r .reads .begun) (r .reads .m) 0 (t + 1 - 2 * r .rules .delta) k′ → k ≤ k′
-          → placed (widthIn r) (chosenBytes (widthIn r) then (r .reads) (r .writes .known) (r .rules .reply)) k (k′ - k) answers ≡ placed (widthIn r) (answerIn (widthIn r) s) k (k′ - k) answers
+          → placed (widthIn r) (chosenBytes (widthIn r) then (r .reads) (r .writes .known) (r .rules .reply)) k (k′ - k) answers ≡ placed (widthIn r) (answerPart (widthIn r) s) k (k′ - k) answers
       answers-are k k′ answers U W h =
-          placed-same (widthIn r) _ (answerIn (widthIn r) s) k (k′ - k) answers (λ i a b. answer-same i (omega (arith, W .few)) (ends-now k k′ i U W a (omega arith)))
+          placed-same (widthIn r) _ (answerPart (widthIn r) s) k (k′ - k) answers (λ i a b. answer-same i (omega (arith, W .few)) (ends-now k k′ i U W a (omega arith)))
 
       -- ---- the reads that begin
 

@@ -18,7 +18,7 @@ use Rattle.answers.specs.Answers.{answerSize, answersFor, answersOf}
 use Rattle.reading.specs.Reading.{placed}
 use Rattle.reading.proofs.Cursors.{until-none, placed-none, placed-on}
 use Rattle.player.specs as player-specs
-use Rattle.player.specs.Run.{Decoded, Ready, PlayedTo, Fresh, answerIn, Went}
+use Rattle.player.specs.Run.{Decoded, Ready, PlayedTo, Fresh, answerPart, Went}
 use Rattle.player.proofs as player-laws
 use Rattle.player.proofs.Shown.{pairs-are}
 
@@ -55,7 +55,7 @@ module _ (s : List ℕ) (r : script-specs.declared.Script.Script) where
     kept = record { size = refl; behind = λ k l. refl };
     played = L;
     ordered = omega arith;
-    answers = placed-none (widthIn r) (answerIn (widthIn r) s) (p .answered) answers;
+    answers = placed-none (widthIn r) (answerPart (widthIn r) s) (p .answered) answers;
   }
 
   pub went-on : (work now work₁ sets here sets₁ answers then answers₁ : List ℕ) (p q z : player-specs.declared.Playing.Playing) → Went s work now sets here answers then r p q
@@ -67,18 +67,18 @@ module _ (s : List ℕ) (r : script-specs.declared.Script.Script) where
         kept = behind-trans work now work₁ (A .kept) (W .kept);
         played = W .played;
         ordered = omega (arith, A .ordered, W .ordered);
-        answers = W .answers ∙ rw (A .answers) (rw (from, all) at (placed-on (widthIn r) (answerIn (widthIn r) s) (p .answered) (q .answered - p .answered) (z .answered - q .answered) answers));
+        answers = W .answers ∙ rw (A .answers) (rw (from, all) at (placed-on (widthIn r) (answerPart (widthIn r) s) (p .answered) (q .answered - p .answered) (z .answered - q .answered) answers));
       }
 
 -- the answers of the first reads, placed one by one
 all-placed : (w : ℕ) (s b : List ℕ) (i : ℕ) → i ≤ length (planOf w s .reads)
-    → placed w (answerIn w s) 0 i b ≡ answersFor w (planOf w s) (take i (planOf w s .reads)) ++ drop (answerSize w * i) b
+    → placed w (answerPart w s) 0 i b ≡ answersFor w (planOf w s) (take i (planOf w s .reads)) ++ drop (answerSize w * i) b
 unfolding placed answersFor
 all-placed w s b zero h = rw (mul-zero (answerSize w))
 all-placed w s b (suc i) h =
     let z : 0 + i ≡ i = omega arith in
     rw (z, ← add-one i)
-    (player-laws.Buffers.answers-more w (planOf w s) (planOf w s .reads) b (placed w (answerIn w s) 0 i b) i tables-specs.Operations.noRead (omega arith)
+    (player-laws.Buffers.answers-more w (planOf w s) (planOf w s .reads) b (placed w (answerPart w s) 0 i b) i tables-specs.Operations.noRead (omega arith)
     (all-placed w s b i (omega arith)))
 
 module _ (s before after started : List ℕ) (r : script-specs.declared.Script.Script) (w : ℕ) (at : plan-specs.Playable.Playable w s) (room : answers-specs.Workspace.workspaceSize ≤ length before)
@@ -146,7 +146,7 @@ module _ (s before after started : List ℕ) (r : script-specs.declared.Script.S
         let k = all-answered e in
         let none : first .answered ≡ 0 = ap (λ (x : player-specs.declared.Playing.Playing). x .answered) (fresh .first) in
         let all : p .answered - 0 ≡ p .answered = omega arith in
-        let whole : answers₁ ≡ placed (widthIn r) (answerIn (widthIn r) s) 0 (p .answered) answers = rw (none, all) at (W .answers) in
+        let whole : answers₁ ≡ placed (widthIn r) (answerPart (widthIn r) s) 0 (p .answered) answers = rw (none, all) at (W .answers) in
         rw (← read .1)
         (record {
           answers = rw (← k) (rw (take-all (p .answered) (planOf (widthIn r) s .reads) (omega arith)) at (whole ∙ all-placed (widthIn r) s answers (p .answered) (omega arith)));

@@ -56,15 +56,15 @@ pub record PlayedTo (s work sets : List ℕ) (r : Script) (p : Playing) : Type 0
   pub answered : Until (r .reads .begun) (r .reads .m) 0 (p .tick - 2 * r .rules .delta) (p .answered)
 
 -- the bytes of the answer of read i
-abbrev pub answerIn : ℕ → List ℕ → ℕ → List ℕ
-answerIn w s i = answerBytes w (getD (planOf w s .reads) i noRead) (answerOf (planOf w s) (getD (planOf w s .reads) i noRead))
+abbrev pub answerPart : ℕ → List ℕ → ℕ → List ℕ
+answerPart w s i = answerBytes w (getD (planOf w s .reads) i noRead) (answerOf (planOf w s) (getD (planOf w s .reads) i noRead))
 
 -- the ticks from p on are played up to q: the workspace past the calendar and the requests stays, and the reads that end in them are answered
 pub record Went (s work₀ work₁ sets₀ sets₁ answers₀ answers₁ : List ℕ) (r : Script) (p q : Playing) : Type 0 where
   pub kept : SameBehind work₀ work₁
   pub played : PlayedTo s work₁ sets₁ r q
   pub ordered : p .answered ≤ q .answered
-  pub answers : answers₁ ≡ placed (widthIn r) (answerIn (widthIn r) s) (p .answered) (q .answered - p .answered) answers₀
+  pub answers : answers₁ ≡ placed (widthIn r) (answerPart (widthIn r) s) (p .answered) (q .answered - p .answered) answers₀
 
 -- nothing is under way before the first tick
 pub record Fresh (work₀ work₁ : List ℕ) (r : Script) (p : Playing) : Type 0 where

@@ -12,7 +12,7 @@ use borrow.Author.Tests.{le-leb, lt-leb}
 use Rattle.register.specs.Lists.{count, filter}
 use Rattle.register.specs.Plan.{Plan, Read, replyQuorum, readEnd}
 use Rattle.register.specs.Server.{Claim, has, pairsOf}
-use Rattle.register.specs.Reading.{Answer, notedBy, countIn, countOf, best, answerFrom, answerOf}
+use Rattle.register.specs.Reading.{Answer, notedBy, countNaming, countOf, best, answerFrom, answerOf}
 use Rattle.register.proofs as register-laws
 use Rattle.register.proofs.Good.{Good}
 use Rattle.register.proofs.ReadSafety.{quorum-genuine, answer-from}
@@ -65,9 +65,9 @@ filter-none f [] none = refl
 filter-none f (p ∷ l) none = register-laws.Logic.cond-e (λ (x : List ℕ). x ≡ []) (f p) (p ∷ filter f l) (filter f l) (λ t. absurd (none p t)) (λ t. filter-none f l none)
 
 -- no pair has a quorum: there is no answer
-no-answer : (P : Plan) (cs : List Claim) → ((p : ℕ) → replyQuorum P ≤ countIn P cs p → ⊥) → answerFrom P cs ≡ record { pair = 0; count = 0 }
+no-answer : (P : Plan) (cs : List Claim) → ((p : ℕ) → replyQuorum P ≤ countNaming P cs p → ⊥) → answerFrom P cs ≡ record { pair = 0; count = 0 }
 unfolding answerFrom best
-no-answer P cs none = rw (filter-none (λ p. leb (replyQuorum P) (countIn P cs p)) (pairsOf cs) (λ p t. none p (leb→le (replyQuorum P) (countIn P cs p) t)))
+no-answer P cs none = rw (filter-none (λ p. leb (replyQuorum P) (countNaming P cs p)) (pairsOf cs) (λ p t. none p (leb→le (replyQuorum P) (countNaming P cs p) t)))
 
 both-parts : (a : Answer) (p c : ℕ) → a .pair ≡ p → a .count ≡ c → a ≡ record { pair = p; count = c }
 both-parts a p c e d = rw (← e, ← d)
@@ -104,7 +104,7 @@ module _ (P : Plan) (g : ℕ → ℕ) (m : ℕ) (G : Good P) (K : Knows P g m) (
 module _ (P : Plan) (g : ℕ → ℕ) (m : ℕ) (G : Good P) (K : Knows P g m) (r : Read) (named : ℕ → ℕ → Bool)
     (noted : (j i : ℕ) → j < m → named j i ≡ (ltb i (P .n) && has (notedBy P r) (g j) i)) where
   counted-same : (j : ℕ) → j < m → votes named j ≡ countOf P r (g j)
-  unfolding votes countIn
+  unfolding votes countNaming
   counted-same j l =
       register-laws.Counting.count-cong (named j) (λ i. ltb i (P .n) && has (notedBy P r) (g j) i) 16 (λ i _. noted j i l)
       ∙ count-cut (λ i. has (notedBy P r) (g j) i) (P .n) 16 (K .servers)

@@ -11,7 +11,7 @@ use Rattle.register.specs.Lists.{flat, any, In}
 use Rattle.register.specs.Plan.{Read, Plan, replyQuorum, readEnd}
 use Rattle.register.specs.Server.{isCorrect, claimOf, has}
 use Rattle.register.specs.Cluster.{Log, sentIn, cluster}
-use Rattle.register.specs.Reading.{sameRead, replyFrom, forgedTo, noted, notedBy, countIn, countOf}
+use Rattle.register.specs.Reading.{sameRead, replyFrom, forgedTo, noted, notedBy, countNaming, countOf}
 use Rattle.register.proofs.Logic.{and-i, cond-t}
 use Rattle.register.proofs.Lists.{in-left, in-any, flat-in, map-in}
 use Rattle.register.proofs as register-laws
@@ -107,7 +107,7 @@ module _ (P : Plan) (G : Good P) (r : Read) where
         register-laws.Claims.in-has (notedBy P r) p b (reply-noted b g p l (omega arith) asked with-p)
 
     pub many-name : Enough P → replyQuorum P ≤ countOf P r p
-    unfolding countIn
+    unfolding countNaming
     many-name E =
         let enough : replyQuorum P + (1 + 1) * P .f ≤ P .n = omega (arith, E) in
         omega (arith, many-outside P G atReply 1, register-laws.Counting.count-mono (λ b. not (near P atReply 1 b)) (λ i. has (notedBy P r) p i) (P .n) names)

@@ -11,7 +11,7 @@ use Rattle.register.specs.Lists.{flat, any, filter, In}
 use Rattle.register.specs.Plan.{Read, Forgery, Plan, kk, replyQuorum, readEnd}
 use Rattle.register.specs.Server.{Claim, claimOf, has, pairsOf}
 use Rattle.register.specs.Cluster.{sentIn, cluster}
-use Rattle.register.specs.Reading.{sameRead, replyFrom, forgedTo, noted, notedBy, countIn, countOf, best, answerFrom, answerOf}
+use Rattle.register.specs.Reading.{sameRead, replyFrom, forgedTo, noted, notedBy, countNaming, countOf, best, answerFrom, answerOf}
 use Rattle.register.specs.Regular.{hasBegun}
 use Rattle.register.proofs.Logic.{and-l, and-r, test}
 use Rattle.register.proofs.Lists.{in-append, in-filter, filter-in, in-flat, in-map, highest-in, highest-le, highest-all}
@@ -89,7 +89,7 @@ module _ (P : Plan) (G : register-laws.Good.Good P) (r : Read) where
       go c e d (inr k) = near-in P (lastPlacement P r) (kk P) i (rw d at k)
 
   pub few-name : (p : ℕ) → (Genuine P (readEnd P r) p → ⊥) → countOf P r p ≤ (kk P + 1) * P .f
-  unfolding countIn
+  unfolding countNaming
   few-name p never =
       omega (
         arith,
@@ -106,31 +106,31 @@ module _ (P : Plan) (G : register-laws.Good.Good P) (r : Read) where
 -- the pairs of the list that have a quorum, and the answer among them
 module _ (P : Plan) (cs : List Claim) where
   enough? : ℕ → Bool
-  enough? p = leb (replyQuorum P) (countIn P cs p)
+  enough? p = leb (replyQuorum P) (countNaming P cs p)
 
   quorums : List ℕ
   quorums = filter enough? (pairsOf cs)
 
-  in-quorums : (p : ℕ) → replyQuorum P ≤ countIn P cs p → In p quorums
-  unfolding quorums enough? countIn
-  in-quorums p h = filter-in enough? p (pairsOf cs) (counted-named cs (P .n) p (omega arith)) (le→leb (replyQuorum P) (countIn P cs p) h)
+  in-quorums : (p : ℕ) → replyQuorum P ≤ countNaming P cs p → In p quorums
+  unfolding quorums enough? countNaming
+  in-quorums p h = filter-in enough? p (pairsOf cs) (counted-named cs (P .n) p (omega arith)) (le→leb (replyQuorum P) (countNaming P cs p) h)
 
   best-top : (p : ℕ) (l : List ℕ) → In p l
-      → (p ≤ best P cs l .pair) × In (best P cs l .pair) l × (best P cs l .count ≡ countIn P cs (best P cs l .pair))
+      → (p ≤ best P cs l .pair) × In (best P cs l .pair) l × (best P cs l .count ≡ countNaming P cs (best P cs l .pair))
   unfolding best
   best-top p [] i = absurd i
   best-top p (x ∷ l) (inl e) = (omega (arith, highest-le x l), highest-in x l, refl)
   best-top p (x ∷ l) (inr i) = (highest-all x l p i, highest-in x l, refl)
 
   -- where some pair has a quorum, the answer has one, says its count, and is the highest such pair
-  pub answer-from : (p : ℕ) → replyQuorum P ≤ countIn P cs p
-      → (p ≤ answerFrom P cs .pair) × (answerFrom P cs .count ≡ countIn P cs (answerFrom P cs .pair))
+  pub answer-from : (p : ℕ) → replyQuorum P ≤ countNaming P cs p
+      → (p ≤ answerFrom P cs .pair) × (answerFrom P cs .count ≡ countNaming P cs (answerFrom P cs .pair))
       × (replyQuorum P ≤ answerFrom P cs .count)
   unfolding answerFrom quorums enough?
   answer-from p h =
       let b = best-top p quorums (in-quorums p h) in
       let q = best P cs quorums .pair in
-      let e = leb→le (replyQuorum P) (countIn P cs q) (in-filter enough? q (pairsOf cs) (b .1) .1) in
+      let e = leb→le (replyQuorum P) (countNaming P cs q) (in-filter enough? q (pairsOf cs) (b .1) .1) in
       (b .0, b .2, omega (arith, b .2))
 
 pub answer-top : (P : Plan) (r : Read) (p : ℕ) → replyQuorum P ≤ countOf P r p → p ≤ answerOf P r .pair

@@ -35,13 +35,13 @@ unfoldable pub notedBy : Plan → Read → List Claim
 notedBy P r = noted P (cluster P (readEnd P r) .log) r
 
 -- how many different servers named p
-unfoldable pub countIn : Plan → List Claim → ℕ → ℕ
-countIn P cs p = count (λ i. has cs p i) (P .n)
+unfoldable pub countNaming : Plan → List Claim → ℕ → ℕ
+countNaming P cs p = count (λ i. has cs p i) (P .n)
 
 -- 'The count of a pair in a read is how many different boxes, held ones among them, have had an answer to that read naming the pair
 -- arrive by that end'
 abbrev pub countOf : Plan → Read → ℕ → ℕ
-countOf P r p = countIn P (notedBy P r) p
+countOf P r p = countNaming P (notedBy P r) p
 
 pub record Answer : Type 0 where
   pub pair : ℕ
@@ -50,11 +50,11 @@ pub record Answer : Type 0 where
 -- of the pairs that reach the needed count, the highest; 0, 0, 0 where there is none
 unfoldable pub best : Plan → List Claim → List ℕ → Answer
 best P cs [] = record { pair = 0; count = 0 }
-best P cs (p ∷ ps) = let top : ℕ = highest p ps in record { pair = top; count = countIn P cs top }
+best P cs (p ∷ ps) = let top : ℕ = highest p ps in record { pair = top; count = countNaming P cs top }
 
 -- 'Its answer is the pair of highest number (equal: higher cue) named by (k+1)f+1 different boxes; the answer's count is how many named it.'
 unfoldable pub answerFrom : Plan → List Claim → Answer
-answerFrom P cs = best P cs (filter (λ p. leb (replyQuorum P) (countIn P cs p)) (pairsOf cs))
+answerFrom P cs = best P cs (filter (λ p. leb (replyQuorum P) (countNaming P cs p)) (pairsOf cs))
 
 abbrev pub answerOf : Plan → Read → Answer
 answerOf P r = answerFrom P (notedBy P r)

@@ -7,7 +7,7 @@ use lib.Dec.{leb}
 use Rattle.register.specs.Lists.{distinct, highest}
 use Rattle.register.specs.Plan.{Plan, echoQuorum, replyQuorum}
 use Rattle.register.specs.Server.{Claim, has, pairsOf, quorum, votedIn}
-use Rattle.register.specs.Reading.{countIn, best, answerFrom}
+use Rattle.register.specs.Reading.{countNaming, best, answerFrom}
 use Rattle.register.proofs.Counting.{count-cong}
 use Rattle.register.proofs.Rising.{eqb-rising}
 use Rattle.renaming.specs.Renaming.{Rising, renamedClaim, renamedAnswer, renamedPlan}
@@ -42,8 +42,8 @@ module _ (φ : ℕ → ℕ) (rising : Rising φ) where
         rw (← map-append (renamedClaim φ) fresh old, pairs-renamed (fresh ++ old))
         (filter-map φ _ (quorum P fresh old) (quorum-renamed fresh old) (pairsOf (fresh ++ old)))
 
-    pub named-renamed : (cs : List Claim) (p : ℕ) → countIn (renamedPlan φ P) (map (renamedClaim φ) cs) (φ p) ≡ countIn P cs p
-    unfolding countIn
+    pub named-renamed : (cs : List Claim) (p : ℕ) → countNaming (renamedPlan φ P) (map (renamedClaim φ) cs) (φ p) ≡ countNaming P cs p
+    unfolding countNaming
     named-renamed cs p = count-cong _ _ (P .n) (λ i l. has-renamed cs p i)
 
     -- with no pair the answer names 0, so the renaming has to keep 0
@@ -58,6 +58,6 @@ module _ (φ : ℕ → ℕ) (rising : Rising φ) where
     chosen-renamed keeps cs =
         rw (
           pairs-renamed cs,
-          filter-map φ _ (λ p. leb (replyQuorum P) (countIn P cs p)) (λ p. ap (leb (replyQuorum P)) (named-renamed cs p)) (pairsOf cs),
+          filter-map φ _ (λ p. leb (replyQuorum P) (countNaming P cs p)) (λ p. ap (leb (replyQuorum P)) (named-renamed cs p)) (pairsOf cs),
         )
         (best-renamed keeps cs _)

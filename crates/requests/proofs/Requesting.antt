@@ -18,7 +18,7 @@ use Rattle.calendar.specs.View.{SamePast, Spanned, Empty, Zeroed}
 use Rattle.tables.specs.Sending.{arrivalOf}
 use Rattle.calendar.proofs.Laws as laws
 use Rattle.limits.proofs as limits-laws
-use Rattle.requests.specs.Requests.{parties, requestsAt, requestsEnd, requestWord, reachedBy, askedFirst, SameBehind, SameOutside, Asked, Taken, Unasked}
+use Rattle.requests.specs.Requests.{partySlots, requestsAt, requestsEnd, requestWord, reachedBy, askedFirst, SameBehind, SameOutside, Asked, Taken, Unasked}
 
 -- ---- bytes that stay
 
@@ -44,7 +44,7 @@ past-requests a b S t p c =
 pub asked-none : (a : List ℕ) (g : ℕ → ℕ → ℕ → Bool) → ((t p b : ℕ) → g t p b ≡ false) → Asked a a g
 asked-none a g none = record { outside = outside-none a; requests = λ t p b l. rw (none t p b) (sym (or-false (reachedBy a t p b))) }
 
-pub asked-eq : (a r : List ℕ) (g h : ℕ → ℕ → ℕ → Bool) → Asked a r g → ((t p b : ℕ) → p < parties → g t p b ≡ h t p b) → Asked a r h
+pub asked-eq : (a r : List ℕ) (g h : ℕ → ℕ → ℕ → Bool) → Asked a r g → ((t p b : ℕ) → p < partySlots → g t p b ≡ h t p b) → Asked a r h
 asked-eq a r g h A e = record { outside = A .outside; requests = λ t p b l. A .requests t p b l ∙ rw (e t p b l) }
 
 pub asked-trans : (a b c : List ℕ) (g h : ℕ → ℕ → ℕ → Bool) → Asked a b g → Asked b c h → Asked a c (λ t p i. g t p i || h t p i)
@@ -55,10 +55,10 @@ asked-trans a b c g h A B = record {
 
 -- ---- a request is posted
 
-same-request : (t q u p : ℕ) → q < parties → p < parties → eqb (requestWord t q) (requestWord u p) ≡ eqb q p && eqb (u % 16) (t % 16)
+same-request : (t q u p : ℕ) → q < partySlots → p < partySlots → eqb (requestWord t q) (requestWord u p) ≡ eqb q p && eqb (u % 16) (t % 16)
 same-request t q u p hq hp = laws.eqb-both (requestWord t q) (requestWord u p) q p (u % 16) (t % 16) (λ e. (omega arith, omega arith)) (λ d e. omega arith)
 
-module _ (s : Sending) (p : ℕ) (hp : p < parties) where
+module _ (s : Sending) (p : ℕ) (hp : p < partySlots) where
   pub asked-first : (a : List ℕ) → Asked a a (askedFirst s p 0)
   asked-first a = asked-none a _ (λ t q b. rw (le-ltb b 0 (omega arith)))
 
@@ -105,22 +105,22 @@ zeroed-outside a r from to h l Z = record {
 }
 
 -- the words of a tick are zeroed
-pub taken : (a r : List ℕ) (t from : ℕ) → from ≡ 2 * requestWord t 0 → Zeroed a r from (from + 2 * parties) → Taken a r t
+pub taken : (a r : List ℕ) (t from : ℕ) → from ≡ 2 * requestWord t 0 → Zeroed a r from (from + 2 * partySlots) → Taken a r t
 taken a r t from d Z = record {
-  outside = zeroed-outside a r from (from + 2 * parties) (omega arith) (omega arith) Z;
+  outside = zeroed-outside a r from (from + 2 * partySlots) (omega arith) (omega arith) Z;
   requests = λ u p b l. elim (ℕ-discrete (u % 16) (t % 16)) [
-    | yes e ↦ rw (eq-eqb (u % 16) (t % 16) e, laws.zeroed-word a r from (from + 2 * parties) (requestWord u p) (omega arith) (omega arith) Z) (limits-laws.Bits.bit-zero b)
+    | yes e ↦ rw (eq-eqb (u % 16) (t % 16) e, laws.zeroed-word a r from (from + 2 * partySlots) (requestWord u p) (omega arith) (omega arith) Z) (limits-laws.Bits.bit-zero b)
     | no e ↦ rw (ne-eqb (u % 16) (t % 16) e) (elim (decLe (u % 16) (t % 16)) [
-      | yes g ↦ word-below a r from (from + 2 * parties) (requestWord u p) b Z (below (u % 16) (t % 16) p l e g d)
-      | no g ↦ word-above a r from (from + 2 * parties) (requestWord u p) b Z (above (u % 16) (t % 16) p g d)
+      | yes g ↦ word-below a r from (from + 2 * partySlots) (requestWord u p) b Z (below (u % 16) (t % 16) p l e g d)
+      | no g ↦ word-above a r from (from + 2 * partySlots) (requestWord u p) b Z (above (u % 16) (t % 16) p g d)
     ])
   ];
 }
   where
-    below : (v w p : ℕ) → p < parties → (v ≡ w → ⊥) → v ≤ w → from ≡ 2 * (requestsAt + (parties * w + 0)) → 2 * (requestsAt + (parties * v + p)) + 1 < from
+    below : (v w p : ℕ) → p < partySlots → (v ≡ w → ⊥) → v ≤ w → from ≡ 2 * (requestsAt + (partySlots * w + 0)) → 2 * (requestsAt + (partySlots * v + p)) + 1 < from
     below v w p l e g d = omega arith
 
-    above : (v w p : ℕ) → (v ≤ w → ⊥) → from ≡ 2 * (requestsAt + (parties * w + 0)) → from + 2 * parties ≤ 2 * (requestsAt + (parties * v + p))
+    above : (v w p : ℕ) → (v ≤ w → ⊥) → from ≡ 2 * (requestsAt + (partySlots * w + 0)) → from + 2 * partySlots ≤ 2 * (requestsAt + (partySlots * v + p))
     above v w p g d = omega arith
 
 -- all words are zeroed

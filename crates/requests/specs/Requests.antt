@@ -13,8 +13,8 @@ use Rattle.calendar.specs.Layout.{slots, calendarSize}
 use Rattle.tables.specs.Sending.{arrivalOf}
 
 -- how many parties have room
-abbrev pub parties : ℕ
-parties = 8
+abbrev pub partySlots : ℕ
+partySlots = 8
 
 -- the word at which they begin
 abbrev pub requestsAt : ℕ
@@ -22,10 +22,10 @@ requestsAt = calendarSize / 2
 
 -- the byte behind them
 abbrev pub requestsEnd : ℕ
-requestsEnd = calendarSize + 2 * slots * parties
+requestsEnd = calendarSize + 2 * slots * partySlots
 
 abbrev pub requestWord : ℕ → ℕ → ℕ
-requestWord t p = requestsAt + (parties * (t % slots) + p)
+requestWord t p = requestsAt + (partySlots * (t % slots) + p)
 
 abbrev pub reachedOf : List ℕ → ℕ → ℕ → ℕ
 reachedOf work t p = wordOf work (requestWord t p)
@@ -51,13 +51,13 @@ askedFirst s p n t q b = ltb b n && (eqb q p && eqb (arrivalOf s b % slots) (t %
 -- the requests of g (tick, party, server) are under way, too
 pub record Asked (a r : List ℕ) (g : ℕ → ℕ → ℕ → Bool) : Type 0 where
   pub outside : SameOutside a r
-  pub requests : (t p b : ℕ) → p < parties → reachedBy r t p b ≡ (reachedBy a t p b || g t p b)
+  pub requests : (t p b : ℕ) → p < partySlots → reachedBy r t p b ≡ (reachedBy a t p b || g t p b)
 
 -- those of tick t no longer are
 pub record Taken (a r : List ℕ) (t : ℕ) : Type 0 where
   pub outside : SameOutside a r
-  pub requests : (u p b : ℕ) → p < parties → reachedBy r u p b ≡ (not (eqb (u % slots) (t % slots)) && reachedBy a u p b)
+  pub requests : (u p b : ℕ) → p < partySlots → reachedBy r u p b ≡ (not (eqb (u % slots) (t % slots)) && reachedBy a u p b)
 
 -- none is
 pub record Unasked (work : List ℕ) : Type 0 where
-  pub requests : (t p b : ℕ) → p < parties → reachedBy work t p b ≡ false
+  pub requests : (t p b : ℕ) → p < partySlots → reachedBy work t p b ≡ false

@@ -4,7 +4,7 @@ ghost use mathlib.Core.Path.{_≡_};
 ghost use Prim.Native.Nat.{_+_, _*_, _≤_, _<_};
 ghost use lib.ListN.{length};
 ghost use Rattle.tables.specs.Sending.{Sendable};
-ghost use Rattle.requests.specs.Requests.{parties, requestWord, requestsEnd, reachedOf, askedFirst, Asked, Taken, Unasked, SameOutside};
+ghost use Rattle.requests.specs.Requests.{partySlots, requestWord, requestsEnd, reachedOf, askedFirst, Asked, Taken, Unasked, SameOutside};
 use calendar::words;
 use tables::sending::Sending;
 
@@ -21,7 +21,7 @@ const WORDS: usize = calendar::BYTES / 2;
 pub const END: usize = calendar::BYTES + BYTES;
 
 fn word(t: usize, p: usize) -> usize
-    requires { ⌜ p < parties ⌝ }
+    requires { ⌜ p < partySlots ⌝ }
     ensures { λ w. ⌜ (w ≡ requestWord t p) × (2 * w + 1 < requestsEnd) ⌝ }
 {
     WORDS + (PARTIES * (t % calendar::SLOTS) + p)
@@ -37,7 +37,7 @@ pub fn start(work: &mut [u8])
 
 // The request of party p is under way to all servers.
 pub fn post(work: &mut [u8], sending: Sending, p: usize)
-    requires { ⌜ Sendable sending × (p < parties) × (requestsEnd ≤ length (now work)) ⌝ }
+    requires { ⌜ Sendable sending × (p < partySlots) × (requestsEnd ≤ length (now work)) ⌝ }
     ensures { λ _. ⌜ Asked (now (work .entry)) (now (work .exit)) (askedFirst sending p (sending .n)) ⌝ }
 {
     let n = sending.n;
@@ -50,7 +50,7 @@ pub fn post(work: &mut [u8], sending: Sending, p: usize)
 
 // The servers that the request of party p reaches in tick t.
 pub fn reached(work: &[u8], t: usize, p: usize) -> u16
-    requires { ⌜ (p < parties) × (requestsEnd ≤ length (now work)) ⌝ }
+    requires { ⌜ (p < partySlots) × (requestsEnd ≤ length (now work)) ⌝ }
     ensures { λ r. ⌜ r ≡ reachedOf (now (work .entry)) t p ⌝ }
 {
     words::get(work, word(t, p))

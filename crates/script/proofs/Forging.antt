@@ -9,7 +9,7 @@ use Rattle.plan.specs.Header.{headerOf, operationAt}
 use Rattle.tables.specs.declared.Links.{Links}
 use Rattle.limits.specs.Limits.{places}
 use Rattle.script.specs.Forged.{entriesEnd, knownNumber, Fillable, Filled, Starts}
-use Rattle.tables.specs.Forged.{forgedAt, delayOf}
+use Rattle.tables.specs.Forged.{forgedAt, forgedDelay}
 use Rattle.tables.specs.Rules.{LinksOf}
 use Rattle.script.specs.Script.{Entered}
 use Rattle.tables.proofs.Forging.{part, counted, message, legible, delay-same}
@@ -26,7 +26,7 @@ module _ (w : ℕ) (s : List ℕ) (A : plan-specs.Playable.Playable w s) (x : pl
   fillable narrow work m room pairs = record { messages = legible w s A x same at starts-at links linked narrow; room = room; pairs = pairs }
 
   pub forged : (before after values : List ℕ) (m : ℕ) (starts : List ℕ)
-      → Filled before after (x .forgeries) (forgedAt w bytes (at % 8)) (λ e. delayOf s links (forgedAt w bytes (at % 8) e)) (λ e. knownNumber w values m (forgedAt w bytes (at % 8) e))
+      → Filled before after (x .forgeries) (forgedAt w bytes (at % 8)) (λ e. forgedDelay s links (forgedAt w bytes (at % 8) e)) (λ e. knownNumber w values m (forgedAt w bytes (at % 8) e))
       → Starts after (x .forgeries) starts → Entered w s before after values m starts
   forged before after values m starts W S =
       let X = rw messages at W in

@@ -3,7 +3,7 @@ ghost use mathlib.Core.Path.{_≡_};
 ghost use Prim.Native.Nat.{_+_, _≤_, _<_};
 ghost use lib.ListN.{length};
 ghost use Rattle.script.specs.Forged.{numberIn, entryBytes, Fillable, Filled, knownNumber, Start, Starts, entriesEnd};
-ghost use Rattle.tables.specs.Forged.{forgedAt, delayOf, mostEntries};
+ghost use Rattle.tables.specs.Forged.{forgedAt, forgedDelay, mostEntries};
 ghost use Rattle.limits.specs.Limits.{places};
 use limits::NO_PAIR;
 use limits::PLACES;
@@ -70,7 +70,7 @@ pub fn fill(
 )
     requires { ⌜ Fillable width (now work) (now part) offset count (now plan) links n m ⌝ }
     ensures { λ _. ⌜ Filled (now (work .entry)) (now (work .exit)) count (forgedAt width (now (part .entry)) offset)
-        (λ e. delayOf (now (plan .entry)) links (forgedAt width (now (part .entry)) offset e))
+        (λ e. forgedDelay (now (plan .entry)) links (forgedAt width (now (part .entry)) offset e))
         (λ e. knownNumber width (now (values .entry)) m (forgedAt width (now (part .entry)) offset e)) ⌝ }
 {
     let bits = Forged::bits(width);

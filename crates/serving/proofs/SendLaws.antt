@@ -22,7 +22,7 @@ use Rattle.tables.specs.Sending.{Sent}
 use Rattle.calendar.proofs as calendar-laws
 use Rattle.calendar.proofs.Posting.{posted-eq, posted-trans, posted-none}
 use Rattle.serving.specs.declared.Sender.{Sender}
-use Rattle.tables.specs.Links.{linkBit, delayAt}
+use Rattle.tables.specs.Links.{linkBit, linkDelay}
 use Rattle.tables.proofs.LinkLaws.{link-at}
 use Rattle.serving.specs.Stored.{Said, keys}
 use Rattle.serving.specs.Sends.{reaches, sendsVote, sendsReply, sends, votesFor}
@@ -158,11 +158,11 @@ module _ (plan : List ℕ) (s : Sender) (ends : List ℕ) (readers : ℕ) (kept 
 -- ---- nothing arrives in the tick in which it is sent
 
 module _ (plan : List ℕ) (s : Sender) (few : s .n < s .links .parties) (own : s .i < s .n)
-    (later : (q : ℕ) → q < s .links .parties → (q ≡ s .i → ⊥) → (q ≡ s .n → ⊥) → 1 ≤ delayAt plan (s .links) (s .t) (s .i) q) where
+    (later : (q : ℕ) → q < s .links .parties → (q ≡ s .i → ⊥) → (q ≡ s .n → ⊥) → 1 ≤ linkDelay plan (s .links) (s .t) (s .i) q) where
   other-tick : (x q : ℕ) → q < s .links .parties → (q ≡ s .i → ⊥) → (q ≡ s .n → ⊥) → x / receivers ≡ s .t % 16 → T (eqb (reaches plan s q % 16) (x / receivers)) → ⊥
   other-tick x q l d w e y =
-      let short : delayAt plan (s .links) (s .t) (s .i) q < 16 = field-lt plan (linkBit (s .links) (s .t) (s .i) q) 4 in
-      let p : (s .t + delayAt plan (s .links) (s .t) (s .i) q) % 16 ≡ x / receivers = eqb→eq _ _ y in
+      let short : linkDelay plan (s .links) (s .t) (s .i) q < 16 = field-lt plan (linkBit (s .links) (s .t) (s .i) q) 4 in
+      let p : (s .t + linkDelay plan (s .links) (s .t) (s .i) q) % 16 ≡ x / receivers = eqb→eq _ _ y in
       omega (arith, later q l d w)
 
   pub no-vote : (P : ℕ → Bool) (x j : ℕ) → x / receivers ≡ s .t % 16 → sendsVote plan s P x j ≡ false

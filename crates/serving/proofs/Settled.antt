@@ -18,7 +18,7 @@ use Rattle.limits.specs.Limits.{places}
 use Rattle.calendar.specs.View.{Spanned}
 use Rattle.tables.specs.declared.Rules.{Rules}
 use Rattle.serving.specs.Stored.{Plain, Both}
-use Rattle.serving.specs.Stages.{noVotes, blankAs, resetAt, turned, within, joined, taken, voting, withWrite, delivered, deliveredOf, stageOne, stageTwo, movedOn, stageFour, stagesOf}
+use Rattle.serving.specs.Stages.{noVotes, blankAs, resetAt, turned, inSpan, joined, taken, voting, withWrite, delivered, deliveredOf, stageOne, stageTwo, movedOn, stageFour, stagesOf}
 use Rattle.serving.specs.Settled.{Settled}
 use Rattle.serving.proofs.StageLaws.{write-kept}
 
@@ -138,7 +138,7 @@ taken-none c (suc m) l h = rw (taken-none c m l (λ j a. h j (omega arith))) (pu
 -- of a settled server the pairs outside the span of its row of the calendar are taken in to no effect
 module _ (m e r w : ℕ) (work : List ℕ) (row : ℕ) (s : Plain) (K : Settled m e r s) (few : m ≤ places) (l : row < rows) (S : Spanned work) where
   abbrev inSpan : ℕ → Bool
-  inSpan j = within (lowOf work row) (highOf work row) j
+  inSpan j = inSpan (lowOf work row) (highOf work row) j
 
   abbrev voted : ℕ → Bool
   voted j = voting e r (joined m (s .fresh) (sender work row)) (joined m (s .recent) (sender work row)) j

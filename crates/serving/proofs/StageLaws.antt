@@ -21,7 +21,7 @@ use Rattle.serving.specs.declared.Status.{Status as StoredStatus}
 use Rattle.serving.specs.declared.Status.the-variants.{Faulty, Cured, Correct}
 use Rattle.serving.specs.declared.Server.{Server}
 use Rattle.serving.specs.Stored.{Plain, Said, Both, statusOf, keys, Becomes}
-use Rattle.serving.specs.Stages.{nobody, noVotes, blankAs, silent, restated, written, resetAt, cureEnded, within, quorate, taken, voting, withWrite, repliesTo, joined, delivered, deliveredOf, stageOne, stageTwo, movedOn, stageFour}
+use Rattle.serving.specs.Stages.{nobody, noVotes, blankAs, silent, restated, written, resetAt, cureEnded, inSpan, quorate, taken, voting, withWrite, repliesTo, joined, delivered, deliveredOf, stageOne, stageTwo, movedOn, stageFour}
 
 pub zero-set : (λ x. bit x 0) ≡ nobody
 zero-set = fun-ext bit-zero
@@ -36,7 +36,7 @@ module _ (e r f o : ℕ) (h : f < 2 ^ 16) (g : o < 2 ^ 16) where
   quorate-no l = rw (← ones-count 16 f h, lt-leb e (ones f) l, ones-count 16 o g)
 
 -- a pair in the span
-pub in-span : (low high j : ℕ) (b v : Bool) → low ≤ j → j < high → v ≡ b → within low high j && v ≡ b
+pub in-span : (low high j : ℕ) (b v : Bool) → low ≤ j → j < high → v ≡ b → inSpan low high j && v ≡ b
 in-span low high j b v l h e = rw (le-leb low j l, lt-ltb j high h) e
 
 -- ---- a turn of taking in

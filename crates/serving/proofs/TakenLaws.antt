@@ -7,7 +7,7 @@ use native.Mathlib.Omega.{arith}
 use native.Mathlib.Decide.{ℕ-discrete, decLe}
 use lib.Dec.{leb}
 use borrow.Author.Tests.{le-ltb, lt-leb}
-use Rattle.serving.specs.Stages.{within, taken}
+use Rattle.serving.specs.Stages.{inSpan, taken}
 
 -- pairs from one on that do not pass
 pub taken-past : (c : ℕ → Bool) (n m : ℕ) (l : List ℕ) → n ≤ m → ((j : ℕ) → n ≤ j → j < m → c j ≡ false) → taken c m l ≡ taken c n l
@@ -21,14 +21,14 @@ taken-past c n (suc m) l h e = elim (ℕ-discrete n (suc m)) [
 
 module _ (v : ℕ → Bool) (low high : ℕ) where
   -- no pair below the span
-  pub taken-below : (n : ℕ) (l : List ℕ) → n ≤ low → taken (λ j. within low high j && v j) n l ≡ l
+  pub taken-below : (n : ℕ) (l : List ℕ) → n ≤ low → taken (λ j. inSpan low high j && v j) n l ≡ l
   unfolding taken
-  taken-below n l h = taken-past (λ j. within low high j && v j) 0 n l (omega arith) (λ j a b. rw (lt-leb low j (omega arith)))
+  taken-below n l h = taken-past (λ j. inSpan low high j && v j) 0 n l (omega arith) (λ j a b. rw (lt-leb low j (omega arith)))
 
   -- none beyond it, where a walk over the span has come to n
-  pub taken-stop : (n m : ℕ) (l : List ℕ) → (n < m → high ≤ n) → (m < n → n ≤ low) → taken (λ j. within low high j && v j) n l ≡ taken (λ j. within low high j && v j) m l
+  pub taken-stop : (n m : ℕ) (l : List ℕ) → (n < m → high ≤ n) → (m < n → n ≤ low) → taken (λ j. inSpan low high j && v j) n l ≡ taken (λ j. inSpan low high j && v j) m l
   taken-stop n m l e f = elim (decLe n m) [
-    | yes d ↦ sym (taken-past (λ j. within low high j && v j) n m l d (λ j a b. rw (le-ltb j high (omega (arith, e (omega arith))), and-false (leb low j))))
+    | yes d ↦ sym (taken-past (λ j. inSpan low high j && v j) n m l d (λ j a b. rw (le-ltb j high (omega (arith, e (omega arith))), and-false (leb low j))))
     | no d ↦ taken-below n l (f (omega arith)) ∙ sym (taken-below m l (omega (arith, f (omega arith))))
   ]
 

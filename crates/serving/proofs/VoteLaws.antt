@@ -22,7 +22,7 @@ use Rattle.serving.specs.declared.Server.{Server}
 use Rattle.serving.specs.declared.Turn.{Turn}
 use Rattle.serving.specs.Tallies.{recentAt, tableSize, ofServer, SameOthers}
 use Rattle.serving.specs.Stored.{Plain, statusOf, keys, Faithful, Valued, server, Becomes, saidFirst}
-use Rattle.serving.specs.Stages.{within, quorate, voting, taken, written, withWrite, repliesTo, delivered}
+use Rattle.serving.specs.Stages.{inSpan, quorate, voting, taken, written, withWrite, repliesTo, delivered}
 use Rattle.serving.specs.Settled.{Settled}
 use Rattle.serving.specs.Methods.{Reachable, Heard, freshWith, recentWith, Voted}
 use Rattle.serving.proofs.Settled.{span-enough}
@@ -33,7 +33,7 @@ use Rattle.serving.proofs.TallyLaws.{others-none, others-trans, Part, p
 module _ (work values : List ℕ) (turn : Turn) (s : Server) (sets : List ℕ) where
   -- a pair of the span with a quorum
   abbrev passes : ℕ → Bool
-  passes j = within (lowOf work (turn .row)) (highOf work (turn .row)) j && voting (turn .rules .echo) (turn .rules .reply) (freshWith work turn sets) (recentWith work turn sets) j
+  passes j = inSpan (lowOf work (turn .row)) (highOf work (turn .row)) j && voting (turn .rules .echo) (turn .rules .reply) (freshWith work turn sets) (recentWith work turn sets) j
 
   -- the pairs before j are done
   pub record Voting (r : Server) (after : List ℕ) (j : ℕ) : Type 0 where

@@ -18,7 +18,7 @@ use Rattle.serving.specs.declared.Turn.{Turn}
 use Rattle.serving.specs.declared.stages.Delivered.{Delivered}
 use Rattle.serving.specs.Tallies.{recentAt, tableSize, ofServer, rowOfSets, SameOthers}
 use Rattle.serving.specs.Stored.{Plain, statusOf, keys, Faithful, Valued, server, saidFirst}
-use Rattle.serving.specs.Stages.{quorate, voting, taken, within, joined, delivered, blankAs, resetAt}
+use Rattle.serving.specs.Stages.{quorate, voting, taken, inSpan, joined, delivered, blankAs, resetAt}
 
 -- what a server's row of the calendar and of the table need
 pub record Reachable (work sets values : List ℕ) (turn : Turn) : Type 0 where
@@ -56,7 +56,7 @@ pub record Voted (work values : List ℕ) (turn : Turn) (s r : Server) (sets aft
   pub status : r .status ≡ s .status
   pub pending : r .pending ≡ s .pending
   pub kept : keys (r .kept)
-      ≡ taken (λ j. within (lowOf work (turn .row)) (highOf work (turn .row)) j && voting (turn .rules .echo) (turn .rules .reply) (freshWith work turn sets) (recentWith work turn sets) j)
+      ≡ taken (λ j. inSpan (lowOf work (turn .row)) (highOf work (turn .row)) j && voting (turn .rules .echo) (turn .rules .reply) (freshWith work turn sets) (recentWith work turn sets) j)
       (turn .m) (keys (s .kept))
   pub valued : Valued values (s .kept) → Valued values (r .kept)
 

@@ -8,7 +8,7 @@ use Rattle.register.specs.Lists.{member}
 use Rattle.limits.specs.Limits.{mostServers}
 use Rattle.calendar.specs.Layout.{slots, readersAt, receivers}
 use Rattle.serving.specs.declared.Sender.{Sender}
-use Rattle.tables.specs.Links.{delayAt, Linked}
+use Rattle.tables.specs.Links.{linkDelay, Linked}
 use Rattle.serving.specs.Stored.{Said}
 
 -- its delays lie in the plan
@@ -25,7 +25,7 @@ votesFor said j = eqb j (said .wrote) || (said .echoed && member j (said .pairs)
 module _ (plan : List ℕ) (s : Sender) where
   -- the tick in which what it sends reaches party q
   abbrev pub reaches : ℕ → ℕ
-  reaches q = s .t + delayAt plan (s .links) (s .t) (s .i) q
+  reaches q = s .t + linkDelay plan (s .links) (s .t) (s .i) q
 
   -- a vote for pair j, one of P, to server x % receivers, which is another one
   unfoldable pub sendsVote : (ℕ → Bool) → ℕ → ℕ → Bool

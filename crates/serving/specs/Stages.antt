@@ -65,8 +65,8 @@ repliesTo true true asks list = asks
 repliesTo true false asks list = list
 
 -- the pairs from one number to before another
-abbrev pub within : ℕ → ℕ → ℕ → Bool
-within low high j = leb low j && ltb j high
+abbrev pub inSpan : ℕ → ℕ → ℕ → Bool
+inSpan low high j = leb low j && ltb j high
 
 -- votes with those that arrive for the known pairs
 abbrev pub joined : ℕ → (ℕ → ℕ → Bool) → (ℕ → ℕ → Bool) → ℕ → ℕ → Bool

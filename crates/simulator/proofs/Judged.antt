@@ -55,7 +55,7 @@ module _ (w : ℕ) (s : List ℕ) (A : plan-laws.Accept.Accepted w s) where
 
   -- the answer of a served read fits its fields
   pub fits : (r : Read) → In r (planOf w s .reads) → register-specs.Promise.Served (planOf w s) r → FieldsFit w r (register-specs.Reading.answerOf (planOf w s) r)
-  unfolding register-specs.Reading.countIn planOf
+  unfolding register-specs.Reading.countNaming planOf
   fits r i S =
       let P : Plan = planOf w s in
       let R = plan-laws.AcceptReads.read-stands w s (A .playable) r i in

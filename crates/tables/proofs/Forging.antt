@@ -13,7 +13,7 @@ use Rattle.plan.specs as plan-specs
 use Rattle.plan.specs.Header.{Header, headerOf, operationAt}
 use Rattle.plan.proofs.Accept.{in-range}
 use Rattle.tables.specs as tables-specs
-use Rattle.tables.specs.Forged.{forgedAt, delayOf, Legible, messageOf, messageDelay}
+use Rattle.tables.specs.Forged.{forgedAt, forgedDelay, Legible, messageOf, messageDelay}
 use Rattle.tables.specs.Rules.{LinksOf}
 use Rattle.tables.proofs as tables-laws
 use Rattle.tables.proofs.Messages.{sent-below, sender-below, on-link, message-reach}
@@ -62,8 +62,8 @@ module _ (w : ℕ) (s : List ℕ) (A : plan-specs.Playable.Playable w s) (x : pl
           (subst (λ (g : Forgery). tables-specs.Links.Reach s links (headerOf w s .n) (g .at) (g .from) (g .to)) (sym (message e)) (message-reach w s A e (omega (arith, counted)) narrow links L));
     }
 
-    pub delay-same : (e : ℕ) → e < headerOf w s .forgeries → delayOf s links (forgedAt w part (at % 8) e) ≡ messageDelay w s e
+    pub delay-same : (e : ℕ) → e < headerOf w s .forgeries → forgedDelay s links (forgedAt w part (at % 8) e) ≡ messageDelay w s e
     delay-same e h =
-        ap (delayOf s links) (message e)
+        ap (forgedDelay s links) (message e)
         ∙ tables-laws.Placing.link-delay w s A links L (messageOf w s e .at) (messageOf w s e .from) (messageOf w s e .to)
         (sent-below w s A e h) (omega (arith, sender-below w s A e h)) (on-link w s A e h .0) (on-link w s A e h .1)

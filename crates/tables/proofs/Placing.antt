@@ -73,7 +73,7 @@ module _ (w : ℕ) (s : List ℕ) (A : plan-specs.Playable.Playable w s) where
 
     -- a link's delay is the plan's
     pub link-delay : (u i b : ℕ) → u < headerOf w s .ticks → i < parties (headerOf w s) → b < parties (headerOf w s)
-        → T (plan-specs.Parts.isLink (headerOf w s .n) i b) → tables-specs.Links.delayAt s links u i b ≡ planOf w s .delay u i b
+        → T (plan-specs.Parts.isLink (headerOf w s .n) i b) → tables-specs.Links.linkDelay s links u i b ≡ planOf w s .delay u i b
     unfolding tables-specs.Links.linkBit planOf plan-specs.Parts.delayOf
     link-delay u i b lu li lb t =
         rw (
@@ -87,5 +87,5 @@ module _ (w : ℕ) (s : List ℕ) (A : plan-specs.Playable.Playable w s) where
 
     -- so is that from a server to another one or to a reader
     pub server-delay : (u i b : ℕ) → u < headerOf w s .ticks → i < headerOf w s .n → b < parties (headerOf w s) → (b ≡ i → ⊥) → (b ≡ headerOf w s .n → ⊥)
-        → tables-specs.Links.delayAt s links u i b ≡ planOf w s .delay u i b
+        → tables-specs.Links.linkDelay s links u i b ≡ planOf w s .delay u i b
     server-delay u i b lu li lb d e = link-delay u i b lu (omega arith) lb (other-link (headerOf w s .n) i b li d e)

@@ -8,7 +8,7 @@ use Rattle.plan.specs.Header.{headerOf, forgeryBits}
 use Rattle.plan.specs.Parts.{forgeryIn, forgeryOf}
 use Rattle.plan.specs.Packed.{planOf}
 use Rattle.tables.specs.declared.Links.{Links}
-use Rattle.tables.specs.Links.{delayAt, Reach}
+use Rattle.tables.specs.Links.{linkDelay, Reach}
 
 -- how many there may be
 abbrev pub mostEntries : ℕ
@@ -19,8 +19,8 @@ abbrev pub forgedAt : ℕ → List ℕ → ℕ → ℕ → Forgery
 forgedAt w s at e = forgeryIn w s (at + forgeryBits w * e)
 
 -- how long a forged message takes
-abbrev pub delayOf : List ℕ → Links → Forgery → ℕ
-delayOf plan links g = delayAt plan links (g .at) (g .from) (g .to)
+abbrev pub forgedDelay : List ℕ → Links → Forgery → ℕ
+forgedDelay plan links g = linkDelay plan links (g .at) (g .from) (g .to)
 
 -- so many forged messages stand there, and their delays lie in the plan
 pub record Legible (w : ℕ) (part : List ℕ) (offset count : ℕ) (plan : List ℕ) (links : Links) (n : ℕ) : Type 0 where

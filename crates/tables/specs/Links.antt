@@ -10,8 +10,8 @@ use Rattle.tables.specs.declared.Links.{Links}
 unfoldable pub linkBit : Links → ℕ → ℕ → ℕ → ℕ
 linkBit links u i b = linkAt (links .at) (links .parties) u i b
 
-abbrev pub delayAt : List ℕ → Links → ℕ → ℕ → ℕ → ℕ
-delayAt plan links u i b = fieldOf plan (linkBit links u i b) delayBits
+abbrev pub linkDelay : List ℕ → Links → ℕ → ℕ → ℕ → ℕ
+linkDelay plan links u i b = fieldOf plan (linkBit links u i b) delayBits
 
 -- n servers, a writer and some readers; the delays of all ticks below t lie in the plan
 pub record Linked (plan : List ℕ) (links : Links) (n t : ℕ) : Type 0 where

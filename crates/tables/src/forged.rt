@@ -6,7 +6,7 @@ ghost use Rattle.plan.specs.Form.{mostWidth};
 ghost use Rattle.plan.specs.Header.{forgeryBits};
 ghost use Rattle.plan.specs.Parts.{forgeryIn};
 ghost use Rattle.plan.specs.Steps.{forgery};
-ghost use Rattle.tables.specs.Links.{delayAt, Reach};
+ghost use Rattle.tables.specs.Links.{linkDelay, Reach};
 use super::Links;
 use super::delays;
 use plan::forgeries::Forged;
@@ -22,7 +22,7 @@ pub fn message_at(part: &[u8], at: usize, width: u8) -> Forged
 // How long it takes.
 pub fn delay_of(plan: &[u8], links: Links, n: usize, g: Forged) -> usize
     requires { ⌜ Reach (now plan) links n (g .at) (g .from) (g .to) ⌝ }
-    ensures { λ r. ⌜ (r ≡ delayAt (now (plan .entry)) links (g .at) (g .from) (g .to)) × (r < 16) ⌝ }
+    ensures { λ r. ⌜ (r ≡ linkDelay (now (plan .entry)) links (g .at) (g .from) (g .to)) × (r < 16) ⌝ }
 {
     delays::delay(
         plan,

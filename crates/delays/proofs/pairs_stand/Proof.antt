@@ -6,7 +6,7 @@ use denote.Ref.{now}
 use lib.ListN.{getD}
 use Rattle.delays.specs.Steps.{firstStand}
 use Rattle.plan.specs.Shape.{shape}
-use Rattle.delays.proofs.Pairs.{first-none, pair-more, byte-at, byte-pair, need-high, need-low, link-bit-few}
+use Rattle.delays.proofs.Pairs.{first-none, pair-more, byte-at, byte-pair, need-high, need-low, link-mark-few}
 use Rattle.delays.proofs.pairs_stand.Statement.{statement}
 use Rattle.delays.proofs.pairs_stand.Tie as tie
 
@@ -49,7 +49,7 @@ shared-slice-read-byte-stands c = omega arith
 byte-stands-requires : tie.Need-byte-stands-requires Inv-loop μ-loop
 byte-stands-requires c κs =
     let b = c .before .before .before .before .before .before .before .before in
-    rw (b .pre .4 (c .before .before .before .before .before .loop .k) (omega arith), need-high, need-low) (link-bit-few _ _ _, link-bit-few _ _ _)
+    rw (b .pre .4 (c .before .before .before .before .before .loop .k) (omega arith), need-high, need-low) (link-mark-few _ _ _, link-mark-few _ _ _)
 
 both-requires : tie.Need-both-requires Inv-loop μ-loop
 both-requires c κs = omega arith

@@ -8,7 +8,7 @@ use Rattle.register.specs.Plan.{Forgery}
 use Rattle.register.proofs.Stamped.{value-stamped, number-stamped}
 use Rattle.plan.specs.Header.{forgeryBits}
 use Rattle.script.specs.Forged.{numberIn, Filled, knownNumber}
-use Rattle.tables.specs.Forged.{forgedAt, delayOf}
+use Rattle.tables.specs.Forged.{forgedAt, forgedDelay}
 use Rattle.plan.proofs.Sizes.{forgeries-few}
 use Rattle.bits.proofs.Records.{record-inside}
 use Rattle.script.proofs.Entries.{filled-none, filled-more}
@@ -17,7 +17,7 @@ use Rattle.script.proofs.forged.fill.Tie as tie
 
 abbrev Inv-loop : tie.InvT-loop
 Inv-loop work₀ part offset width count plan links n values m bits e₀ work e =
-    (e ≤ count) × Filled work₀ work e (forgedAt width part offset) (λ i. delayOf plan links (forgedAt width part offset i)) (λ i. knownNumber width values m (forgedAt width part offset i))
+    (e ≤ count) × Filled work₀ work e (forgedAt width part offset) (λ i. forgedDelay plan links (forgedAt width part offset i)) (λ i. knownNumber width values m (forgedAt width part offset i))
 
 abbrev μ-loop : tie.MeasureT-loop
 μ-loop work₀ part offset width count plan links n values m bits e₀ work e = count - e

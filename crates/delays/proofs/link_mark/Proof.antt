@@ -1,10 +1,10 @@
--- `link_bit` meets its contract.
+-- `link_mark` meets its contract.
 use mathlib.Core.Path.{refl, sym, _∙_}
 use native.Mathlib.Omega.{arith}
 use borrow.Author.Needs.{needs}
-use Rattle.delays.specs.Steps.{linkBit}
-use Rattle.delays.proofs.link_bit.Statement.{statement}
-use Rattle.delays.proofs.link_bit.Tie as tie
+use Rattle.delays.specs.Steps.{linkMark}
+use Rattle.delays.proofs.link_mark.Statement.{statement}
+use Rattle.delays.proofs.link_mark.Tie as tie
 
 div-is-link : tie.Need-div-is-link
 div-is-link c = search needs
@@ -16,11 +16,11 @@ is-link-requires : tie.Need-is-link-requires
 is-link-requires c κs = search needs
 
 returns : tie.Need-returns
-unfolding linkBit
+unfolding linkMark
 returns c = rw (sym (c .before .is-link .ensures) ∙ c .if1 .taken) (refl, omega arith)
 
 returns-2 : tie.Need-returns-2
-unfolding linkBit
+unfolding linkMark
 returns-2 c = rw (sym (c .before .is-link .ensures) ∙ c .if1 .left) (refl, omega arith)
 
 pub link-bit-spec : {M : Type 1} → statement M
