@@ -1,12 +1,13 @@
--- The values of operations and forgeries as fields at equal steps, and that they lie in the plan.
+-- The values of operations and forgeries as fields at equal steps, that they lie in the plan, and the forged part lent from its first byte on.
 -- It stands on the law of a forgery's value.
 use mathlib.Core.Path.{_≡_, ap}
 use mathlib.Core.List.{List}
-use Prim.Native.Nat.{ℕ, suc, _+_, _*_, _^_, _≤_, _<_}
+use Prim.Native.Nat.{ℕ, suc, _+_, _*_, _/_, _%_, _^_, _≤_, _<_}
 use native.Mathlib.Nat.{mul-le-mul-left}
 use native.Mathlib.Omega.{arith}
-use lib.{Dec.ltb, ListN.length, ListN.take}
-use Rattle.bits.specs.{Field.fieldOf, Layout.total}
+use lib.{Dec.ltb, ListN.length, ListN.take, ListN.drop}
+use Rattle.bits.specs.{Field.fieldOf, Layout.total, Layout.numbersAt}
+use Rattle.bits.proofs.{Laws.field-part, Numbers.numbers-part}
 use Rattle.register.specs.{Lists.allUpTo, Plan.valueOf}
 use Rattle.plan.specs.{Widths.forgeryWidths, Parts.operationOf, Parts.forgeryOf, Shape.Sized}
 use Rattle.plan.specs.Header.{Header, moves, placementAt, keyBits, operationBits, operationAt, forgeryBits, forgeryAt}
@@ -17,6 +18,18 @@ use Rattle.carrying.proofs.Values.{forgery-value}
 -- the tick, the sender and the receiver of a forgery
 abbrev headBits : ℕ → ℕ
 headBits w = total (take 3 (forgeryWidths w))
+
+-- Fields and records of the part from the byte that holds bit `first` are those of the whole.
+module _ (s : List ℕ) (first : ℕ) where
+  pub part-values : (behind step count w limit : ℕ)
+      → allUpTo count (λ i. ltb (fieldOf (drop (first / 8) s) (first % 8 + behind + step * i) w) limit) ≡ allUpTo count (λ i. ltb (fieldOf s (first + behind + step * i) w) limit)
+  part-values behind step count w limit =
+      all-same _ _ count (λ i l.
+      let e : 8 * (first / 8) + (first % 8 + behind + step * i) ≡ first + behind + step * i = omega arith in
+      rw (field-part s (first / 8) (first % 8 + behind + step * i) w, e))
+
+  pub part-numbers : (ws : List ℕ) → numbersAt ws (drop (first / 8) s) (first % 8) ≡ numbersAt ws s first
+  part-numbers ws = let e : 8 * (first / 8) + first % 8 ≡ first = omega arith in rw (numbers-part ws s (first / 8) (first % 8), e)
 
 module _ (w : ℕ) (s : List ℕ) (h : Header) {at step : ℕ} where
   -- an operation's value stands behind its tick and its party

@@ -4,8 +4,13 @@ mod values;
 ghost use mathlib.Core.Path.{_≡_};
 ghost use mathlib.Core.Bool.{true};
 ghost use mathlib.Core.List.{_++_};
-ghost use Prim.Native.Nat.{_≤_};
+ghost use Prim.Native.Nat.{_+_, _*_, _^_, _≤_, _<_};
+ghost use lib.Dec.{T};
 ghost use lib.ListN.{length, drop};
+ghost use Rattle.bits.specs.Layout.{total, records, numbersAt, packedBits};
+ghost use Rattle.bits.specs.Writing.{Wrote};
+ghost use Rattle.records.specs.Records.{noWider};
+ghost use Rattle.moving.specs.Places.{Behind};
 ghost use Rattle.plan.specs.{Form.formOne, Form.formTwo, Form.isForm, Form.widthOf, Form.mostWidth, Header.headerOf, Playable.Playable, Buffer.intoBuffer, Shape.shape, Shape.Sized, Numbered.numbered};
 ghost use Rattle.carrying.specs.Carrying.{carriedPlan, valuesFit, carryTests, carryOf};
 use moving::Places;
@@ -25,6 +30,34 @@ fn with_width(h: Shape, width: u8) -> Shape
     other
 }
 
+// Records of the forged part, as `moving::records` has them. The plan is lent from the byte that holds the bit where the operations end, with an offset
+// under eight.
+fn forged(
+    out: &mut [u8],
+    wanted: &[u8],
+    plan: &[u8],
+    had: &[u8],
+    at: Places,
+    count: usize,
+) -> Places
+    requires { ⌜ T (noWider 32 (now had)) × T (noWider 32 (now wanted)) × (length (now had) ≡ length (now wanted))
+        × (at .from + total (now had) * count ≤ 8 * length (now plan)) × (at .to + total (now wanted) * count ≤ 8 * length (now out))
+        × (at .from + total (now had) * count < 2 ^ 60) × (at .to + total (now wanted) * count < 2 ^ 60) ⌝ }
+    ensures { λ r. ⌜ Wrote (now (out .entry)) (now (out .exit)) (at .to)
+        (packedBits (records count (now (wanted .entry))) (numbersAt (records count (now (had .entry))) (now (plan .entry)) (at .from)))
+        × Behind at (total (now (had .entry)) * count) (total (now (wanted .entry)) * count) r ⌝ }
+{
+    let byte = at.from / 8;
+    let inside = Places {
+        from: at.from % 8,
+        to: at.to,
+    };
+    let next = moving::records(out, wanted, &plan[byte..], had, inside, count);
+    let start = 8 * byte;
+    let from = start + next.from;
+    Places { from, to: next.to }
+}
+
 // Writes the plan with values of so many bits: part behind part, then the zero bits that fill the last byte. Where no value stands, bits stay as they are.
 fn write(out: &mut [u8], plan: &[u8], h: Shape, width: u8)
     requires { ⌜ Sized (h .width) (now plan) (shape h) × (shape h ≡ headerOf (h .width) (now plan)) × (width ≤ mostWidth)
@@ -40,7 +73,7 @@ fn write(out: &mut [u8], plan: &[u8], h: Shape, width: u8)
     let at = moving::records(out, &wanted, plan, &had, at, h.operations as usize);
     let had = Forged::widths(h.width);
     let wanted = Forged::widths(width);
-    let at = moving::records(out, &wanted, plan, &had, at, h.forgeries as usize);
+    let at = forged(out, &wanted, plan, &had, at, h.forgeries as usize);
     let at = moving::copy(out, plan, at, Shape::DELAY_BITS * h.delay_count());
     bits::put(out, at.to, bits::fill(at.to), 0);
 }

@@ -30,6 +30,25 @@ fn values_fit(plan: &[u8], at: usize, step: usize, count: usize, width: usize, l
     true
 }
 
+// The same of fields of the forged part, each `behind` bits behind the start of its record. The plan is lent from the byte that holds the bit where the
+// operations end, `first`, with an offset under eight.
+fn forged_fit(
+    plan: &[u8],
+    first: usize,
+    behind: usize,
+    step: usize,
+    count: usize,
+    width: usize,
+    limit: u64,
+) -> bool
+    requires { ⌜ (width ≤ mostWidth) × (first ≤ 8 * length (now plan)) × (behind < 2 ^ 60)
+        × ((i : ℕ) → i < count → (first + behind + step * i + width ≤ 8 * length (now plan)) × (first + behind + step * i < 2 ^ 60)) ⌝ }
+    ensures { λ r. ⌜ r ≡ allUpTo count (λ i. ltb (fieldOf (now (plan .entry)) (first + behind + step * i) width) limit) ⌝ }
+{
+    let byte = first / 8;
+    values_fit(&plan[byte..], first % 8 + behind, step, count, width, limit)
+}
+
 // Have all of them at most so many bits.
 pub fn all_fit(plan: &[u8], h: Shape, width: u8) -> bool
     requires { ⌜ Sized (h .width) (now plan) (shape h) × (shape h ≡ headerOf (h .width) (now plan)) × (width ≤ mostWidth) ⌝ }
@@ -44,12 +63,20 @@ pub fn all_fit(plan: &[u8], h: Shape, width: u8) -> bool
     let operations = h.operations as usize;
     let forgeries = h.forgeries as usize;
     let written = h.operations_at() + Operation::VALUE_AT;
-    let forged = h.forgeries_at() + Forged::VALUE_AT;
+    let forged = h.forgeries_at();
     both(
         (h.initial as u64) < limit,
         both(
             values_fit(plan, written, h.operation_bits(), operations, had, limit),
-            values_fit(plan, forged, h.forgery_bits(), forgeries, had, limit),
+            forged_fit(
+                plan,
+                forged,
+                Forged::VALUE_AT,
+                h.forgery_bits(),
+                forgeries,
+                had,
+                limit,
+            ),
         ),
     )
 }

@@ -25,10 +25,10 @@ first c = c .before .before .before .before .before
 abbrev second : tie.After-records → tie.After-copy
 second c = c .before .before .before .before .before .before .before .before .before
 
-abbrev third : tie.After-records2 → tie.After-records
+abbrev third : tie.After-forged → tie.After-records
 third c = c .before .before .before .before .before .before .before .before .before
 
-abbrev fourth : tie.After-copy2 → tie.After-records2
+abbrev fourth : tie.After-copy2 → tie.After-forged
 fourth c = c .before .before .before .before .before
 
 abbrev fifth : tie.After-put → tie.After-copy2
@@ -69,10 +69,10 @@ place3 c =
     let to = rw (c .before .before .before .before .before .widths2 .ensures) at (b .to) in
     (omega (arith, from, p .0), omega (arith, to, p .1))
 
-place4 : (c : tie.After-records2) → let a = start (first (second (third c))) .args in
-    (c .records2 .result .from ≡ header.delayAt (a .h .width) (shape (a .h)) 0 0 0) × (c .records2 .result .to ≡ header.forgeryAt (a .width) (shape (a .h)) (a .h .forgeries))
+place4 : (c : tie.After-forged) → let a = start (first (second (third c))) .args in
+    (c .forged .result .from ≡ header.delayAt (a .h .width) (shape (a .h)) 0 0 0) × (c .forged .result .to ≡ header.forgeryAt (a .width) (shape (a .h)) (a .h .forgeries))
 place4 c =
-    let b = c .records2 .ensures .1 in
+    let b = c .forged .ensures .1 in
     let p = place3 (third c) in
     let from = rw (c .before .before .before .before .before .before .widths3 .ensures) at (b .from) in
     let to = rw (c .before .before .before .before .before .widths4 .ensures) at (b .to) in
@@ -153,18 +153,18 @@ widths-requires-3 c κs = search needs
 widths-requires-4 : tie.Need-widths-requires-4
 widths-requires-4 c κs = search needs
 
-slice-aggregate-records-3 : tie.Need-slice-aggregate-records-3
-slice-aggregate-records-3 c = search needs
+slice-aggregate-forged : tie.Need-slice-aggregate-forged
+slice-aggregate-forged c = search needs
 
-slice-aggregate-records-4 : tie.Need-slice-aggregate-records-4
-slice-aggregate-records-4 c = search needs
+slice-aggregate-forged-2 : tie.Need-slice-aggregate-forged-2
+slice-aggregate-forged-2 c = search needs
 
-cast-records-2 : tie.Need-cast-records-2
-cast-records-2 c = search needs
+cast-forged : tie.Need-cast-forged
+cast-forged c = search needs
 
-records-requires-2 : tie.Need-records-requires-2
+forged-requires : tie.Need-forged-requires
 unfolding noWider
-records-requires-2 c κs =
+forged-requires c κs =
     let w3 = c .before .before .before .before .before .before .before .before in
     let w2 = second w3 in
     let w1 = first w2 in
@@ -192,7 +192,7 @@ copy-requires-2 c κs =
     let r = there (start w1) in
     let p = place4 w4 in
     let m = c .delay-count .ensures .0 in
-    let size = w4 .records2 .ensures .0 .size ∙ w3 .records .ensures .0 .size ∙ w2 .copy .ensures .0 .size ∙ w1 .record .ensures .0 .size in
+    let size = w4 .forged .ensures .0 .size ∙ w3 .records .ensures .0 .size ∙ w2 .copy .ensures .0 .size ∙ w1 .record .ensures .0 .size in
     (omega (arith, r .read, p .0, m), omega (arith, r .written, p .1, m, size), omega (arith, r .near, p .0, m), omega (arith, r .near-there, p .1, m))
 
 fill-requires : tie.Need-fill-requires
@@ -208,7 +208,7 @@ put-requires c κs =
     let r = there (start w1) in
     let p = place5 w5 in
     let e = c .fill .ensures ∙ ap (fill 8) p in
-    let size = w5 .copy2 .ensures .0 .size ∙ w4 .records2 .ensures .0 .size ∙ w3 .records .ensures .0 .size ∙ w2 .copy .ensures .0 .size ∙ w1 .record .ensures .0 .size in
+    let size = w5 .copy2 .ensures .0 .size ∙ w4 .forged .ensures .0 .size ∙ w3 .records .ensures .0 .size ∙ w2 .copy .ensures .0 .size ∙ w1 .record .ensures .0 .size in
     (omega (arith, c .fill .ensures), omega (arith, r .written, p, e, size), omega (arith, r .near-there, p))
 
 same-length : tie.Need-same-length
@@ -218,7 +218,7 @@ same-length c =
     let w4 = fourth w5 in
     let w3 = third w4 in
     let w2 = second w3 in
-    w6 .put .ensures .size ∙ w5 .copy2 .ensures .0 .size ∙ w4 .records2 .ensures .0 .size ∙ w3 .records .ensures .0 .size ∙ w2 .copy .ensures .0 .size ∙ first w2 .record .ensures .0 .size
+    w6 .put .ensures .size ∙ w5 .copy2 .ensures .0 .size ∙ w4 .forged .ensures .0 .size ∙ w3 .records .ensures .0 .size ∙ w2 .copy .ensures .0 .size ∙ first w2 .record .ensures .0 .size
 
 returns : tie.Need-returns
 returns c =
@@ -239,7 +239,7 @@ returns c =
     (same-record s 0 (h1 .before .header-widths .ensures) (h1 .header-widths2 .ensures) (w1 .record .ensures .0))
     (same-bits s header.placementBits (w2 .before .moves .ensures .0) (place1 w1) (w2 .copy .ensures .0))
     (same-records s (a .h .operations) (h3 .before .widths .ensures) (h3 .widths2 .ensures) (place2 w2) (w3 .records .ensures .0))
-    (same-records s (a .h .forgeries) (h4 .before .widths3 .ensures) (h4 .widths4 .ensures) (place3 w3) (w4 .records2 .ensures .0))
+    (same-records s (a .h .forgeries) (h4 .before .widths3 .ensures) (h4 .widths4 .ensures) (place3 w3) (w4 .forged .ensures .0))
     (same-bits s header.delayBits (w5 .before .delay-count .ensures .0) (place4 w4) (w5 .copy2 .ensures .0))
     (same-fill (w6 .before .fill .ensures) (place5 w5) (w6 .put .ensures))
     (λ i. omega (arith, w1 .before .before .before .before .before .before .before .slice-known .given i)) (λ i. omega (arith, c .slice-known7 .given i)) (z .pre .4)
@@ -264,10 +264,10 @@ write-spec =
     records-requires
     widths-requires-3
     widths-requires-4
-    slice-aggregate-records-3
-    slice-aggregate-records-4
-    cast-records-2
-    records-requires-2
+    slice-aggregate-forged
+    slice-aggregate-forged-2
+    cast-forged
+    forged-requires
     delay-count-requires
     mul-copy-2
     copy-requires-2

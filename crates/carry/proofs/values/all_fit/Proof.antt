@@ -43,9 +43,6 @@ add-written c = search needs
 forgeries-at-requires : tie.Need-forgeries-at-requires
 forgeries-at-requires c κs = search needs
 
-add-forged : tie.Need-add-forged
-add-forged c = search needs
-
 cast-both : tie.Need-cast-both
 cast-both c = search needs
 
@@ -61,12 +58,12 @@ values-fit-requires c κs =
 forgery-bits-requires : tie.Need-forgery-bits-requires
 forgery-bits-requires c κs = search needs
 
-values-fit-requires-2 : tie.Need-values-fit-requires-2
-values-fit-requires-2 c κs =
+forged-fit-requires : tie.Need-forged-fit-requires
+forged-fit-requires c κs =
     let bits = c .before .before in
     let z = start bits in
     let a = z .args in
-    (z .pre .0 .narrow, forged-inside (a .h .width) (now (a .plan)) (shape (a .h)) (places bits .forgeries-at .ensures .0) (c .forgery-bits .ensures) (z .pre .0))
+    (z .pre .0 .narrow, omega (arith, z .pre .0, places bits .forgeries-at .ensures .0), search needs, forged-inside (a .h .width) (now (a .plan)) (shape (a .h)) (places bits .forgeries-at .ensures .0) (c .forgery-bits .ensures) (z .pre .0))
 
 both-requires : tie.Need-both-requires
 both-requires c κs = search needs
@@ -86,7 +83,7 @@ returns c =
     ∙ rw (
       c .before .both .ensures,
       written .values-fit .ensures,
-      forged .values-fit2 .ensures,
+      forged .forged-fit .ensures,
       one-shl (a .width) 64 (omega arith),
       written-values (a .h .width) (now (a .plan)) (shape (a .h)) (places bits .before .operations-at .ensures .0) (bits .operation-bits .ensures) (2 ^ a .width),
       forged-values (a .h .width) (now (a .plan)) (shape (a .h)) (places bits .forgeries-at .ensures .0) (forged .before .forgery-bits .ensures) (2 ^ a .width),
@@ -105,12 +102,11 @@ all-fit-spec =
     operations-at-requires
     add-written
     forgeries-at-requires
-    add-forged
     cast-both
     operation-bits-requires
     values-fit-requires
     forgery-bits-requires
-    values-fit-requires-2
+    forged-fit-requires
     both-requires
     both-requires-2
     returns)
