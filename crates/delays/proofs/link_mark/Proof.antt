@@ -23,5 +23,5 @@ returns-2 : tie.Need-returns-2
 unfolding linkMark
 returns-2 c = rw (sym (c .before .is-link .ensures) ∙ c .if1 .left) (refl, omega arith)
 
-pub link-bit-spec : {M : Type 1} → statement M
-link-bit-spec = tie.close (tie.spec div-is-link rem-is-link is-link-requires returns returns-2)
+pub link-mark-spec : {M : Type 1} → statement M
+link-mark-spec = tie.close (tie.spec div-is-link rem-is-link is-link-requires returns returns-2)

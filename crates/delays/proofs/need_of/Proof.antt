@@ -5,40 +5,40 @@ use Rattle.delays.specs.Steps.{needOf}
 use Rattle.delays.proofs.need_of.Statement.{statement}
 use Rattle.delays.proofs.need_of.Tie as tie
 
-mul-link-bit : tie.Need-mul-link-bit
-mul-link-bit c = search needs
+mul-link-mark : tie.Need-mul-link-mark
+mul-link-mark c = search needs
 
-link-bit-requires : tie.Need-link-bit-requires
-link-bit-requires c κs = search needs
+link-mark-requires : tie.Need-link-mark-requires
+link-mark-requires c κs = search needs
 
 mul-result : tie.Need-mul-result
 mul-result c = search needs
 
-mul-link-bit-2 : tie.Need-mul-link-bit-2
-mul-link-bit-2 c = search needs
+mul-link-mark-2 : tie.Need-mul-link-mark-2
+mul-link-mark-2 c = search needs
 
-add-link-bit : tie.Need-add-link-bit
-add-link-bit c = search needs
+add-link-mark : tie.Need-add-link-mark
+add-link-mark c = search needs
 
-link-bit-requires-2 : tie.Need-link-bit-requires-2
-link-bit-requires-2 c κs = search needs
+link-mark-requires-2 : tie.Need-link-mark-requires-2
+link-mark-requires-2 c κs = search needs
 
 add-result : tie.Need-add-result
 add-result c = search needs
 
 returns : tie.Need-returns
 unfolding needOf
-returns c = rw (c .before .link-bit .ensures .0, c .link-bit2 .ensures .0) refl
+returns c = rw (c .before .link-mark .ensures .0, c .link-mark2 .ensures .0) refl
 
 pub need-of-spec : {M : Type 1} → statement M
 need-of-spec =
     tie.close
     (tie.spec
-    mul-link-bit
-    link-bit-requires
+    mul-link-mark
+    link-mark-requires
     mul-result
-    mul-link-bit-2
-    add-link-bit
-    link-bit-requires-2
+    mul-link-mark-2
+    add-link-mark
+    link-mark-requires-2
     add-result
     returns)
