@@ -29,7 +29,8 @@ file PLAN or, with no argument, standard input. It prints one of
   refused N    the plan is refused; N is the number of the reason
 
 What cannot be opened, read or written is named on standard error, with the
-system's reason.
+system's reason. The exit status is 0 in every case: a script looks at what
+is printed.
 
   --help       prints this
   --version    prints the version
