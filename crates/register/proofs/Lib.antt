@@ -24,4 +24,5 @@ pub mod Named
 pub mod Regular
 pub mod Theorem
 pub mod JustSet
+pub mod Stricter
 pub mod Depth

@@ -6,3 +6,4 @@ pub mod Reading
 pub mod Regular
 pub mod Promise
 pub mod Depth
+pub mod Stricter

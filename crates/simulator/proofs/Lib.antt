@@ -7,3 +7,4 @@ pub mod Promised
 pub mod Keeps
 pub mod ShownPlaces
 pub mod Fits
+pub mod Stricter

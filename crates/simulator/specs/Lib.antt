@@ -5,3 +5,4 @@ pub mod PointThree
 pub mod Promised
 pub mod Rehearse
 pub mod Numbered
+pub mod Stricter
