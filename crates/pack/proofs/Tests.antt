@@ -1,20 +1,22 @@
 -- The tests of Pack as facts, both ways.
 -- It stands on the definition of Pack.
-use mathlib.Core.Path.{_≡_, _∙_, sym}
+use mathlib.Core.Path.{_≡_, refl, _∙_, sym}
 use mathlib.Core.Bool.{Bool, true, false, _&&_, and-eq-true-iff}
 use mathlib.Core.List.{List}
 use Prim.Native.Nat.{ℕ, _<_}
 use native.Mathlib.Omega.{arith}
-use lib.Dec.{leb, lit<}
+use lib.Dec.{T, leb, lit<}
 use lib.ListN.{length}
 use Rattle.bits.specs.Layout.{fits}
 use Rattle.register.proofs.Logic.{T-eq}
 use Rattle.plan.specs.Form.{isForm, widthOf}
+use Rattle.plan.specs.Header.{Header}
 use Rattle.plan.specs.Widths as widths
 use Rattle.plan.specs.Check as check
-use Rattle.plan.specs.Check.{Outcome, refused, result, unless}
+use Rattle.plan.specs.Check.{refused, result}
+use Rattle.plan.specs.CheckParts.{Tests, done, test, run}
 use Rattle.plan.specs.Buffer.{intoBuffer}
-use Rattle.plan.proofs.{Tests.passed, Buffer.into-outcome}
+use Rattle.plan.proofs.{Chain.Left, Chain.all-passed, Chain.refusal-by, Buffer.into-outcome}
 use Rattle.lists.specs.Lists as lists
 use Rattle.lists.specs.Lists.{Lists, listed, packedPlan}
 use Rattle.lists.proofs.Inverse.{Fit}
@@ -32,44 +34,63 @@ pub record Passed (w : ℕ) (l : Lists) (room : ℕ) : Type 0 where
   pub delays : check.delaysStand w (packedPlan w l) (listed l) ≡ true
   pub long : leb (length (packedPlan w l)) room ≡ true
 
--- a chain with a result passed both parts of its first test
-passed-both : (a b : Bool) (number : ℕ) (rest : Outcome ℕ) (m : ℕ) → unless (a && b) number rest ≡ result m → (a ≡ true) × (b ≡ true) × (rest ≡ result m)
-passed-both a b number rest m e =
-    let r = passed (a && b) number rest m e in
-    let q = and-eq-true-iff a b .0 (T-eq (a && b) (r .0)) in
-    (q .0, q .1, r .1)
+-- the parts' tests and all tests, in their order
+module _ (w : ℕ) (h : Header) (s : List ℕ) (l : Lists) (room : ℕ) where
+  abbrev pub partChain : Tests
+  partChain =
+      test (fits (lists.placementsWidths h) (l .placements) && check.placementsStand w s h) 5
+      (test (fits (lists.operationsWidths w h) (l .operations) && check.operationsStand w s h) 6
+      (test (fits (lists.forgeriesWidths w h) (l .forgeries) && check.forgeriesStand w s h) 7
+      (test (fits (lists.delaysWidths h) (l .delays) && check.delaysStand w s h) 8
+      (test (leb (length s) room) 14
+      done))))
+
+  pub parts-left : Left (partTests w h s l room) partChain (result (length s))
+  unfolding partTests run
+  parts-left = record { is = refl }
+
+module _ (w : ℕ) (l : Lists) (room : ℕ) where
+  abbrev packChain : Tests
+  packChain =
+      let h = listed l in
+      test (fits (widths.headerWidths w) (l .header) && check.headerInRange h) 2
+      (test (check.enoughServers h) 3
+      (test (lengthsImplied w h l) 4
+      (partChain w h (packedPlan w l) l room)))
+
+  tests-chain : packTests w l room ≡ run packChain (result (length (packedPlan w l)))
+  unfolding packTests partTests run
+  tests-chain = refl
+
+-- both parts of a test that passed
+each : (a b : Bool) → T (a && b) → (a ≡ true) × (b ≡ true)
+each a b t = and-eq-true-iff a b .0 (T-eq (a && b) t)
 
 module _ (w : ℕ) (l : Lists) where
   pub tests-passed : (room m : ℕ) → packTests w l room ≡ result m → Passed w l room × (m ≡ length (packedPlan w l))
-  unfolding packTests partTests
   tests-passed room m e =
-      let h = listed l in
-      let s = packedPlan w l in
-      let r2 = passed-both (fits (widths.headerWidths w) (l .header)) (check.headerInRange h) 2 _ m e in
-      let r3 = passed (check.enoughServers h) 3 _ m (r2 .2) in
-      let r4 = passed (lengthsImplied w (listed l) l) 4 _ m (r3 .1) in
-      let r5 = passed-both (fits (lists.placementsWidths h) (l .placements)) (check.placementsStand w s h) 5 _ m (r4 .1) in
-      let r6 = passed-both (fits (lists.operationsWidths w h) (l .operations)) (check.operationsStand w s h) 6 _ m (r5 .2) in
-      let r7 = passed-both (fits (lists.forgeriesWidths w h) (l .forgeries)) (check.forgeriesStand w s h) 7 _ m (r6 .2) in
-      let r8 = passed-both (fits (lists.delaysWidths h) (l .delays)) (check.delaysStand w s h) 8 _ m (r7 .2) in
-      let r14 = passed (leb (length s) room) 14 (result (length s)) m (r8 .2) in
-      let last : result (length s) ≡ result m = r14 .1 in (
+      let ((t2, (t3, (t4, (t5, (t6, (t7, (t8, (t14, _)))))))), last) = all-passed (packChain w l room) (result (length (packedPlan w l))) m (sym (tests-chain w l room) ∙ e) in
+      let (p2, q2) = each _ _ t2 in
+      let (p5, q5) = each _ _ t5 in
+      let (p6, q6) = each _ _ t6 in
+      let (p7, q7) = each _ _ t7 in
+      let (p8, q8) = each _ _ t8 in (
         record {
           fit = record {
-            header = r2 .0;
-            placements = r5 .0;
-            operations = r6 .0;
-            forgeries = r7 .0;
-            delays = r8 .0;
+            header = p2;
+            placements = p5;
+            operations = p6;
+            forgeries = p7;
+            delays = p8;
           };
-          in-range = r2 .1;
-          enough = T-eq (check.enoughServers h) (r3 .0);
-          lengths = T-eq (lengthsImplied w (listed l) l) (r4 .0);
-          placements = r5 .1;
-          operations = r6 .1;
-          forgeries = r7 .1;
-          delays = r8 .1;
-          long = T-eq (leb (length s) room) (r14 .0);
+          in-range = q2;
+          enough = T-eq _ t3;
+          lengths = T-eq _ t4;
+          placements = q5;
+          operations = q6;
+          forgeries = q7;
+          delays = q8;
+          long = T-eq _ t14;
         },
         cc,
       )
@@ -108,37 +129,10 @@ pub no-form-packs : (form : ℕ) (l : Lists) (out : List ℕ) → isForm form �
 unfolding packIn intoBuffer
 no-form-packs form l out e = rw e
 
--- a test that fails with another number than 1
-another : (b : Bool) (number : ℕ) (rest : Outcome ℕ) → (_≡_ {A = Outcome ℕ} (refused number) (refused 1) → ⊥) → (rest ≡ refused 1 → ⊥) → unless b number rest ≡ refused 1 → ⊥
-another true number rest n f e = f e
-another false number rest n f e = n e
-
-not-one : (number : ℕ) → 1 < number → _≡_ {A = Outcome ℕ} (refused number) (refused 1) → ⊥
-not-one number h e = let z : number ≡ 1 = cc in omega arith
-
-chain-not-one : (a b c d e f g h : Bool) (m : ℕ)
-    → unless a 2 (unless b 3 (unless c 4 (unless d 5 (unless e 6 (unless f 7 (unless g 8 (unless h 14 (result m)))))))) ≡ refused 1 → ⊥
-chain-not-one a b c d e f g h m =
-    let done : _≡_ {A = Outcome ℕ} (result m) (refused 1) → ⊥ = λ q. let z : _≡_ {A = ℕ} 0 1 = cc in omega arith in
-    another a 2 _ (not-one 2 (lit< tt))
-    (another b 3 _ (not-one 3 (lit< tt))
-    (another c 4 _ (not-one 4 (lit< tt))
-    (another d 5 _ (not-one 5 (lit< tt))
-    (another e 6 _ (not-one 6 (lit< tt))
-    (another f 7 _ (not-one 7 (lit< tt))
-    (another g 8 _ (not-one 8 (lit< tt))
-    (another h 14 (result m) (not-one 14 (lit< tt)) done)))))))
-
 -- 'Here 1 never occurs'
 pub never-one : (w : ℕ) (l : Lists) (out : List ℕ) → packOf w l out .outcome ≡ refused 1 → ⊥
-unfolding packTests partTests
 never-one w l out e =
-    let h = listed l in
-    let s = packedPlan w l in
-    chain-not-one (fits (widths.headerWidths w) (l .header) && check.headerInRange h) (check.enoughServers h) (lengthsImplied w h l)
-    (fits (lists.placementsWidths h) (l .placements) && check.placementsStand w s h)
-    (fits (lists.operationsWidths w h) (l .operations) && check.operationsStand w s h)
-    (fits (lists.forgeriesWidths w h) (l .forgeries) && check.forgeriesStand w s h)
-    (fits (lists.delaysWidths h) (l .delays) && check.delaysStand w s h)
-    (leb (length s) (length out)) (length s)
-    (sym (outcome-tests w l out) ∙ e)
+    let more : 1 < 1 = refusal-by (λ (n : ℕ). 1 < n) (packChain w l (length out)) (length (packedPlan w l)) 1
+    (lit< tt, (lit< tt, (lit< tt, (lit< tt, (lit< tt, (lit< tt, (lit< tt, (lit< tt, tt))))))))
+    (sym (tests-chain w l (length out)) ∙ sym (outcome-tests w l out) ∙ e) in
+    omega arith

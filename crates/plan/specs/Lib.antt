@@ -5,6 +5,7 @@ pub mod Limits
 pub mod Parts
 pub mod Packed
 pub mod Check
+pub mod CheckParts
 pub mod Buffer
 pub mod Playable
 pub mod Shape

@@ -2,7 +2,6 @@
 use mathlib.Core.Path.{_≡_}
 use mathlib.Core.Bool.{Bool, true, false, cond}
 use mathlib.Core.List.{List, [], _∷_}
-use Prim.Native.Nat.{ℕ}
 use Rattle.plan.specs.Check.{Outcome, refused, result}
 use Rattle.plan.specs.Numbered.{refusalNumber}
 use Rattle.simulator.specs.declared.look.{Place.Place, Seen.Seen, Looked.Looked}
