@@ -137,27 +137,27 @@ taken-none c (suc m) l h = rw (taken-none c m l (λ j a. h j (omega arith))) (pu
 
 -- of a settled server the pairs outside the span of its row of the calendar are taken in to no effect
 module _ (m e r w : ℕ) (work : List ℕ) (row : ℕ) (s : Plain) (K : Settled m e r s) (few : m ≤ places) (l : row < rows) (S : Spanned work) where
-  abbrev inSpan : ℕ → Bool
-  inSpan j = inSpan (lowOf work row) (highOf work row) j
+  abbrev inRow : ℕ → Bool
+  inRow j = inSpan (lowOf work row) (highOf work row) j
 
   abbrev voted : ℕ → Bool
   voted j = voting e r (joined m (s .fresh) (sender work row)) (joined m (s .recent) (sender work row)) j
 
-  silent-outside : (votes : ℕ → ℕ → Bool) (j : ℕ) → j < m → inSpan j ≡ false → joined m votes (sender work row) j ≡ votes j
+  silent-outside : (votes : ℕ → ℕ → Bool) (j : ℕ) → j < m → inRow j ≡ false → joined m votes (sender work row) j ≡ votes j
   silent-outside votes j h out = fun-ext (λ i. elim (test (sender work row j i)) [
     | inl d ↦ absurd (let z = S .within row j i l (omega arith) (T-eq _ d) in false≢true (sym out ∙ rw (le-leb (lowOf work row) j (z .0), lt-ltb j (highOf work row) (z .1))))
     | inr d ↦ rw (F-eq (sender work row j i) d, and-false (ltb j m)) (or-false (votes j i))
   ])
 
-  pub span-enough : taken (λ j. inSpan j && voted j) m (withWrite m w s .kept) ≡ taken voted m (withWrite m w s .kept)
-  span-enough = rw (write-kept m w s) (taken-alike (λ j. inSpan j && voted j) voted m _ go)
+  pub span-enough : taken (λ j. inRow j && voted j) m (withWrite m w s .kept) ≡ taken voted m (withWrite m w s .kept)
+  span-enough = rw (write-kept m w s) (taken-alike (λ j. inRow j && voted j) voted m _ go)
     where
-      go : (j : ℕ) → j < m → Kept j (put (ltb w m) w (s .kept)) ⊎ (inSpan j && voted j ≡ voted j)
-      go j h = elim (test (inSpan j)) [
-        | inl d ↦ inr (rw (T-eq (inSpan j) d))
+      go : (j : ℕ) → j < m → Kept j (put (ltb w m) w (s .kept)) ⊎ (inRow j && voted j ≡ voted j)
+      go j h = elim (test (inRow j)) [
+        | inl d ↦ inr (rw (T-eq (inRow j) d))
         | inr d ↦ elim (test (voted j)) [
           | inl v ↦ inl (put-keeps (ltb w m) j w (s .kept) (K .same j h (rw (← silent-outside (s .fresh) j h (F-eq _ d), ← silent-outside (s .recent) j h (F-eq _ d)) (T-eq _ v))))
-          | inr v ↦ inr (rw (F-eq (voted j) v) (and-false (inSpan j)))
+          | inr v ↦ inr (rw (F-eq (voted j) v) (and-false (inRow j)))
         ]
       ]
 
