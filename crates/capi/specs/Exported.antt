@@ -7,7 +7,7 @@ use Rattle.plan.specs.Form.{isForm, widthOf}
 use Rattle.plan.specs.Buffer.{Buffered}
 use Rattle.pack.specs.Pack.{packIn}
 use Rattle.answers.specs.Answers.{answerSize}
-use Rattle.simulator.specs.Play.{Played, playIn}
+use Rattle.results.specs.Play.{Played, playIn}
 use Rattle.codes.specs.Codes.{codeOf}
 
 pub record Handed : Type 0 where

@@ -3,7 +3,7 @@ ghost use mathlib.Core.Path.{_≡_};
 ghost use Rattle.plan.specs.Check.{checkIn};
 ghost use Rattle.plan.specs.Limits.{mostBytes, mostReads};
 ghost use Rattle.answers.specs.Workspace.{workspaceSize};
-ghost use Rattle.simulator.specs.Judge.{judgeIn};
+ghost use Rattle.results.specs.Judge.{judgeIn};
 ghost use Rattle.codes.specs.Codes.{codeOf, verdictCode, lookCoded};
 ghost use Rattle.fields.specs.Fields.{answerField, headerField};
 ghost use Rattle.pack.specs.Numbered.{listsFrom};

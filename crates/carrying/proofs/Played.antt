@@ -9,7 +9,7 @@ use borrow.Author.Tests.{le-ltb}
 use Rattle.plan.specs.Check.{result, checkOf}
 use Rattle.answers.specs.Answers.{answerSize}
 use Rattle.answers.specs.Workspace.{workspaceSize, zeroed}
-use Rattle.simulator.specs.Play.{playAfter, playOf}
+use Rattle.results.specs.Play.{playAfter, playOf}
 use Rattle.carrying.specs.{Carrying.carriedPlan, Carrying.valuesFit, Answers.carriedAnswers}
 use Rattle.carrying.proofs.Back.{carried-accepted}
 use Rattle.carrying.proofs.Answers.{answers-carried}

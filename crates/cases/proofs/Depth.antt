@@ -7,8 +7,8 @@ use lib.ListN.{take}
 use Rattle.register.specs.Cluster.{cluster, serverOf}
 use Rattle.register.specs.Depth.{atDepth, OwedAlike}
 use Rattle.plan.specs.Packed.{planOf}
-use Rattle.simulator.specs.Look.{shownBy}
-use Rattle.simulator.proofs.PointThree.{owedAtDepth}
+use Rattle.results.specs.Look.{shownBy}
+use Rattle.results.proofs.PointThree.{owedAtDepth}
 use Rattle.cases.specs.Starred.{oneWidth, six-writes, last-five}
 use Rattle.cases.proofs.Opened.{opened}
 

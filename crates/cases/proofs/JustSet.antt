@@ -5,7 +5,7 @@ use Rattle.register.specs.Plan.{stamped}
 use Rattle.register.specs.Promise.{OwedJustSet}
 use Rattle.plan.specs.Packed.{planOf}
 use Rattle.plan.specs.Check.{result}
-use Rattle.simulator.proofs.PointThree.{justSetOwed}
+use Rattle.results.proofs.PointThree.{justSetOwed}
 use Rattle.cases.specs.Starred.{oneWidth, just-set, checks, Holds}
 use Rattle.cases.proofs.Opened.{opened}
 use Rattle.cases.proofs.Starred.{ended-as-begun-holds}

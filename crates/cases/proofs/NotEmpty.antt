@@ -11,9 +11,9 @@ use Rattle.plan.specs.Header.{headerOf, moves}
 use Rattle.plan.specs.Packed.{planOf}
 use Rattle.plan.specs.Check.{Outcome, result, checkOf}
 use Rattle.answers.specs.Answers.{answersOf}
-use Rattle.simulator.specs.{Play.playOf, Judge.readOf, Judge.judgeOf, PointThree.PointThree}
+use Rattle.results.specs.{Play.playOf, Judge.readOf, Judge.judgeOf, PointThree.PointThree}
 use Rattle.cases.proofs.Opened.{opened}
-use Rattle.simulator.proofs.{Played.play-plays, PointThree.pointThree}
+use Rattle.results.proofs.{Played.play-plays, PointThree.pointThree}
 use Rattle.carrying.specs.Carrying.{carriedPlan}
 use Rattle.carrying.proofs.{Values.wider-fits, Back.carried-accepted}
 use Rattle.cases.specs.{Hex.hex, Starred.oneWidth, Starred.twoWidth}

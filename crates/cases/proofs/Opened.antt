@@ -13,8 +13,8 @@ use Rattle.plan.specs.Parts
 use Rattle.plan.specs.Packed
 use Rattle.plan.specs.Check
 use Rattle.answers.specs.Answers
-use Rattle.simulator.specs.Look
-use Rattle.simulator.specs.Judge
+use Rattle.results.specs.Look
+use Rattle.results.specs.Judge
 use Rattle.decimal.specs.Decimal
 use Rattle.lines.specs.Text
 use Rattle.cases.specs.Hex

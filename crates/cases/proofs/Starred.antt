@@ -11,7 +11,7 @@ use Rattle.register.specs.{Cluster.cluster, Cluster.serverOf, Lists.In, Lists.s
 use Rattle.register.proofs.{Logic.and-l, Logic.and-r, Lists.sameList-eq}
 use Rattle.plan.specs.{Buffer.Buffered, Buffer.intoBuffer, Check.Outcome, Check.checkOf, Check.checkIn, Check.refused, Check.result, Form.widthOf, Header.headerOf, Header.kIn, Packed.planOf}
 use Rattle.answers.specs.Answers.{answersOf}
-use Rattle.simulator.specs.{Judge.judgeOf, Judge.readOf, Look.Condition, Look.Shown, Look.Stamped, Look.is-correct, Look.is-cured, Look.is-faulty, Look.shownBy}
+use Rattle.results.specs.{Judge.judgeOf, Judge.readOf, Look.Condition, Look.Shown, Look.Stamped, Look.is-correct, Look.is-cured, Look.is-faulty, Look.shownBy}
 use Rattle.lines.specs.Text.{textOf}
 use Rattle.lists.specs.Lists.{listsOf, planBits, packedPlan}
 use Rattle.carrying.specs.Carrying.{carriedPlan, valuesFit, carryTests, carryAfter, carryOf}

@@ -14,8 +14,8 @@ use Rattle.plan.specs.Packed.{planOf}
 use Rattle.plan.specs.Check.{Outcome, refused, result, checkOf, checkIn}
 use Rattle.plan.specs.Buffer.{Buffered}
 use Rattle.answers.specs.Answers.{answersOf}
-use Rattle.simulator.specs.Look.{is-cured, is-correct, Stamped, Shown, shownBy}
-use Rattle.simulator.specs.Judge.{readOf, judgeOf}
+use Rattle.results.specs.Look.{is-cured, is-correct, Stamped, Shown, shownBy}
+use Rattle.results.specs.Judge.{readOf, judgeOf}
 use Rattle.lines.specs.Text.{textOf}
 use Rattle.carrying.specs.Carrying.{carryOf}
 use Rattle.cases.specs.Hex.{hex}

@@ -14,8 +14,8 @@ use Rattle.plan.proofs.{Longest.longest, Longest.most-reads, Forms.form-known, 
 use Rattle.lists.specs.Lists.{Lists, readsListed, packedPlan}
 use Rattle.pack.specs.Pack.{packIn}
 use Rattle.pack.proofs.Inverted.{form-packed-well}
-use Rattle.simulator.specs.Look.{Condition, is-faulty, is-cured, is-correct, shownBy}
-use Rattle.simulator.proofs.Keeps.{few-shown}
+use Rattle.results.specs.Look.{Condition, is-faulty, is-cured, is-correct, shownBy}
+use Rattle.results.proofs.Keeps.{few-shown}
 use Rattle.carrying.specs.Carrying.{carryOf}
 use Rattle.carrying.proofs as carrying
 use Rattle.codes.specs.Codes.{refusedFrom, refusalCode, codeOf, verdictNumber, conditionCode, shownNumber}

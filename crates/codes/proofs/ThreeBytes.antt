@@ -17,7 +17,7 @@ use Rattle.plan.specs.Form.{widthOf, mostWidth}
 use Rattle.plan.specs.Check.{Outcome, refused, result, checkIn}
 use Rattle.plan.proofs.Forms.{form-narrow}
 use Rattle.answers.specs.Workspace.{workspaceSize, zeroed}
-use Rattle.simulator.specs.Look.{shownBy, placeWith, emptyPlace, placesOf, Looked, lookShown, lookRefused, lookAfter, lookIn}
+use Rattle.results.specs.Look.{shownBy, placeWith, emptyPlace, placesOf, Looked, lookShown, lookRefused, lookAfter, lookIn}
 use Rattle.codes.specs.Codes.{ThreeBytes}
 
 empty-three : (k : ℕ) → ThreeBytes (replicate k emptyPlace)

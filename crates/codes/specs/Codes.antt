@@ -4,10 +4,10 @@ use mathlib.Core.Bool.{Bool, true, false}
 use mathlib.Core.List.{List, [], _∷_, _++_}
 use Prim.Native.Nat.{ℕ, _+_, _*_, _/_, _%_, _^_, _<_}
 use lib.ListN.{length, take, drop, getD}
-use Rattle.simulator.specs.declared.look.Place.{Place}
+use Rattle.results.specs.declared.look.Place.{Place}
 use Rattle.plan.specs.Form.{mostWidth}
 use Rattle.plan.specs.Check.{Outcome, refused, result}
-use Rattle.simulator.specs.Look.{Condition, is-faulty, is-cured, is-correct, Stamped, Shown, emptyPlace, Looked, lookIn}
+use Rattle.results.specs.Look.{Condition, is-faulty, is-cured, is-correct, Stamped, Shown, emptyPlace, Looked, lookIn}
 
 -- what a refusal's number is added to, above every result
 abbrev pub refusedFrom : ℕ

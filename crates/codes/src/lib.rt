@@ -3,12 +3,12 @@ ghost use mathlib.Core.Path.{_≡_};
 ghost use mathlib.Core.List.{[]};
 ghost use Prim.Native.Nat.{_≤_};
 ghost use Rattle.plan.specs.Numbered.{refusalNumber, numbered};
-ghost use Rattle.simulator.specs.Numbered.{judged, lookedAs};
+ghost use Rattle.results.specs.Numbered.{judged, lookedAs};
 ghost use Rattle.codes.specs.Codes.{refusalCode, codeOf, verdictCode, shownCode};
 use plan::Outcome;
 use plan::Refusal;
-use simulator::judge::Judged;
-use simulator::look::Seen;
+use results::judge::Judged;
+use results::look::Seen;
 
 // What a refusal's number is added to, 2 ^ 24.
 pub const REFUSED: usize = 16777216;

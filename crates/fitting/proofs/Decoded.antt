@@ -16,7 +16,7 @@ use Rattle.plan.proofs as plan-laws
 use Rattle.plan.proofs.Accept.{playable, reads-counted, in-range}
 use Rattle.tables.specs.Operations.{opAt, noWrite, Written, ReadIn}
 use Rattle.tables.proofs.Standing.{writes-same, reads-same}
-use Rattle.simulator.specs.Judge.{readOf, answerFits}
+use Rattle.results.specs.Judge.{readOf, answerFits}
 use Rattle.regular.specs.Tables.{Tables}
 use Rattle.fitting.specs.Fitting.{fitsRead}
 

@@ -12,8 +12,8 @@ use Rattle.register.proofs.Logic.{T-eq}
 use Rattle.plan.specs.{Form.isForm, Form.widthOf, Check.Outcome, Check.refused, Check.result, Check.checkOf, Check.checkIn}
 use Rattle.plan.proofs.{Forms.form-passed, Laws.all-at, Tests.passed}
 use Rattle.answers.specs.Answers.{answerSize}
-use Rattle.simulator.specs.Judge.{answerFits}
-use Rattle.simulator.proofs.Fits.{IsTo, fits-to}
+use Rattle.results.specs.Judge.{answerFits}
+use Rattle.results.proofs.Fits.{IsTo, fits-to}
 use Rattle.fitting.specs.Answered.{answeredAfter, answeredIn, Answered}
 
 module _ (w : ℕ) (s a : List ℕ) (m : ℕ) where

@@ -9,7 +9,7 @@ use Rattle.register.specs.Lists.{allUpTo}
 use Rattle.plan.specs.Form.{widthOf}
 use Rattle.plan.specs.Check.{Outcome, refused, result, unless, checkOf, checkIn}
 use Rattle.answers.specs.Answers.{answerSize}
-use Rattle.simulator.specs.Judge.{answerFits}
+use Rattle.results.specs.Judge.{answerFits}
 
 module _ (w : ℕ) (s a : List ℕ) where
   -- '12 length other than 5 times the reads; 13 an answer whose begin, screen or zero bit isn't that of its read'

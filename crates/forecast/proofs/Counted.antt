@@ -17,7 +17,7 @@ use Rattle.plan.specs.{Packed.planOf, Playable.Playable}
 use Rattle.plan.proofs as plan-laws
 use Rattle.answers.specs.Answers.{answerSize}
 use Rattle.tables.specs.Operations.{noWrite, noRead}
-use Rattle.simulator.proofs.AnswerBytes.{answersOf-length}
+use Rattle.results.proofs.AnswerBytes.{answersOf-length}
 use Rattle.forecast.specs.{Forecast.countsOf, Steps.allReceipts}
 
 -- an operation is a write or a read

@@ -10,7 +10,7 @@ use Rattle.register.specs.Lists.{allUpTo}
 use Rattle.plan.specs.Form.{widthOf}
 use Rattle.plan.specs.Check.{Outcome, refused, result, unless, checkIn}
 use Rattle.answers.specs.Answers.{answerSize}
-use Rattle.simulator.specs.Judge.{answerFits, answerAllowed, judgeAfter, judgeIn}
+use Rattle.results.specs.Judge.{answerFits, answerAllowed, judgeAfter, judgeIn}
 use Rattle.fitting.specs.Answered.{answeredAfter, answeredIn}
 
 module _ (w : ℕ) (s a : List ℕ) where

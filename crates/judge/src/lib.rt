@@ -4,7 +4,7 @@ use limits::PLACES;
 use plan::Outcome;
 use plan::form;
 use regular::is_allowed;
-use simulator::judge::Judged;
+use results::judge::Judged;
 ghost use mathlib.Core.Path.{_≡_};
 ghost use Prim.Native.Nat.{ℕ, _*_, _≤_, _<_};
 ghost use lib.ListN.{length};
@@ -12,7 +12,7 @@ ghost use Rattle.register.specs.{Lists.allUpTo, Plan.Plan, Regular.allowed};
 ghost use Rattle.answers.specs.Answers.{answerSize, beginIn, pairIn};
 ghost use Rattle.plan.specs.Form.{mostWidth};
 ghost use Rattle.plan.specs.Check.{result};
-ghost use Rattle.simulator.specs.{Judge.readOf, Judge.answerAllowed, Judge.judgeIn, Numbered.judged};
+ghost use Rattle.results.specs.{Judge.readOf, Judge.answerAllowed, Judge.judgeIn, Numbered.judged};
 ghost use Rattle.regular.specs.Tables.{Tables};
 ghost use Rattle.fitting.specs.Answered.{Answered};
 

@@ -15,8 +15,8 @@ use Rattle.plan.specs as plan-specs
 use Rattle.plan.proofs as plan-laws
 use Rattle.answers.specs.Answers.{answerSize, answerAt, answersFor, answersOf}
 use Rattle.answers.proofs.Lengths.{answers-length}
-use Rattle.simulator.specs.Judge.{readOf}
-use Rattle.simulator.proofs as simulator-laws
+use Rattle.results.specs.Judge.{readOf}
+use Rattle.results.proofs as results-laws
 use Rattle.fields.specs.Fields.{answerFields, answerField}
 use Rattle.lines.specs.declared.Answer.{Answer as Fields}
 use Rattle.lines.specs.{Text.programWidth, Text.lineOf, Text.linesFor, Lines.answerIn, Lines.lineFor, Lines.linesIn}
@@ -53,8 +53,8 @@ module _ (s : List ℕ) (m : ℕ) (e : plan-specs.Check.checkOf programWidth s �
   inside i l = rw (plan-laws.Accept.reads-counted programWidth s m e) at l
 
   -- every answer fits its fields
-  pub answer-fits : (r : register-specs.Plan.Read) → register-specs.Lists.In r (P .reads) → simulator-laws.AnswerBytes.FieldsFit programWidth r (register-specs.Reading.answerOf P r)
-  answer-fits r i = simulator-laws.Judged.fits programWidth s (plan-laws.Accept.accepted programWidth s m e) r i (simulator-laws.PointThree.pointThree programWidth s m e .served r i)
+  pub answer-fits : (r : register-specs.Plan.Read) → register-specs.Lists.In r (P .reads) → results-laws.AnswerBytes.FieldsFit programWidth r (register-specs.Reading.answerOf P r)
+  answer-fits r i = results-laws.Judged.fits programWidth s (plan-laws.Accept.accepted programWidth s m e) r i (results-laws.PointThree.pointThree programWidth s m e .served r i)
 
   fields-are : (i : ℕ) → i < m → answerIn (answersOf programWidth s) i ≡ fieldsOf (readOf P i) (register-specs.Reading.answerOf P (readOf P i))
   unfolding answerIn answerField answerFields answersOf
@@ -62,7 +62,7 @@ module _ (s : List ℕ) (m : ℕ) (e : plan-specs.Check.checkOf programWidth s �
       let n = inside i l in
       let F = answer-fits (readOf P i) (plan-laws.Tests.getD-in (P .reads) i none n) in
       let whole : i < length (answersFor programWidth P (P .reads)) / answerSize programWidth = omega (arith, answers-length programWidth P (P .reads)) in
-      rw (lt-ltb _ _ whole) (ap fieldsIn (simulator-laws.AnswerBytes.numbers-of programWidth P (P .reads) none i n F))
+      rw (lt-ltb _ _ whole) (ap fieldsIn (results-laws.AnswerBytes.numbers-of programWidth P (P .reads) none i n F))
 
   line-is : (i : ℕ) → i < m → lineFor (2 * P .delta) (answerIn (answersOf programWidth s) i) ≡ lineOf programWidth P (readOf P i)
   unfolding lineFor lineOf

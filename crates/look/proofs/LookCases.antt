@@ -16,12 +16,12 @@ use Rattle.plan.specs as plan-specs
 use Rattle.register.proofs.Stamped.{value-stamped, number-stamped}
 use Rattle.calendar.specs.declared.Stamped.{Stamped as Kept}
 use Rattle.limits.specs.Limits.{noPair}
-use Rattle.simulator.specs as simulator-specs
+use Rattle.results.specs as results-specs
 use Rattle.serving.specs.Stored.{pairsIn}
 use Rattle.answers.specs.Workspace.{workspaceSize, zeroed}
-use Rattle.simulator.specs.Look.{Stamped, conditionOf, shownBy, placeWith, emptyPlace, placesOf, Looked, lookShown, lookRefused, lookAfter, lookIn}
+use Rattle.results.specs.Look.{Stamped, conditionOf, shownBy, placeWith, emptyPlace, placesOf, Looked, lookShown, lookRefused, lookAfter, lookIn}
 use Rattle.look.specs.Shown.{storedIn, seenOf}
-use Rattle.simulator.specs.Numbered.{shownIn, lookedAs}
+use Rattle.results.specs.Numbered.{shownIn, lookedAs}
 
 -- In a form, whose values have w bits.
 module _ (form : ℕ) (s workspace : List ℕ) (b t : ℕ) where
@@ -93,7 +93,7 @@ shown-places pairs = go pairs (plan-specs.Packed.storeDepth - length pairs)
     go (p ∷ pairs) m = rw (go pairs m)
 
 module _ (w : ℕ) (x : Server) (status : Status) (kept : List Kept) (es : x .status ≡ status) (ek : x .kept ≡ pairsIn w kept) (narrow : NarrowIn w kept) where
-  pub shown : (seen : simulator-specs.declared.look.Seen.Seen) (places : List simulator-specs.declared.look.Place.Place) (a v : List ℕ) → seen ≡ seenOf status → places ≡ placesOf (storedIn kept) → a ≡ v
+  pub shown : (seen : results-specs.declared.look.Seen.Seen) (places : List results-specs.declared.look.Place.Place) (a v : List ℕ) → seen ≡ seenOf status → places ≡ placesOf (storedIn kept) → a ≡ v
       → record { outcome = lookedAs (shownIn places) seen; places = places; workspace = a } ≡ lookShown (shownBy w x) v
   unfolding shownBy shows
   shown seen places a v e p z =

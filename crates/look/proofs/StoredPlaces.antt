@@ -12,11 +12,11 @@ use Rattle.plan.specs.Packed.{storeDepth}
 use Rattle.limits.specs.Limits.{noPair}
 use Rattle.calendar.specs.declared.Stamped.{Stamped as Kept}
 use Rattle.calendar.specs.Posts.{vacant}
-use Rattle.simulator.specs.declared.look.Place.{Place}
-use Rattle.simulator.specs.Look.{placeWith, placesOf}
-use Rattle.simulator.specs.Numbered.{shownIn}
+use Rattle.results.specs.declared.look.Place.{Place}
+use Rattle.results.specs.Look.{placeWith, placesOf}
+use Rattle.results.specs.Numbered.{shownIn}
 use Rattle.look.specs.Shown.{storedIn}
-use Rattle.simulator.proofs.ShownPlaces.{pairOf, Passed, passed, at-end, at-empty, one-more, placed-more}
+use Rattle.results.proofs.ShownPlaces.{pairOf, Passed, passed, at-end, at-empty, one-more, placed-more}
 
 -- a place of a store as a place of the array
 abbrev pub placeIn : Kept → Place

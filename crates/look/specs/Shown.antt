@@ -5,9 +5,9 @@ use lib.Dec.{eqb}
 use Rattle.register.specs.Server.{Status, faulty, cured, correct}
 use Rattle.limits.specs.Limits.{noPair}
 use Rattle.calendar.specs.declared.Stamped.{Stamped as Kept}
-use Rattle.simulator.specs.declared.look.Seen.{Seen}
-use Rattle.simulator.specs.declared.look.Seen.the-variants as S
-use Rattle.simulator.specs.Look.{Stamped}
+use Rattle.results.specs.declared.look.Seen.{Seen}
+use Rattle.results.specs.declared.look.Seen.the-variants as S
+use Rattle.results.specs.Look.{Stamped}
 
 -- the pairs of a store, before its first empty place
 unfoldable pub storedIn : List Kept → List Stamped

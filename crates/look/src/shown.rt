@@ -1,15 +1,15 @@
 // What Look shows of a server: its condition, and the pairs of its store.
 ghost use mathlib.Core.Path.{_≡_};
 ghost use Rattle.serving.specs.Stored.{statusOf};
-ghost use Rattle.simulator.specs.Look.{placesOf};
+ghost use Rattle.results.specs.Look.{placesOf};
 ghost use Rattle.look.specs.Shown.{seenOf, storedIn};
 use calendar::Stamped;
 use limits::DEPTH;
 use limits::NO_PAIR;
+use results::look::Place;
+use results::look::Seen;
+use results::look::empty_places;
 use serving::Status;
-use simulator::look::Place;
-use simulator::look::Seen;
-use simulator::look::empty_places;
 
 pub fn condition(status: Status) -> Seen
     ensures { λ r. ⌜ r ≡ seenOf (statusOf status) ⌝ }

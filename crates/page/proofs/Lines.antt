@@ -16,7 +16,7 @@ use Rattle.plan.specs.{Form.mostWidth, Header.headerOf, Header.operationAt, Pac
 use Rattle.plan.specs.Parts.{Operation, operationOf, operationsOf, readsFrom}
 use Rattle.plan.proofs.Reading.{isRead, readBy}
 use Rattle.answers.specs.Answers.{answerAt, answerNumbers, pairIn, countIn}
-use Rattle.simulator.specs.Judge.{readOf}
+use Rattle.results.specs.Judge.{readOf}
 use Rattle.page.specs.Page.{lineColumns, lineSize, ended, heading, rule, emptyLine, isMarked, readLine, readLines, pageOf}
 use Rattle.page.specs.Recovered.{lineIn}
 use Rattle.page.proofs.Rows.{RowFits, heading-length, rule-length, row-length}

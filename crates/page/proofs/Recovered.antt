@@ -14,8 +14,8 @@ use Rattle.bits.proofs.{Laws.field-zero, Filling.fill-units, Joined.numbers-lef
 use Rattle.register.specs.Plan.{valueOf, numberOf}
 use Rattle.plan.{specs.Form.formOne, specs.Form.formTwo, specs.Form.isForm, specs.Form.widthOf, specs.Form.mostWidth, specs.Packed.planOf, proofs.Forms.by-form, proofs.Forms.form-narrow}
 use Rattle.answers.specs.Answers.{answerWidths, answerBits, answerSize, answerNumbers, beginIn, readerIn, pairIn, countIn, zeroIn}
-use Rattle.simulator.specs.Judge.{readOf}
-use Rattle.simulator.proofs.Fits.{IsTo}
+use Rattle.results.specs.Judge.{readOf}
+use Rattle.results.proofs.Fits.{IsTo}
 use Rattle.page.specs.{Page.lineSize, Page.cells, Page.inCells, Page.markOf, Page.rule, Page.rowOf, Page.isMarked, Page.readLine, Page.pageOf, Words.fitCells, Recovered.cellNumbers, Recovered.answerOn, Recovered.answersFrom, Recovered.formOn, Recovered.answersOn}
 use Rattle.page.proofs.{Rows.RowFits, Rows.row-is, Rows.row-fits, Lines.value-in, Lines.number-in, Lines.rule-line, Lines.read-fits, Lines.page-length, Lines.page-line}
 

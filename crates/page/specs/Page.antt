@@ -11,7 +11,7 @@ use Rattle.register.specs.Regular.{concurrent}
 use Rattle.plan.specs.Form.{formOne, widthOf}
 use Rattle.plan.specs.Packed.{planOf}
 use Rattle.answers.specs.Answers.{pairIn, countIn}
-use Rattle.simulator.specs.Judge.{readOf}
+use Rattle.results.specs.Judge.{readOf}
 
 -- 'lines of exactly 80 characters and a line feed'
 abbrev pub lineColumns : ℕ

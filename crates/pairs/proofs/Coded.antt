@@ -5,10 +5,10 @@ use mathlib.Core.List.{List, []}
 use Prim.Native.Nat.{ℕ, _+_, _*_, _≤_, _<_}
 use native.Mathlib.Omega.{arith}
 use lib.ListN.{length}
-use Rattle.simulator.specs.Look.{Stamped}
-use Rattle.simulator.specs.Numbered.{lookedAs}
-use Rattle.simulator.specs.declared.look.Seen.{Seen}
-use Rattle.simulator.specs.declared.look.Seen.the-variants.{Faulty, Cured, Correct, Refused}
+use Rattle.results.specs.Look.{Stamped}
+use Rattle.results.specs.Numbered.{lookedAs}
+use Rattle.results.specs.declared.look.Seen.{Seen}
+use Rattle.results.specs.declared.look.Seen.the-variants.{Faulty, Cured, Correct, Refused}
 use Rattle.codes.specs.Codes.{refusedFrom, shownCode, perPair, shownPairs}
 
 -- what Look saw, its pairs left out

@@ -10,10 +10,10 @@ use lib.Dec.{ltb}
 use lib.ListN.{length, drop, getD, set, length-append, length-drop}
 use lib.Seq.{sets, sets-eq, take-nil, take-all, length-take-le, take-append-le, take-at, drop-append-add, drop-drop}
 use borrow.Author.Tests.{ltb-true, ltb-false}
-use Rattle.simulator.specs.declared.look.Place.{Place}
-use Rattle.simulator.specs.Look.{Stamped}
-use Rattle.simulator.specs.Numbered.{shownIn}
-use Rattle.simulator.proofs.ShownPlaces.{pairOf, Passed, passed, passed-more}
+use Rattle.results.specs.declared.look.Place.{Place}
+use Rattle.results.specs.Look.{Stamped}
+use Rattle.results.specs.Numbered.{shownIn}
+use Rattle.results.proofs.ShownPlaces.{pairOf, Passed, passed, passed-more}
 use Rattle.codes.specs.Codes.{pairSize, pairBytes, pairsOver}
 
 -- four stores are `sets` of four bytes

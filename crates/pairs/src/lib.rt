@@ -8,13 +8,13 @@ ghost use lib.ListN.{length};
 ghost use lib.Seq.{sets};
 ghost use Rattle.plan.specs.Form.{mostWidth};
 ghost use Rattle.plan.specs.Packed.{storeDepth};
-ghost use Rattle.simulator.specs.Numbered.{looked, shownIn};
+ghost use Rattle.results.specs.Numbered.{looked, shownIn};
 ghost use Rattle.codes.specs.Codes.{shownCode, pairSize, ThreeBytes, pairBytes, shownPairs, pairsOver, lookCoded};
 use codes::REFUSED;
 use codes::of_seen;
 use limits::DEPTH;
-use simulator::look::Looked;
-use simulator::look::Place;
+use results::look::Looked;
+use results::look::Place;
 
 // What each pair that Look shows adds to the condition.
 pub const PER_PAIR: usize = 4;

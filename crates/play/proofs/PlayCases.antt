@@ -9,7 +9,7 @@ use Rattle.plan.specs.Form.{widthOf}
 use Rattle.plan.specs.Check.{refused, result, checkIn}
 use Rattle.answers.specs.Answers.{answerSize, answersOf}
 use Rattle.answers.specs.Workspace.{workspaceSize, zeroed}
-use Rattle.simulator.specs.Play.{Played, playAfter, playIn}
+use Rattle.results.specs.Play.{Played, playAfter, playIn}
 
 module _ (form : ℕ) (s answers workspace : List ℕ) where
   abbrev refusedBy : ℕ → Played

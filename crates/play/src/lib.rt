@@ -1,8 +1,8 @@
 // Play: a plan's answers into a lent buffer, with a lent workspace.
 ghost use mathlib.Core.Path.{_≡_};
 ghost use Rattle.plan.specs.{Form.widthOf, Numbered.numbered};
-ghost use Rattle.simulator.specs.Play.{playIn};
-ghost use Rattle.simulator.specs.Promised.{Promised};
+ghost use Rattle.results.specs.Play.{playIn};
+ghost use Rattle.results.specs.Promised.{Promised};
 use plan::Outcome;
 use plan::Refusal;
 use plan::form;

@@ -11,7 +11,7 @@ use Rattle.register.proofs.{Logic.T-iff, Logic.and-l, Logic.and-r, Logic.and-i,
 use Rattle.plan.specs.{Header.headerOf, Packed.planOf}
 use Rattle.calendar.specs.Layout.{rowOf}
 use Rattle.requests.specs.Requests.{SameBehind}
-use Rattle.states.specs.Way.{forgedAs}
+use Rattle.refinement.specs.Way.{forgedAs}
 use Rattle.tables.specs.Known.{pairAt}
 use Rattle.script.specs as script-specs
 use Rattle.tables.specs as tables-specs

@@ -12,7 +12,7 @@ use Rattle.plan.{specs.Parts.isLink, specs.Header.headerOf, specs.Packed.planOf
 use Rattle.calendar.proofs.Spans.{own-rows}
 use Rattle.tables.specs.Links.{linkDelay}
 use Rattle.requests.specs.Requests.{reachedBy, Asked}
-use Rattle.states.{specs.Requests.readReaches, specs.Requests.Requested, specs.Requests.writeBegins, specs.Requests.readBegins, proofs.RequestLaws.requested-next, proofs.RequestLaws.same-arrival}
+use Rattle.refinement.{specs.Requests.readReaches, specs.Requests.Requested, specs.Requests.writeBegins, specs.Requests.readBegins, proofs.RequestLaws.requested-next, proofs.RequestLaws.same-arrival}
 use Rattle.script.specs as script-specs
 use Rattle.script.specs.Script.{widthIn}
 use Rattle.script.proofs as script-laws

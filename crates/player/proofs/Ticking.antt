@@ -12,8 +12,8 @@ use Rattle.limits.specs.Limits.{places}
 use Rattle.limits.proofs.Bits.{bit-zero}
 use Rattle.requests.{specs.Requests.SameBehind, specs.Requests.SameOutside, proofs.Requesting.behind-trans, proofs.Requesting.past-behind, proofs.Requesting.outside-sender, proofs.Requesting.outside-spanned}
 use Rattle.serving.specs.{declared.Server.Server, Tallies.ofReader, Tallies.holds}
-use Rattle.states.specs.{State.State, Requests.Requested}
-use Rattle.states.proofs as states-laws
+use Rattle.refinement.specs.{State.State, Requests.Requested}
+use Rattle.refinement.proofs as refinement-laws
 use Rattle.cluster.specs as cluster-specs
 use Rattle.tables.specs as tables-specs
 use Rattle.cluster.specs.Tick.{Ticked, Calm, feedOf}
@@ -50,7 +50,7 @@ module _ (s : List ℕ) (r : Script) (R : Decoded s r) where
     -- the servers are settled
     pub calm : Calm (feedOf s work f) sets (c .servers)
     calm = subst (λ (x : cluster-specs.declared.Feed.Feed). Calm (feedOf s work x) sets (c .servers)) (sym (F .same))
-        (states-laws.StateLaws.calm (planOf (widthIn r) s) (feedOf s work feed) fits c sets S)
+        (refinement-laws.StateLaws.calm (planOf (widthIn r) s) (feedOf s work feed) fits c sets S)
 
     module _ (d : List Server) (then work₁ : List ℕ) (fed : Ticked (feedOf s work f) (c .ends) (c .servers) d sets then work₁ (f .rules .n)) where
       ticked : Ticked (feedOf s work feed) (c .ends) (c .servers) d sets then work₁ (r .rules .n)
@@ -67,7 +67,7 @@ module _ (s : List ℕ) (r : Script) (R : Decoded s r) where
       answer-same i l e =
           let q = readAt (r .reads) i in
           let a = answered (planOf (widthIn r) s) (tables-specs.Known.pairAt (widthIn r) (r .writes .known)) (r .writes .known .m) (good (widthIn r) s (R .playable)) (knows s r R) q (λ j k. holds then (ofReader (getD (r .reads .reader) i 0 - 1) + j) k)
-          (states-laws.StateLaws.noted-end (planOf (widthIn r) s) (good (widthIn r) s (R .playable)) (feedOf s work feed) fits (knows s r R) c d sets then work₁ ticked S q (listed s r R i l) e) in
+          (refinement-laws.StateLaws.noted-end (planOf (widthIn r) s) (good (widthIn r) s (R .playable)) (feedOf s work feed) fits (knows s r R) c d sets then work₁ ticked S q (listed s r R i l) e) in
           rw (R .scripted .reads .each i l, fits .reply, a)
 
       pub answers-are : (k k′ : ℕ) (answers : List ℕ) → Until (r .reads .begun) (r .reads .m) 0 (t - 2 * r .rules .delta) k → Until (r .reads .begun) (r .reads .m) 0 (t + 1 - 2 * r .rules .delta) k′ → k ≤ k′
@@ -104,7 +104,7 @@ module _ (s : List ℕ) (r : Script) (R : Decoded s r) where
         others x a none i lo hi z =
             none (readAt (r .reads) i) (listed s r R i (omega (arith, W .few))) (omega (arith, (reader-range s r R) i (omega (arith, W .few)) .0)) (begins-now i lo hi)
 
-        begins : states-laws.ReaderLaws.Begins (planOf (widthIn r) s) (r .writes .known .m) t (c .ends) after then last
+        begins : refinement-laws.ReaderLaws.Begins (planOf (widthIn r) s) (r .writes .known .m) t (c .ends) after then last
         begins = record {
           size = begun-size (r .reads .reader) (t + 2 * r .rules .delta) k (c .ends) (k′ - k) ∙ S .readers .size;
           end = λ q iq e.
@@ -127,14 +127,14 @@ module _ (s : List ℕ) (r : Script) (R : Decoded s r) where
         abbrev posts : ℕ → ℕ → ℕ → Bool
         posts = player-laws.Posts.posts s r R t below between again after
 
-        forges-now : states-laws.ReaderLaws.Forges (planOf (widthIn r) s) (r .writes .known .m) t (tables-specs.Known.pairAt (widthIn r) (r .writes .known)) posts
+        forges-now : refinement-laws.ReaderLaws.Forges (planOf (widthIn r) s) (r .writes .known .m) t (tables-specs.Known.pairAt (widthIn r) (r .writes .known)) posts
         forges-now = record {
           votes = λ u b j i a z lb lj. player-laws.Posts.server-posts s r R t below between again after u b j i a z lb lj;
           replies = λ q o u j i a z lj.
-              let end = states-laws.StateLaws.end-open (planOf (widthIn r) s) (good (widthIn r) s (R .playable)) (feedOf s work feed) fits (knows s r R) c d sets then work₁ ticked S after last begins q o in
+              let end = refinement-laws.StateLaws.end-open (planOf (widthIn r) s) (good (widthIn r) s (R .playable)) (feedOf s work feed) fits (knows s r R) c d sets then work₁ ticked S after last begins q o in
               player-laws.Posts.reader-posts s r R t below between again after u j i (q .reader) a z (knows s r R .readers q (o .listed)) lj ∙ rw end;
           none = λ q iq idle u j i a z lj.
-              let end = states-laws.StateLaws.end-idle (planOf (widthIn r) s) (good (widthIn r) s (R .playable)) (feedOf s work feed) fits (knows s r R) c d sets then work₁ ticked S after last begins q iq idle in
+              let end = refinement-laws.StateLaws.end-idle (planOf (widthIn r) s) (good (widthIn r) s (R .playable)) (feedOf s work feed) fits (knows s r R) c d sets then work₁ ticked S after last begins q iq idle in
               player-laws.Posts.reader-none s r R t below between again after u j i (q .reader) a z (knows s r R .readers q iq) lj (omega (arith, end));
         }
 
@@ -143,6 +143,6 @@ module _ (s : List ℕ) (r : Script) (R : Decoded s r) where
         pub state-next : (n : cluster-specs.declared.Cluster.Cluster) (work₂ : List ℕ) → n .servers ≡ d → n .ends ≡ after → Posted between work₂ posts
             → State (planOf (widthIn r) s) (tables-specs.Known.pairAt (widthIn r) (r .writes .known)) (r .writes .known .m) (suc t) n last work₂
         state-next n work₂ es er N =
-            states-laws.StateLaws.next-state (planOf (widthIn r) s) (good (widthIn r) s (R .playable)) (feedOf s work feed) fits (knows s r R) c d sets then work₁ ticked S n last work₂ posts es (rw er begins)
+            refinement-laws.StateLaws.next-state (planOf (widthIn r) s) (good (widthIn r) s (R .playable)) (feedOf s work feed) fits (knows s r R) c d sets then work₁ ticked S n last work₂ posts es (rw er begins)
             (λ x j i l m. N .cells x j i l m ∙ rw (outside-sender work₁ between O x j i l m))
             (posted-spanned between work₂ posts N (outside-spanned work₁ between O (fed .spans))) forges-now

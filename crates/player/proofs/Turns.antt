@@ -11,7 +11,7 @@ use Rattle.serving.specs.declared.Server.{Server}
 use Rattle.cluster.specs as cluster-specs
 use Rattle.cluster.specs.Tick.{Heard, Calm, Ticked, Values, feedOf}
 use Rattle.cluster.proofs.RowLaws.{sized-after}
-use Rattle.states.proofs as states-laws
+use Rattle.refinement.proofs as refinement-laws
 use Rattle.script.specs as script-specs
 use Rattle.forging.specs.Forging.{SentIn, forges}
 use Rattle.requests.{specs.Requests.SameBehind, specs.Requests.SameOutside, proofs.Requesting.behind-trans, proofs.Requesting.outside-trans, proofs.Requesting.past-behind}
@@ -77,7 +77,7 @@ module _ (s work sets : List ℕ) (r : script-specs.declared.Script.Script) (p :
     -- the servers are settled after the readers have heard
     pub heard-calm : (noted heard : List ℕ) → Heard work noted sets heard (p .tick) → Calm (feedOf s noted f) heard (p .cluster .servers)
     heard-calm noted heard H b l =
-        rw (states-laws.RowLaws.votes-stay (f .m) sets heard (p .cluster .servers) b (fed-sized .pairs) (omega (arith, fed-sized .servers)) (H .votes))
+        rw (refinement-laws.RowLaws.votes-stay (f .m) sets heard (p .cluster .servers) b (fed-sized .pairs) (omega (arith, fed-sized .servers)) (H .votes))
         (calm s r (Q .decoded) work sets (Q .kept) (Q .room) (p .tick) below (p .written) (p .cluster) f F (L .state) (L .requested) (L .written) b l)
 
     module _ (servers : List Server) (then work₁ : List ℕ) (fed : Ticked (feedOf s work f) (p .cluster .ends) (p .cluster .servers) servers sets then work₁ (f .rules .n))
@@ -118,8 +118,8 @@ module _ (s work sets : List ℕ) (r : script-specs.declared.Script.Script) (p :
               state = rw (add-one (p .tick)) (state-next s r D work sets (Q .kept) (Q .room) (p .tick) below (p .written) (p .cluster) f F (L .state) (L .requested) (L .written) servers then work₁ fed work₃ last outside
                   (p .begun) (z .begun) (L .begun) have-begun up (W .table) (next .cluster) work₄ refl (W .ends) (rw (W .ends) at P));
               valued = λ b l. valued (λ i h. L .valued i (omega (arith, same-number))) b (omega (arith, same-number));
-              requested = rw (add-one (p .tick)) (states-laws.RequestLaws.requested-past (planOf (script-specs.Script.widthIn r) s) (suc (p .tick)) work₃ work₄ (P .rest) (player-laws.Requests.requested-after s r D (p .tick) below (p .written) (L .written) (p .begun) (z .begun) (L .begun) have-begun up
-                  written work₁ work₂ work₃ (states-laws.RequestLaws.requested-past (planOf (script-specs.Script.widthIn r) s) (p .tick) work work₁ (fed .rest) (L .requested)) N (W .asked)));
+              requested = rw (add-one (p .tick)) (refinement-laws.RequestLaws.requested-past (planOf (script-specs.Script.widthIn r) s) (suc (p .tick)) work₃ work₄ (P .rest) (player-laws.Requests.requested-after s r D (p .tick) below (p .written) (L .written) (p .begun) (z .begun) (L .begun) have-begun up
+                  written work₁ work₂ work₃ (refinement-laws.RequestLaws.requested-past (planOf (script-specs.Script.widthIn r) s) (p .tick) work work₁ (fed .rest) (L .requested)) N (W .asked)));
               written = rw (add-one (p .tick)) (player-laws.Requests.written-next s r D (p .tick) below (p .written) (L .written) written work₁ work₂ N);
               begun = have-begun;
               answered = have-ended;

@@ -8,7 +8,7 @@ use Rattle.register.proofs.Lists.{getD-replicate-same}
 use Rattle.plan.specs as plan-specs
 use Rattle.plan.{specs.Packed.planOf, proofs.Tests.getD-in, proofs.AcceptReads.read-stands}
 use Rattle.requests.{specs.Requests.SameBehind, proofs.Requesting.behind-trans}
-use Rattle.states.proofs as states-laws
+use Rattle.refinement.proofs as refinement-laws
 use Rattle.serving.specs.{Tallies.tableSize, Stored.absent}
 use Rattle.script.specs as script-specs
 use Rattle.tables.specs as tables-specs
@@ -42,9 +42,9 @@ module _ (s : List ℕ) (r : script-specs.declared.Script.Script) where
       rw (E .first) (record {
         size = E .started .size;
         table = size;
-        state = states-laws.StateLaws.first-state (planOf (widthIn r) s) _ (r .writes .known .m) (player-laws.Tables.knows s r D) (p .cluster) sets work (E .started) blank (E .empty);
+        state = refinement-laws.StateLaws.first-state (planOf (widthIn r) s) _ (r .writes .known .m) (player-laws.Tables.knows s r D) (p .cluster) sets work (E .started) blank (E .empty);
         valued = λ b l. E .started .valued (r .writes .known .values) refl b (omega (arith, player-laws.Tables.servers-same s r D, player-laws.Tables.few-servers s r D));
-        requested = states-laws.RequestLaws.requested-none (planOf (widthIn r) s) work (E .unasked);
+        requested = refinement-laws.RequestLaws.requested-none (planOf (widthIn r) s) work (E .unasked);
         written = record { below = omega (arith, D .scripted .writes .count); before = λ h. absurd (omega arith); last = λ j a b. omega arith };
         begun = until-none (r .reads .begun) (r .reads .m) 0 refl;
         answered = until-none (r .reads .begun) (r .reads .m) (0 - 2 * r .rules .delta) (omega arith);

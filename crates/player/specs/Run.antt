@@ -12,8 +12,8 @@ use Rattle.serving.specs.{Tallies.tableSize, Stored.Valued, Stored.absent}
 use Rattle.cluster.specs.declared.Feed.{Feed}
 use Rattle.tables.specs.Known.{pairAt}
 use Rattle.cluster.specs.Tick.{Started}
-use Rattle.states.specs.State.{State}
-use Rattle.states.specs.Requests.{Requested}
+use Rattle.refinement.specs.State.{State}
+use Rattle.refinement.specs.Requests.{Requested}
 use Rattle.script.specs.declared.Script.{Script}
 use Rattle.tables.specs.Operations.{noRead}
 use Rattle.script.specs.Forged.{entriesEnd}

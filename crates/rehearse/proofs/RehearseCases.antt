@@ -11,15 +11,15 @@ use borrow.Author.Tests.{ltb-false}
 use Rattle.plan.specs.{Form.widthOf, Check.Outcome, Check.refused, Check.result, Check.checkIn}
 use Rattle.plan.proofs.Forms.{form-passed, form-known}
 use Rattle.answers.specs.{Answers.answerSize, Answers.answersOf, Workspace.workspaceSize, Workspace.zeroed}
-use Rattle.simulator.specs.declared.judge.Judged.{Judged}
-use Rattle.simulator.specs.declared.judge.Judged.the-variants as J
-use Rattle.simulator.specs.declared.rehearse.Rehearsed.{Rehearsed as Ended}
-use Rattle.simulator.specs.declared.rehearse.Rehearsed.the-variants as E
-use Rattle.simulator.specs.Play.{Played, playRefused, playAfter, playIn}
-use Rattle.simulator.specs.Judge.{judgeAfter, judgeOf, judgeIn}
-use Rattle.simulator.specs.Rehearse.{Verdict, yes, Rehearsed, verdictOn, rehearseAfter, rehearseFrom, rehearseIn}
-use Rattle.simulator.specs.Numbered.{judged, saysYes, NotNo}
-use Rattle.simulator.proofs.Promised.{reads-few}
+use Rattle.results.specs.declared.judge.Judged.{Judged}
+use Rattle.results.specs.declared.judge.Judged.the-variants as J
+use Rattle.results.specs.declared.rehearse.Rehearsed.{Rehearsed as Ended}
+use Rattle.results.specs.declared.rehearse.Rehearsed.the-variants as E
+use Rattle.results.specs.Play.{Played, playRefused, playAfter, playIn}
+use Rattle.results.specs.Judge.{judgeAfter, judgeOf, judgeIn}
+use Rattle.results.specs.Rehearse.{Verdict, yes, Rehearsed, verdictOn, rehearseAfter, rehearseFrom, rehearseIn}
+use Rattle.results.specs.Numbered.{judged, saysYes, NotNo}
+use Rattle.results.proofs.Promised.{reads-few}
 
 -- a result of Judge that is yes is the case Yes
 pub is-yes : (j : Judged) → judged j ≡ result true → saysYes j ≡ true

@@ -1,11 +1,11 @@
 // A rehearsal in one call: Play, then Judge over the answers that it wrote.
 ghost use mathlib.Core.Path.{_≡_};
-ghost use Rattle.simulator.specs.Rehearse.{rehearseIn};
-ghost use Rattle.simulator.specs.Numbered.{rehearsed, saysYes, NotNo};
+ghost use Rattle.results.specs.Rehearse.{rehearseIn};
+ghost use Rattle.results.specs.Numbered.{rehearsed, saysYes, NotNo};
 use plan::Outcome;
 use plan::form;
-use simulator::judge::Judged;
-use simulator::rehearse::Rehearsed;
+use results::judge::Judged;
+use results::rehearse::Rehearsed;
 
 fn is_yes(verdict: Judged) -> bool
     ensures { λ r. ⌜ r ≡ saysYes verdict ⌝ }

@@ -18,8 +18,8 @@ use Rattle.tables.specs as tables-specs
 use Rattle.calendar.specs as calendar-specs
 use Rattle.limits.specs as limits-specs
 use Rattle.requests.specs.Requests.{SameBehind}
-use Rattle.states.specs as states-specs
-use Rattle.states.proofs.RequestLaws.{asked-now}
+use Rattle.refinement.specs as refinement-specs
+use Rattle.refinement.proofs.RequestLaws.{asked-now}
 use Rattle.script.specs as script-specs
 use Rattle.script.proofs as script-laws
 use Rattle.tables.proofs as tables-laws
@@ -55,8 +55,8 @@ module _ (s before after : List ℕ) (r : script-specs.declared.Script.Script) (
 
   module _ (t : ℕ) (below : t < headerOf w s .ticks) (work ends : List ℕ) (number : ℕ) (arrivals : cluster-specs.declared.Arrivals.Arrivals) (movement : cluster-specs.declared.Movement.Movement)
       (comes : script-specs.Inputs.Arrive work number ends t (headerOf w s .delta) arrivals) (moves : script-specs.Inputs.Moves w s (headerOf w s .period) t movement)
-      (requested : states-specs.Requests.Requested (planOf w s) t work) (latest : script-specs.Inputs.LatestWrite (r .writes .begun) (r .writes .known .m) t number)
-      (open-ends : (q : register-specs.Plan.Read) → states-specs.State.Open (planOf w s) t q → getD ends (q .reader - 1) 0 ≡ register-specs.Plan.readEnd (planOf w s) q) where
+      (requested : refinement-specs.Requests.Requested (planOf w s) t work) (latest : script-specs.Inputs.LatestWrite (r .writes .begun) (r .writes .known .m) t number)
+      (open-ends : (q : register-specs.Plan.Read) → refinement-specs.State.Open (planOf w s) t q → getD ends (q .reader - 1) 0 ≡ register-specs.Plan.readEnd (planOf w s) q) where
     live : (q : register-specs.Plan.Read) → register-specs.Lists.In q (planOf w s .reads) → q .begun < t → t ≤ register-specs.Plan.readEnd (planOf w s) q
         → limits-specs.Bits.bit (q .reader) (arrivals .live) ≡ not (eqb (register-specs.Plan.readEnd (planOf w s) q + 1) (t + 2 * headerOf w s .delta))
     unfolding script-specs.Inputs.liveAt

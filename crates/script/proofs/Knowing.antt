@@ -16,7 +16,7 @@ use Rattle.plan.specs as plan-specs
 use Rattle.plan.specs.Packed.{planOf}
 use Rattle.plan.proofs as plan-laws
 use Rattle.tables.specs.declared.Known.{Known}
-use Rattle.states.specs.Requests.{writeReaches, writeWay, writeBegins}
+use Rattle.refinement.specs.Requests.{writeReaches, writeWay, writeBegins}
 use Rattle.tables.specs.Known.{pairAt, Knows}
 use Rattle.script.specs as script-specs
 use Rattle.tables.specs as tables-specs

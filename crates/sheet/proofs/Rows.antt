@@ -12,7 +12,7 @@ use Rattle.plan.specs.Packed.{planOf}
 use Rattle.answers.specs.Answers.{answerAt, readerIn, pairIn, countIn}
 use Rattle.answers.specs.Parts.{IsAnswer}
 use Rattle.answers.specs.declared.Answer.{Answer}
-use Rattle.simulator.specs.Judge.{readOf}
+use Rattle.results.specs.Judge.{readOf}
 use Rattle.fitting.specs.Answered.{Answered}
 use Rattle.fitting.proofs.Passed.{is-to}
 use Rattle.page.specs.Page.{isMarked, rowOf, readLine}

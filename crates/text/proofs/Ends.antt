@@ -14,8 +14,8 @@ use Rattle.plan.proofs.Accept.{accepted}
 use Rattle.plan.proofs.Longest.{most-reads}
 use Rattle.answers.specs.Answers.{answerSize, answersOf}
 use Rattle.answers.specs.Workspace.{workspaceSize}
-use Rattle.simulator.specs.Play.{Played, playAfter, playOf, playIn}
-use Rattle.simulator.proofs.Played.{play-plays, play-writes}
+use Rattle.results.specs.Play.{Played, playAfter, playOf, playIn}
+use Rattle.results.proofs.Played.{play-plays, play-writes}
 use Rattle.codes.specs.Codes.{refusedFrom, codeOf}
 use Rattle.codes.proofs.Apart.{outcomeIn, code-apart, reads-below}
 use Rattle.lines.specs.Text.{programForm, programWidth, readsWord, refusedWord, numberThen, lineWith, linesFor, textAfter, textOf}

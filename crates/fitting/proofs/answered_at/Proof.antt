@@ -15,7 +15,7 @@ use Rattle.answers.specs.Answers.{answerSize}
 use Rattle.answers.proofs.Lengths.{answer-few}
 use Rattle.tables.proofs.Standing.{operations-room}
 use Rattle.tables.proofs.Forging.{shape-ranged}
-use Rattle.simulator.specs.Judge.{answerFits}
+use Rattle.results.specs.Judge.{answerFits}
 use Rattle.fitting.specs.Answered.{answeredAfter}
 use Rattle.fitting.proofs.Decoded.{few-answers, fits-same}
 use Rattle.fitting.proofs.answered_at.Statement.{statement}

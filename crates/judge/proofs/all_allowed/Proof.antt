@@ -14,7 +14,7 @@ use Rattle.register.specs.Regular.{allowed}
 use Rattle.plan.proofs.Laws.{all-none, all-more, all-stop, all-end}
 use Rattle.bits.proofs.Records.{record-inside}
 use Rattle.answers.specs.Answers.{answerSize, beginIn, pairIn}
-use Rattle.simulator.specs.Judge.{readOf}
+use Rattle.results.specs.Judge.{readOf}
 use Rattle.regular.specs.Tables.{Tables}
 use Rattle.judge.proofs.all_allowed.Statement.{statement}
 use Rattle.judge.proofs.all_allowed.Tie as tie

@@ -8,7 +8,7 @@ use borrow.Author.Needs.{needs}
 use Rattle.register.specs.Lists.{allUpTo}
 use Rattle.plan.specs.{Packed.planOf, Check.result}
 use Rattle.plan.proofs.Accept.{playable}
-use Rattle.simulator.specs.Judge.{answerAllowed}
+use Rattle.results.specs.Judge.{answerAllowed}
 use Rattle.fitting.proofs.{Passed.is-to, Decoded.few-answers}
 use Rattle.judge.proofs.judge_answers.Statement.{statement}
 use Rattle.judge.proofs.judge_answers.Tie as tie

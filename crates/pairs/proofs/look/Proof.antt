@@ -1,6 +1,6 @@
 -- `look` meets its contract: the code of what Look returns, and the bytes that both leave.
 use mathlib.Core.Path.{ap}
-use Rattle.simulator.specs.Look.{Looked}
+use Rattle.results.specs.Look.{Looked}
 use Rattle.codes.specs.Codes.{codedIn}
 use Rattle.codes.proofs.ThreeBytes.{look-three}
 use borrow.Author.Needs.{needs}

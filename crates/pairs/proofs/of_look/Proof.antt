@@ -1,6 +1,6 @@
 -- `of_look` meets its contract: a refusal is passed on with the buffer as it was; else the pairs shown are stored.
 use native.Mathlib.Omega.{arith}
-use Rattle.simulator.specs.Numbered.{shownIn}
+use Rattle.results.specs.Numbered.{shownIn}
 use Rattle.pairs.proofs.Coded.{refusal-code, condition-code}
 use Rattle.pairs.proofs.Pairs.{over-none}
 use borrow.Author.Needs.{needs}

@@ -6,7 +6,7 @@ use lib.ListN.{length}
 use borrow.Author.Needs.{needs}
 use borrow.Author.Tests.{not-true, not-false}
 use Rattle.plan.specs.Packed.{storeDepth}
-use Rattle.simulator.proofs.ShownPlaces.{Passed, passed, none-passed, one-more, at-empty, at-end}
+use Rattle.results.proofs.ShownPlaces.{Passed, passed, none-passed, one-more, at-empty, at-end}
 use Rattle.codes.specs.Codes.{pairsOver}
 use Rattle.pairs.proofs.Pairs.{over-none, put-more}
 use Rattle.pairs.proofs.put_pairs.Statement.{statement}

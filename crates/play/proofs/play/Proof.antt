@@ -5,7 +5,7 @@ use denote.Ref.{now}
 use Rattle.plan.specs.{Form.widthOf, Check.result, Check.checkOf, Check.checkIn, Numbered.numbered}
 use Rattle.plan.proofs.{Accept.playable, Accept.reads-counted, Forms.form-passed}
 use Rattle.answers.{specs.Answers.answerSize, proofs.Lengths.answers-few}
-use Rattle.simulator.proofs.Promised.{reads-few, promised}
+use Rattle.results.proofs.Promised.{reads-few, promised}
 use Rattle.play.proofs.PlayCases.{play-checked, play-nine, play-ten, play-done}
 use borrow.Author.Needs.{needs}
 use Rattle.play.proofs.play.Statement.{statement}

@@ -3,7 +3,7 @@ use mathlib.Core.Path.{_∙_}
 use native.Mathlib.Omega.{arith}
 use Rattle.register.specs.Plan.{Plan}
 use Rattle.plan.specs.Packed.{planOf}
-use Rattle.simulator.specs.Judge.{readOf}
+use Rattle.results.specs.Judge.{readOf}
 use Rattle.page.specs.Page.{isMarked}
 use Rattle.sheet.proofs.Rows.{reader-low, count-low, begun-is, line-is}
 use borrow.Author.Needs.{needs}

@@ -6,9 +6,9 @@ use native.Mathlib.Omega.{arith}
 use lib.ListN.{length}
 use borrow.Author.Needs.{needs}
 use Rattle.plan.specs.Packed.{storeDepth}
-use Rattle.simulator.specs.Look.{placesOf}
+use Rattle.results.specs.Look.{placesOf}
 use Rattle.look.proofs.StoredPlaces.{placeIn, store-more, store-placed, store-empty, store-end}
-use Rattle.simulator.proofs.ShownPlaces.{Passed, passed, none-passed}
+use Rattle.results.proofs.ShownPlaces.{Passed, passed, none-passed}
 use Rattle.look.proofs.shown.shown_places.Statement.{statement}
 use Rattle.look.proofs.shown.shown_places.Tie as tie
 
