@@ -1,5 +1,8 @@
 // Bytes lent to an operation, and whether it left them as they were.
 
+ghost use mathlib.Core.Path.{_≡_};
+ghost use Rattle.report.specs.Lent.{areKept};
+
 // What each lent byte holds before the call.
 pub const FILLER: u8 = 165;
 
@@ -21,7 +24,9 @@ pub fn first_mut(bytes: &mut [u8], length: usize) -> &mut [u8] {
     &mut bytes[..length]
 }
 
-pub fn is_kept(bytes: &[u8]) -> bool {
+pub fn is_kept(bytes: &[u8]) -> bool
+    ensures { λ r. ⌜ r ≡ areKept (now (bytes .entry)) ⌝ }
+{
     let mut i: usize = 0;
     while i < bytes.len() {
         if bytes[i] != FILLER {

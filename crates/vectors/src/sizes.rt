@@ -1,5 +1,8 @@
 // The sizes of what an operation is lent, and where answers stand in it.
+ghost use mathlib.Core.Path.{_≡_};
 ghost use Prim.Native.Nat.{_*_, _^_, _≤_, _<_};
+ghost use Rattle.plan.specs.Form.{widthOf};
+ghost use Rattle.answers.specs.Answers.{answerSize};
 use limits::DEPTH;
 use plan::form;
 
@@ -17,7 +20,7 @@ pub const PAIRS: usize = pairs::PAIR_BYTES * DEPTH;
 
 // The bytes of an answer in a form.
 pub fn answer_bytes(form: usize) -> usize
-    ensures { λ r. ⌜ r ≤ 6 ⌝ }
+    ensures { λ r. ⌜ (r ≤ 6) × (r ≡ answerSize (widthOf form)) ⌝ }
 {
     answers::size(form::width(form))
 }
@@ -25,7 +28,7 @@ pub fn answer_bytes(form: usize) -> usize
 // The first byte of answer i.
 pub fn answer_at(form: usize, i: usize) -> usize
     requires { ⌜ i < 2 ^ 16 ⌝ }
-    ensures { λ r. ⌜ r ≤ 6 * 2 ^ 16 ⌝ }
+    ensures { λ r. ⌜ (r ≤ 6 * 2 ^ 16) × (r ≡ answerSize (widthOf form) * i) ⌝ }
 {
     answer_bytes(form) * i
 }
