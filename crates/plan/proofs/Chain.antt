@@ -37,8 +37,8 @@ ends l = sym (l .is)
 
 -- the code's flag of a test that passed, and of one that failed
 module _ {b r : Bool} where
-  pub held : r ≡ b → not r ≡ false → b ≡ true
-  held e f = sym e ∙ not-false r f
+  pub met : r ≡ b → not r ≡ false → b ≡ true
+  met e f = sym e ∙ not-false r f
 
   pub missed : r ≡ b → not r ≡ true → b ≡ false
   missed e f = sym e ∙ not-true r f

@@ -6,7 +6,7 @@ use denote.Ref.{now}
 use borrow.Author.Needs.{needs}
 use Rattle.plan.specs.declared.header.Shape.{Shape}
 use Rattle.plan.specs.{Check.result, CheckParts.checkHeader, Shape.shape}
-use Rattle.plan.proofs.{Accept.header-ranged, Chain.goes, Chain.stops, Chain.held, Chain.missed, Chain.header-is, Chain.check-leaves, Chain.check-refused, Chain.rest-is}
+use Rattle.plan.proofs.{Accept.header-ranged, Chain.goes, Chain.stops, Chain.met, Chain.missed, Chain.header-is, Chain.check-leaves, Chain.check-refused, Chain.rest-is}
 use Rattle.checks.proofs.check_at.Statement.{statement}
 use Rattle.checks.proofs.check_at.Tie as tie
 
@@ -57,7 +57,7 @@ returns-2 c =
 returns-3 : tie.Need-returns-3
 returns-3 c =
     let q = c .before .before .before .before in
-    let l = goes (check-leaves (width q) (plan q) (shape (read q)) (headed q .0)) (held (c .before .before .has-enough-servers .ensures) (c .before .if1 .left)) in
+    let l = goes (check-leaves (width q) (plan q) (shape (read q)) (headed q .0)) (met (c .before .before .has-enough-servers .ensures) (c .before .if1 .left)) in
     (rw (headed q .1) at (c .rest .ensures)) ∙ sym (rest-is (width q) (plan q) (shape (read q)) l)
 
 pub check-at-spec : {M : Type 1} → statement M

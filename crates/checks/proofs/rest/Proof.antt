@@ -9,7 +9,7 @@ use borrow.Author.Tests.{eq-eqb, ne-eqb}
 use Rattle.plan.specs.declared.header.Shape.{Shape}
 use Rattle.plan.specs.{Header.Header, Parts.operationsOf, Parts.readsFrom, Packed.planOf, Check.result, Check.delaysStand, Check.finalBitsZero, CheckParts.behind, CheckParts.restTests, CheckParts.checkRest, Shape.shape, Shape.Sized}
 use Rattle.plan.proofs.Sizes.{sizes}
-use Rattle.plan.proofs.Chain.{Left, goes, stops, ends, held, missed, rest-left}
+use Rattle.plan.proofs.Chain.{Left, goes, stops, ends, met, missed, rest-left}
 use Rattle.checks.proofs.rest.Statement.{statement}
 use Rattle.checks.proofs.rest.Tie as tie
 
@@ -58,16 +58,16 @@ passed1 : (c : tie.Else1) → Passed 1 (start1 c)
 passed1 c = goes (rest-left _ _ _) (eq-eqb _ _ (sized c .size))
 
 passed2 : (c : tie.Else2) → Passed 2 (start2 c)
-passed2 c = goes (passed1 (c .before .before)) (held (c .before .all-stand .ensures) (c .if2 .left))
+passed2 c = goes (passed1 (c .before .before)) (met (c .before .all-stand .ensures) (c .if2 .left))
 
 passed3 : (c : tie.Else3) → Passed 3 (start3 c)
-passed3 c = goes (passed2 (c .before .before)) (held (c .before .all-stand2 .ensures) (c .if3 .left))
+passed3 c = goes (passed2 (c .before .before)) (met (c .before .all-stand2 .ensures) (c .if3 .left))
 
 passed4 : (c : tie.Else4) → Passed 4 (start4 c)
-passed4 c = goes (passed3 (c .before .before)) (held (c .before .all-stand3 .ensures) (c .if4 .left))
+passed4 c = goes (passed3 (c .before .before)) (met (c .before .all-stand3 .ensures) (c .if4 .left))
 
 passed5 : (c : tie.Else5) → Passed 5 (start5 c)
-passed5 c = goes (passed4 (c .before .before .before .before)) (held (delays (c .before)) (c .if5 .left))
+passed5 c = goes (passed4 (c .before .before .before .before)) (met (delays (c .before)) (c .if5 .left))
 
 bytes-requires : tie.Need-bytes-requires
 bytes-requires c κs = let p = c .before .pre in (p .0, p .1)
@@ -88,7 +88,7 @@ returns-3 : tie.Need-returns-3
 returns-3 c = stops (passed2 (c .before .before)) (missed (c .before .all-stand2 .ensures) (c .if3 .taken))
 
 all-stand-requires-3 : tie.Need-all-stand-requires-3
-all-stand-requires-3 c κs = (sized (c .before .before .before .before), start3 c .pre .2, held (c .before .all-stand2 .ensures) (c .if3 .left))
+all-stand-requires-3 c κs = (sized (c .before .before .before .before), start3 c .pre .2, met (c .before .all-stand2 .ensures) (c .if3 .left))
 
 returns-4 : tie.Need-returns-4
 returns-4 c = stops (passed3 (c .before .before)) (missed (c .before .all-stand3 .ensures) (c .if4 .taken))

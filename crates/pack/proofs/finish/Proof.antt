@@ -7,7 +7,7 @@ use borrow.Author.Tests.{le-leb, lt-leb}
 use borrow.Author.Needs.{needs}
 use Rattle.bits.specs.Layout.{fits}
 use Rattle.plan.specs.{Check.result, Check.operationsStand, CheckParts.behind, Shape.shape}
-use Rattle.plan.proofs.{Chain.Left, Chain.goes, Chain.stops, Chain.ends, Chain.held, Chain.missed, Buffer.into-refused, Buffer.into-result}
+use Rattle.plan.proofs.{Chain.Left, Chain.goes, Chain.stops, Chain.ends, Chain.met, Chain.missed, Buffer.into-refused, Buffer.into-result}
 use Rattle.lists.specs.Lists.{operationsWidths}
 use Rattle.pack.specs.{Pack.partTests, Numbered.partsFrom}
 use Rattle.pack.proofs.Tests.{partChain, parts-left}
@@ -39,16 +39,16 @@ abbrev start5 : tie.Else5 → tie.Start
 start5 c = start4 (c .before)
 
 passed1 : (c : tie.Else1) → Passed 1 (start1 c)
-passed1 c = goes (parts-left _ _ _ _ _) (held (c .before .placements-pass .ensures) (c .if1 .left))
+passed1 c = goes (parts-left _ _ _ _ _) (met (c .before .placements-pass .ensures) (c .if1 .left))
 
 passed2 : (c : tie.Else2) → Passed 2 (start2 c)
-passed2 c = goes (passed1 (c .before .before)) (held (c .before .operations-pass .ensures) (c .if2 .left))
+passed2 c = goes (passed1 (c .before .before)) (met (c .before .operations-pass .ensures) (c .if2 .left))
 
 passed3 : (c : tie.Else3) → Passed 3 (start3 c)
-passed3 c = goes (passed2 (c .before .before)) (held (c .before .forgeries-pass .ensures) (c .if3 .left))
+passed3 c = goes (passed2 (c .before .before)) (met (c .before .forgeries-pass .ensures) (c .if3 .left))
 
 passed4 : (c : tie.Else4) → Passed 4 (start4 c)
-passed4 c = goes (passed3 (c .before .before)) (held (c .before .delays-pass .ensures) (c .if4 .left))
+passed4 c = goes (passed3 (c .before .before)) (met (c .before .delays-pass .ensures) (c .if4 .left))
 
 passed5 : (c : tie.Else5) → Passed 5 (start5 c)
 passed5 c = goes (passed4 (c .before)) (le-leb _ _ (c .if5 .left))
@@ -71,7 +71,7 @@ forgeries-pass-requires c κs =
     let h = shape (a .h) in
     let fit = fits (operationsWidths (a .h .width) h) (now (a .operations)) in
     let stand = operationsStand (a .h .width) (now (a .plan)) h in
-    (search needs, search needs, and-eq-true-iff fit stand .0 (held (c .before .operations-pass .ensures) (c .if2 .left)) .1, search needs)
+    (search needs, search needs, and-eq-true-iff fit stand .0 (met (c .before .operations-pass .ensures) (c .if2 .left)) .1, search needs)
 
 returns-3 : tie.Need-returns-3
 returns-3 c = into-refused _ _ _ (stops (passed2 (c .before .before)) (missed (c .before .forgeries-pass .ensures) (c .if3 .taken)))
