@@ -10,7 +10,7 @@ use lib.ListN.{length, replicate}
 use borrow.Author.Tests.{le-leb}
 use Rattle.decimal.specs.{Decimal.digit_byte, Decimal.decimal_of, Aligned.space, Aligned.spaces, Aligned.right}
 use Rattle.decimal.proofs.Laws.{by_digits}
-use Rattle.page.specs.Page.{cells, columns, in_cells_lem, heading, dash, rule, aligned_in, mark_of, row_of, read_line}
+use Rattle.page.specs.Page.{cells, columns, in_cells, heading, dash, rule, aligned_in, mark_of, row_of, read_line}
 use Rattle.page.specs.Printable.{is_printable}
 
 append : (a b : List ℕ) → is_printable a ≡ true → is_printable b ≡ true → is_printable (a ++ b) ≡ true
@@ -44,14 +44,14 @@ abbrev Words : List (List ℕ) → Type 0
 Words [] = Unit {0}
 Words (word ∷ words) = (is_printable word ≡ true) × Words words
 
-in_cells_lem : (cs : List ℕ) (words : List (List ℕ)) → Words words → is_printable (in_cells_lem cs words) ≡ true
-unfolding in_cells_lem is_printable
+in_cells_lem : (cs : List ℕ) (words : List (List ℕ)) → Words words → is_printable (in_cells cs words) ≡ true
+unfolding in_cells is_printable
 in_cells_lem [] words w = refl
 in_cells_lem (c ∷ cs) [] w = refl
-in_cells_lem (c ∷ cs) (word ∷ words) w = append (right c word) (in_cells_lem cs words) (at_right c word w.0) (in_cells_lem cs words w.1)
+in_cells_lem (c ∷ cs) (word ∷ words) w = append (right c word) (in_cells cs words) (at_right c word w.0) (in_cells_lem cs words w.1)
 
 pub heading_printed : is_printable heading ≡ true
-unfolding heading in_cells_lem right is_printable
+unfolding heading in_cells right is_printable
 heading_printed = refl
 
 pub rule_printed : (w : ℕ) → is_printable (rule w) ≡ true
