@@ -1,3 +1,4 @@
+#![tactic(auto)]
 // The bytes of the answers of the reads, and the workspace zeroed.
 ghost use Rattle.std.specs.Prelude.{◌≡◌, ◌++◌, ◌+◌, ◌*◌, ◌^◌, ◌≤◌, ◌<◌, length, get_or, drop, replicate};
 ghost use Rattle.register.specs.Plan.{stamped};

@@ -1,3 +1,4 @@
+#![tactic(auto)]
 // What the program's arguments ask for, and the lines that say what is wrong.
 ghost use Rattle.std.specs.Prelude.{◌≡◌, ◌+◌, ◌^◌, ◌<◌};
 ghost use Rattle.decimal.specs.Stored.{Stored};

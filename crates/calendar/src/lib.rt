@@ -1,3 +1,4 @@
+#![tactic(auto)]
 // What is under way, in the lent workspace: who sends which pair to whom, by the tick of arrival. specs/Layout says where it stands.
 ghost use Rattle.std.specs.Prelude.{◌≡◌, ◌+◌, ◌*◌, ◌≤◌, ◌<◌, min, max, eqb, length};
 ghost use Rattle.limits.specs.Limits.{most_servers, places};

@@ -1,3 +1,4 @@
+#![tactic(auto)]
 // The operations for C and Rust: any form, any bytes, any lengths. A result of `codes::REFUSED` or more is a refusal, that and its number; it changes no lent byte.
 ghost use Rattle.std.specs.Prelude.{◌≡◌};
 ghost use Rattle.plan.specs.Check.{check_in};

@@ -1,3 +1,4 @@
+#![tactic(auto)]
 // The fields of an answer and of a plan's header by number, for a caller that has the bytes alone.
 ghost use Rattle.std.specs.Prelude.{◌≡◌};
 ghost use Rattle.capi_fields.specs.Fields.{answer_field, header_field};

@@ -1,3 +1,4 @@
+#![tactic(auto)]
 // What Forecast returns, as a number, and its six numbers in a list that the caller lends.
 ghost use Rattle.std.specs.Prelude.{◌≡◌, length};
 ghost use Rattle.forecast.specs.Numbered.{counts};

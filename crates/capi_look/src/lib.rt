@@ -1,3 +1,4 @@
+#![tactic(auto)]
 // What Look returns, as a number and the bytes of its pairs.
 ghost use Rattle.std.specs.Prelude.{◌≡◌};
 ghost use Rattle.results.specs.Numbered.{looked};

@@ -1,3 +1,4 @@
+#![tactic(auto)]
 // Carry: a plan from one form to the other, into a lent buffer, every field keeping its number.
 mod values;
 

@@ -1,3 +1,4 @@
+#![tactic(auto)]
 // Check: eight tests of a plan, and the first that fails is the refusal. Its parts are the tests of the header (refusals 1 and 2), the bound (3) and the
 // rest (4 to 8).
 ghost use Rattle.std.specs.Prelude.{◌≡◌, ◌≤◌};

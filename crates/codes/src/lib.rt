@@ -1,3 +1,4 @@
+#![tactic(auto)]
 // What the operations return, as one number each: a result below REFUSED, or REFUSED and the refusal's number.
 ghost use Rattle.std.specs.Prelude.{◌≡◌, [], ◌≤◌};
 ghost use Rattle.plan.specs.Numbered.{refusal_number, numbered};

@@ -1,3 +1,4 @@
+#![tactic(auto)]
 // What the program does: reads a plan, prints the text of its rehearsal, and says on standard error what the system refused. What it decides and
 // what it says are functions of `arguments`; what calls the system decides nothing.
 ghost use Rattle.std.specs.Prelude.{◌≡◌};

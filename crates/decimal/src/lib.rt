@@ -1,3 +1,4 @@
+#![tactic(auto)]
 // Decimal numbers, and other bytes, stored in a lent buffer from a place on. What does not fit the buffer is left out.
 ghost use Rattle.std.specs.Prelude.{[], ◌∷◌, ◌+◌, ◌-◌, ◌^◌, ◌≤◌, ◌<◌, length};
 ghost use Rattle.decimal.specs.Decimal.{decimal_of, most_digits};

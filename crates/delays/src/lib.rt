@@ -1,3 +1,4 @@
+#![tactic(auto)]
 // Refusal 8: the delays and the final bits.
 ghost use Rattle.std.specs.Prelude.{◌≡◌, ◌&&◌, ◌+◌, ◌*◌, ◌/◌, ◌%◌, ◌^◌, ◌≤◌, ◌<◌, length};
 ghost use Rattle.plan.specs.Header.{DelaysIn, parties};

@@ -1,3 +1,4 @@
+#![tactic(auto)]
 // The tests of answers against the reads of their plan, and the writes that they are measured by. The plan's reads are decoded once; one loop tests that each
 // answer is to its read.
 pub mod times;

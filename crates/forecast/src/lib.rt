@@ -1,3 +1,4 @@
+#![tactic(auto)]
 // Forecast: what playing a plan will take, found from the plan alone.
 mod arrivals;
 mod receipts;

@@ -1,3 +1,4 @@
+#![tactic(auto)]
 // Refusal 7: the forgeries. Their part is the plan from the byte that holds their first bit, with a bit offset under eight.
 ghost use Rattle.std.specs.Prelude.{◌≡◌, true, ◌<◌, length};
 ghost use Rattle.plan.specs.Header.{header_of};

@@ -1,3 +1,4 @@
+#![tactic(auto)]
 // The forged messages of a plan, decoded in the workspace, and stage 5 of a tick: 'faulty servers send what the plan lists'.
 ghost use Rattle.std.specs.Prelude.{◌≡◌, ◌+◌, ◌≤◌, ◌<◌, length, get_or};
 ghost use Rattle.limits.specs.Limits.{most_servers};

@@ -1,3 +1,4 @@
+#![tactic(auto)]
 // A plan's bytes from a file or from standard input.
 ghost use Rattle.std.specs.Prelude.{◌≡◌, ◌-◌, ◌≤◌};
 ghost use Rattle.libc.specs.Io.{Moved};

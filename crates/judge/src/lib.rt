@@ -1,3 +1,4 @@
+#![tactic(auto)]
 // Judge: answers against a plan. The plan's writes are decoded once; one loop tests each answer's pair.
 ghost use Rattle.std.specs.Prelude.{◌≡◌, ℕ, ◌*◌, ◌≤◌, ◌<◌, length};
 ghost use Rattle.register.specs.{Lists.all_up_to, Plan.Plan, Regular.allowed};

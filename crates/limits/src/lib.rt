@@ -1,3 +1,4 @@
+#![tactic(auto)]
 // The limits that the tables of a plan, the workspace and the library's operations share.
 ghost use Rattle.std.specs.Prelude.{◌≡◌, ◌<◌};
 

@@ -1,3 +1,4 @@
+#![tactic(auto)]
 // The lines of the text that the program prints for a plan, written into a lent buffer.
 ghost use Rattle.std.specs.Prelude.{◌≡◌, ◌++◌, ◌+◌, ◌*◌, ◌^◌, ◌≤◌, ◌<◌, length};
 ghost use Rattle.decimal.specs.Decimal.{most_digits};

@@ -1,1 +1,2 @@
+#![tactic(auto)]
 // The lists of a plan, and the plan packed from them, as definitions: there is no code.

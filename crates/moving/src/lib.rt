@@ -1,3 +1,4 @@
+#![tactic(auto)]
 // Bits moved from one byte string to another: as they are, or record by record into fields of other widths.
 ghost use Rattle.std.specs.Prelude.{◌≡◌, ◌+◌, ◌*◌, ◌/◌, ◌^◌, ◌≤◌, ◌<◌, T, length};
 ghost use Rattle.bits.specs.Field.{field_of};

@@ -1,3 +1,4 @@
+#![tactic(auto)]
 // Numbers of four bits, written many at a time.
 ghost use Rattle.std.specs.Prelude.{◌≡◌, ◌&&◌, ◌+◌, ◌*◌, ◌-◌, ◌/◌, ◌%◌, ◌^◌, ◌≤◌, ◌<◌, length};
 ghost use Rattle.bits.specs.Layout.{fits};

@@ -1,3 +1,4 @@
+#![tactic(auto)]
 // The operations of a plan: refusal 6, one by one and as a row; and the reads among them.
 ghost use Rattle.std.specs.Prelude.{◌≡◌, ◌+◌, ◌*◌, ◌≤◌, ◌<◌};
 ghost use Rattle.plan.specs.Check.{operations_stand};

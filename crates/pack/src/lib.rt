@@ -1,3 +1,4 @@
+#![tactic(auto)]
 // Pack: a plan from lists of numbers, one for each field in packed order, into a lent buffer.
 ghost use Rattle.std.specs.Prelude.{◌≡◌, true, ◌&&◌, ◌++◌, ◌*◌, ◌≤◌, length, drop};
 ghost use Rattle.bits.specs.{Field.Bytes, Layout.fits, Writing.Wrote};

@@ -1,3 +1,4 @@
+#![tactic(auto)]
 // Numbers packed by lists of widths: whether they fit their fields, and their bits written.
 ghost use Rattle.std.specs.Prelude.{◌≡◌, ◌+◌, ◌*◌, ◌^◌, ◌≤◌, ◌<◌, T, ltb, length, take};
 ghost use Rattle.bits.specs.Layout.{total, records, fits, bits_of, packed_bits};

@@ -1,3 +1,4 @@
+#![tactic(auto)]
 // Packs the lists of each case in the file that the first argument names, and prints what Pack returned and what it left of the buffer;
 // tests/make_packs.py says what the file holds and what is printed.
 ghost use Rattle.std.specs.Prelude.{◌≤◌, length};

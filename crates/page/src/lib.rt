@@ -1,3 +1,4 @@
+#![tactic(auto)]
 // The lines of a sheet: a line buffer starts empty, then fields are stored over it, each at the right end of its cell.
 ghost use Rattle.std.specs.Prelude.{◌≡◌, [], ◌∷◌, ℕ, ◌-◌, ◌^◌, ◌≤◌, ◌<◌, length};
 ghost use Rattle.decimal.specs.Stored.{Stored};

@@ -1,3 +1,4 @@
+#![tactic(auto)]
 // Refusal 5: the placements.
 ghost use Rattle.std.specs.Prelude.{◌≡◌, ◌<◌};
 ghost use Rattle.plan.specs.Header.{moves};

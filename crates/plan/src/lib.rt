@@ -1,3 +1,4 @@
+#![tactic(auto)]
 // The packed plan (document 01, 'The plan, packed'): its header, an operation and a forgery as values, what an operation with a number for its result returns, and all refusals.
 pub mod forgeries;
 pub mod form;

@@ -1,3 +1,4 @@
+#![tactic(auto)]
 // Play: a plan's answers into a lent buffer, with a lent workspace.
 ghost use Rattle.std.specs.Prelude.{◌≡◌};
 ghost use Rattle.plan.specs.{Form.width_of, Numbered.numbered};

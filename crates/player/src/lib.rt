@@ -1,3 +1,4 @@
+#![tactic(auto)]
 // Playing a plan that passes every test of Check but 3, in a workspace that is large enough.
 ghost use Rattle.std.specs.Prelude.{◌≡◌, ◌*◌, ◌≤◌, ◌<◌, length};
 ghost use Rattle.plan.specs.Form.{most_width};

@@ -1,3 +1,4 @@
+#![tactic(auto)]
 // 'Reads end, then reads begin': the table has the reads in the order of their begins, and so of their ends.
 ghost use Rattle.std.specs.Prelude.{◌≡◌, ◌||◌, ◌++◌, ◌+◌, ◌*◌, ◌-◌, ◌≤◌, ◌<◌, length, drop};
 ghost use Rattle.limits.specs.Limits.{most_readers, places};

@@ -1,3 +1,4 @@
+#![tactic(auto)]
 // Records of a packed format: a field by its number.
 ghost use Rattle.std.specs.Prelude.{◌≡◌, ◌^◌, ◌<◌, get_or};
 ghost use Rattle.bits.specs.Layout.{numbers_at};

@@ -1,3 +1,4 @@
+#![tactic(auto)]
 // What the regular register allows as an answer to one read, and whether a write is concurrent with it.
 ghost use Rattle.std.specs.Prelude.{◌≡◌, List, ℕ, ◌+◌, ◌*◌, ◌^◌, ◌≤◌, ◌<◌, leb, get_or};
 ghost use Rattle.register.specs.Lists.{any};

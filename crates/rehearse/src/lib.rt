@@ -1,3 +1,4 @@
+#![tactic(auto)]
 // A rehearsal in one call: Play, then Judge over the answers that it wrote.
 ghost use Rattle.std.specs.Prelude.{◌≡◌};
 ghost use Rattle.results.specs.Rehearse.{rehearse_in};

@@ -1,3 +1,4 @@
+#![tactic(auto)]
 // What the programs of the gate print: words, numbers, refusals as `codes` has them, plans, and whether lent bytes are as they were.
 pub mod lent;
 

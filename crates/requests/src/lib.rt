@@ -1,3 +1,4 @@
+#![tactic(auto)]
 // The WRITEs and READs under way, in the lent workspace behind the calendar: which servers the request of a party reaches in a tick. A party's operations
 // do not overlap, so only its last one can have a request under way. specs/Requests says where it stands.
 ghost use Rattle.std.specs.Prelude.{◌≡◌, ◌+◌, ◌*◌, ◌≤◌, ◌<◌, length};

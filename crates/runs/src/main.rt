@@ -1,3 +1,4 @@
+#![tactic(auto)]
 // Runs the functions of `simulate` on a plan at standard input and on each argument, and prints what they print and what they say on standard error.
 use libc::{STDERR_FILENO, STDIN_FILENO, STDOUT_FILENO};
 

@@ -1,3 +1,4 @@
+#![tactic(auto)]
 // A plan that can be played, decoded once for playing, and what each tick of the engine is fed.
 ghost use Rattle.std.specs.Prelude.{◌≡◌, ◌≤◌, length};
 ghost use Rattle.plan.specs.Form.{most_width};

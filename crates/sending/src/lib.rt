@@ -1,3 +1,4 @@
+#![tactic(auto)]
 // What a server sends in a tick is posted: its votes to every other server, its pairs to some readers.
 ghost use Rattle.std.specs.Prelude.{◌&&◌, ◌≤◌, eqb, length};
 ghost use Rattle.register.specs.Lists.{member};

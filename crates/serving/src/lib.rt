@@ -1,3 +1,4 @@
+#![tactic(auto)]
 // A server as the engine keeps it, and its stages. Pairs are known by number: pair 0 is the initial one, pair j the j-th write.
 pub mod servers;
 pub mod stages;

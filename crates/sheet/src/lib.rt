@@ -1,3 +1,4 @@
+#![tactic(auto)]
 // The sheet for the booth: the answers to a plan's reads, printed on a lent page.
 ghost use mathlib.Core.{Path.◌≡◌, List.List};
 ghost use Rattle.std.specs.Prelude.{ℕ, ◌+◌, ◌*◌, ◌^◌, ◌≤◌, ◌<◌, length};

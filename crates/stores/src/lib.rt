@@ -1,3 +1,4 @@
+#![tactic(auto)]
 // A server's store: DEPTH places, the empty ones at the end, the pairs in falling order.
 ghost use Rattle.std.specs.Prelude.{◌≡◌, List, [], ℕ, ◌<◌, take};
 ghost use Rattle.register.specs.Lists.{same_list};

@@ -1,3 +1,4 @@
+#![tactic(auto)]
 // The tables of a plan, decoded: what a header gives, the delays of the links, the writes and the reads, and one forged message.
 ghost use Rattle.std.specs.Prelude.{◌≤◌};
 ghost use Rattle.plan.specs.Form.{most_width};

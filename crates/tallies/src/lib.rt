@@ -1,3 +1,4 @@
+#![tactic(auto)]
 // The tallies: for each known pair who voted for it in the present period and who in the last k periods, server by server, and who named it, reader by
 // reader. One table of sets, lent: a row for each of them with a cell for each pair (specs/Tallies).
 ghost use Rattle.std.specs.Prelude.{◌≡◌, ◌+◌, ◌*◌, ◌≤◌, ◌<◌, length, get_or, set};

@@ -1,3 +1,4 @@
+#![tactic(auto)]
 // The text that the program prints for a plan, written into a lent buffer: `reads` and the count with a line for each read, or `refused` and the
 // number.
 ghost use Rattle.std.specs.Prelude.{◌≡◌, ◌≤◌};

@@ -1,3 +1,4 @@
+#![tactic(auto)]
 // A tick of a plan that can be played: its five stages on a state by value, and the same on one that is lent.
 ghost use Rattle.std.specs.Prelude.{◌≡◌, suc, ◌+◌, ◌*◌, ◌≤◌, ◌<◌, length};
 ghost use Rattle.requests.specs.Requests.{requests_end};

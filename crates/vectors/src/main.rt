@@ -1,3 +1,4 @@
+#![tactic(auto)]
 // Runs the operations over the plans of the file that the first argument names, and prints what they return; tests/make_vectors.py says
 // what the file holds and what is printed.
 mod requests;
