@@ -10,7 +10,7 @@ ghost use Rattle.answers.specs.Workspace.{workspace_size, zeroed};
 use plan::header::Shape;
 
 // An answer: the read that it is to, its pair, how many servers named it, and the zero bit behind.
-#[derive(Drop)]
+#[derive(Clone, Copy)]
 pub struct Answer {
     pub begin: u8,
     pub reader: u8,

@@ -5,7 +5,7 @@ ghost use Rattle.decimal.specs.Stored.{Stored};
 ghost use Rattle.arguments.specs.Arguments.{source_of, asked_of, is_option, shown_byte, shown_name, fault_of, fault_line, failure_line};
 
 // Where the plan is: at standard input, in the file that an argument names, or nowhere, since there are too many arguments.
-#[derive(Drop)]
+#[derive(Clone, Copy)]
 pub enum Source {
     Input,
     Argument(usize),
@@ -13,7 +13,7 @@ pub enum Source {
 }
 
 // What an argument asks for.
-#[derive(Drop)]
+#[derive(Clone, Copy)]
 pub enum Asked {
     Help,
     Version,
@@ -22,7 +22,7 @@ pub enum Asked {
 }
 
 // What is wrong with the arguments.
-#[derive(Drop)]
+#[derive(Clone, Copy)]
 pub enum Fault {
     UnknownOption,
     TooMany,

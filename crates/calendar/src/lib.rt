@@ -30,7 +30,7 @@ const CELLS: usize = ROWS;
 pub const BYTES: usize = 2 * (CELLS + ROWS * PLACES);
 
 // A stamped value (document 01: a pair); or, with NO_PAIR and 0, an empty place of a store. A known pair's place among the known pairs is its number.
-#[derive(Drop)]
+#[derive(Clone, Copy)]
 pub struct Stamped {
     pub number: u8,
     pub value: u32,
@@ -126,7 +126,7 @@ pub fn post(work: &mut [u8], row: usize, j: u8, i: usize)
 }
 
 // The pairs from low to before high.
-#[derive(Drop)]
+#[derive(Clone, Copy)]
 struct Span {
     low: u8,
     high: u8,

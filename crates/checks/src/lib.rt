@@ -11,7 +11,7 @@ use plan::logic::both;
 use plan::{Outcome, Refusal, form};
 
 // What the tests of the header leave: the header, or the first refusal that applies: 1; 2.
-#[derive(Drop)]
+#[derive(Clone, Copy)]
 pub enum Headed {
     Header(Shape),
     Refused(Refusal),

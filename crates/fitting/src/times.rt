@@ -8,7 +8,7 @@ use plan::header::Shape;
 use tables::operations::{Writes, writes_of};
 
 // The writes by number, and δ.
-#[derive(Drop)]
+#[derive(Clone, Copy)]
 pub struct Times {
     pub writes: Writes,
     pub delta: u8,

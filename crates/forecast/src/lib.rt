@@ -13,7 +13,7 @@ use plan::header::Shape;
 use plan::{Outcome, Refusal, form};
 
 // What a play of a plan counts.
-#[derive(Drop)]
+#[derive(Clone, Copy)]
 pub struct Counts {
     // The bytes of its answers.
     pub answer_bytes: u32,
@@ -28,7 +28,7 @@ pub struct Counts {
 }
 
 // What Forecast returns: the numbers of an accepted plan, or Check's refusal.
-#[derive(Drop)]
+#[derive(Clone, Copy)]
 pub enum Foreseen {
     Takes(Counts),
     Refused(Refusal),

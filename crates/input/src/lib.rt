@@ -5,14 +5,14 @@ ghost use Rattle.libc.specs.Io.{Moved};
 ghost use Rattle.input.specs.Taken.{Within, next_of};
 
 // What reading gave: so many bytes at the start of the buffer, or a read that failed.
-#[derive(Drop)]
+#[derive(Clone, Copy)]
 pub enum Taken {
     Bytes(usize),
     Failed,
 }
 
 // What comes after a read: reading stops with what it gave, or so many bytes are there by now and it goes on.
-#[derive(Drop)]
+#[derive(Clone, Copy)]
 pub enum Next {
     Stop(Taken),
     More(usize),

@@ -16,7 +16,7 @@ const BYTE_BITS: usize = 8;
 const BYTE_LIMIT: u32 = 1 << BYTE_BITS;
 
 // The next bit to read, and the next to write.
-#[derive(Drop)]
+#[derive(Clone, Copy)]
 pub struct Places {
     pub from: usize,
     pub to: usize,

@@ -33,7 +33,7 @@ const VALUE_COLUMNS: usize = 5;
 const WIDE_COLUMNS: usize = 8;
 
 // What the line of a read says.
-#[derive(Drop)]
+#[derive(Clone, Copy)]
 pub struct Row {
     pub begin: u8,
     pub reader: u8,

@@ -6,7 +6,7 @@ ghost use Rattle.plan.specs.Header.{forgery_bits};
 ghost use Rattle.plan.specs.Steps.{IsForged};
 
 // A forged message: a tick, its sender, its receiver, and the stamped value that it names.
-#[derive(Drop)]
+#[derive(Clone, Copy)]
 pub struct Forged {
     pub at: u8,
     pub from: u8,

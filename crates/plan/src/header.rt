@@ -15,7 +15,7 @@ use crate::logic::{both, is_within};
 use crate::operations::Operation;
 
 // The shape of a cluster and of its plan (document 01: of the hall).
-#[derive(Drop)]
+#[derive(Clone, Copy)]
 pub struct Shape {
     // The bits of a value, by the plan's form.
     pub width: u8,

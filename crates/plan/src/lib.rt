@@ -7,7 +7,7 @@ pub mod logic;
 pub mod operations;
 
 // Why a call of the library is refused: the numbers 1 to 23 of documents 01 and 02, in order.
-#[derive(Drop)]
+#[derive(Clone, Copy)]
 pub enum Refusal {
     // There is no such form, or the plan is shorter than its form's header.
     TooShort,
@@ -59,7 +59,7 @@ pub enum Refusal {
 
 // What an operation with a number for its result returns: the number, of an accepted plan's reads or of the bytes written, or the first refusal that
 // applies.
-#[derive(Drop)]
+#[derive(Clone, Copy)]
 pub enum Outcome {
     Number(usize),
     Refused(Refusal),

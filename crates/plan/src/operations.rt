@@ -10,7 +10,7 @@ ghost use Rattle.plan.specs.Steps.{operation, IsOperation};
 use crate::header::Shape;
 
 // A write of party 0, or a read of a reader.
-#[derive(Drop)]
+#[derive(Clone, Copy)]
 pub struct Operation {
     pub at: u8,
     pub party: u8,

@@ -21,7 +21,7 @@ use tables::operations::TABLE_READS;
 pub mod choose;
 
 // The ticks in which the readers' last reads end, and how many reads have begun and been answered.
-#[derive(Drop)]
+#[derive(Clone, Copy)]
 pub struct Reading {
     pub ends: [u8; READERS],
     pub begun: usize,
@@ -29,7 +29,7 @@ pub struct Reading {
 }
 
 // The pair that a reader chooses, if there is one, and how many servers named it.
-#[derive(Drop)]
+#[derive(Clone, Copy)]
 pub struct Choice {
     pub found: bool,
     pub number: u8,

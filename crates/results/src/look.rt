@@ -6,7 +6,7 @@ use limits::DEPTH;
 use plan::Refusal;
 
 // What Look sees: a server's condition, or the first refusal that applies: Check's; 10; 11.
-#[derive(Drop)]
+#[derive(Clone, Copy)]
 pub enum Seen {
     Faulty,
     Cured,
@@ -15,7 +15,7 @@ pub enum Seen {
 }
 
 // A pair that Look shows, or an empty place (document 01: a pair).
-#[derive(Drop)]
+#[derive(Clone, Copy)]
 pub struct Place {
     pub kept: bool,
     pub number: u8,
@@ -23,7 +23,7 @@ pub struct Place {
 }
 
 // The server's pairs stand beside it, highest number first, then empty places; beside a refusal all places are empty.
-#[derive(Drop)]
+#[derive(Clone, Copy)]
 pub struct Looked {
     pub seen: Seen,
     pub places: [Place; DEPTH],

@@ -19,7 +19,7 @@ use tables::{Links, Rules, links_of, operations, rules_of};
 pub mod inputs;
 
 // The parts of a plan that playing it needs. The forged entries stand in the workspace; `starts` says how many were sent before each tick.
-#[derive(Drop)]
+#[derive(Clone, Copy)]
 pub struct Script {
     pub shape: Shape,
     pub rules: Rules,

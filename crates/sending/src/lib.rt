@@ -16,7 +16,7 @@ use tables::sending::Sending;
 use tables::{Links, delays};
 
 // Server i sends in tick t, one of n.
-#[derive(Drop)]
+#[derive(Clone, Copy)]
 pub struct Sender {
     pub links: Links,
     pub n: usize,

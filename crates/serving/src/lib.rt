@@ -8,7 +8,7 @@ use limits::DEPTH;
 use tables::Rules;
 
 // A server is faulty, cured since a tick, or correct (document 01: held, curing or sound).
-#[derive(Drop)]
+#[derive(Clone, Copy)]
 pub enum Status {
     Faulty,
     Cured(u8),
@@ -16,7 +16,7 @@ pub enum Status {
 }
 
 // A server (document 01: a box). `pending` has bit x for reader x. Its votes stand in the tallies.
-#[derive(Drop)]
+#[derive(Clone, Copy)]
 pub struct Server {
     pub status: Status,
     pub kept: [Stamped; DEPTH],
@@ -25,7 +25,7 @@ pub struct Server {
 
 // What reaches server `server` in a tick: the votes in a row of the calendar; the number of a WRITE, or NO_PAIR; the readers whose READ arrives. `live`
 // lacks the readers whose read began in the last tick; there are m known pairs.
-#[derive(Drop)]
+#[derive(Clone, Copy)]
 pub struct Turn {
     pub server: usize,
     pub row: usize,

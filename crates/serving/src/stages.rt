@@ -14,7 +14,7 @@ use calendar::Stamped;
 use limits::PLACES;
 
 // A server after stage 1, and the readers to which it sends its pairs then.
-#[derive(Drop)]
+#[derive(Clone, Copy)]
 pub struct Delivered {
     pub server: Server,
     pub readers: u8,

@@ -14,7 +14,7 @@ pub mod operations;
 pub mod sending;
 
 // The number of servers, δ, is k 2, the echo and the reply quorum.
-#[derive(Drop)]
+#[derive(Clone, Copy)]
 pub struct Rules {
     pub n: usize,
     pub delta: u8,
@@ -24,14 +24,14 @@ pub struct Rules {
 }
 
 // Where the delays stand in the plan's bits, for so many parties.
-#[derive(Drop)]
+#[derive(Clone, Copy)]
 pub struct Links {
     pub at: usize,
     pub parties: usize,
 }
 
 // The values of the pairs 0 .. m - 1.
-#[derive(Drop)]
+#[derive(Clone, Copy)]
 pub struct Known {
     pub values: [u32; PLACES],
     pub m: usize,

@@ -12,14 +12,14 @@ use plan::operations::Operation;
 pub const TABLE_READS: usize = 255;
 
 // The known pairs, and the tick in which write j begins, from 1 on.
-#[derive(Drop)]
+#[derive(Clone, Copy)]
 pub struct Writes {
     pub known: Known,
     pub begun: [u8; PLACES],
 }
 
 // The tick in which each read begins, and its reader.
-#[derive(Drop)]
+#[derive(Clone, Copy)]
 pub struct Reads {
     pub begun: [u8; TABLE_READS],
     pub reader: [u8; TABLE_READS],

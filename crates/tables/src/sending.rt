@@ -8,7 +8,7 @@ ghost use Rattle.tables.specs.Sending.{Sendable, Sent, arrival_of};
 use plan::header::Shape;
 
 // What one party sends in a tick to the n servers: the delays as nibbles, the last server's lowest.
-#[derive(Drop)]
+#[derive(Clone, Copy)]
 pub struct Sending {
     pub tick: usize,
     pub sender: usize,

@@ -17,7 +17,7 @@ use script::Script;
 use script::inputs::feed_of;
 
 // The cluster between two ticks: how many writes and reads have begun, how many reads have been answered, and the tick that is next.
-#[derive(Drop)]
+#[derive(Clone, Copy)]
 pub struct Playing {
     pub cluster: Cluster,
     pub written: u8,
