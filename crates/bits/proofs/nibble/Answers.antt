@@ -1,0 +1,19 @@
+use Rattle.bits.proofs.Laws.{nibble_one, nibble_two}
+use native.Mathlib.Omega.{arith}
+use Prim.Native.Nat.{◌+◌, ◌/◌}
+use borrow.Author.Rules.{rules}
+use Rattle.bits.proofs.nibble.Goals as goal
+
+pub returns-then-off-le4 : goal.returns-then-off-le4
+returns-then-off-le4 c = let a = c.args in
+    (nibble_one a.s.now a.at (omega (arith, c.type_inv.s (a.at / 8))) (omega arith), omega arith)
+
+pub overflow_mul-both : goal.overflow_mul-both
+overflow_mul-both c = omega (arith, c.type_inv.s (c.args.at / 8))
+
+pub overflow_add-both : goal.overflow_add-both
+overflow_add-both c = omega (arith, c.type_inv.s (c.args.at / 8), c.type_inv.s (c.args.at / 8 + 1))
+
+pub returns : goal.returns
+returns c = let a = c.args in
+    (rw (c.wide.ensures, c.wide-2.ensures) (nibble_two a.s.now a.at (omega (arith, c.type_inv.s (a.at / 8))) (omega (arith, c.type_inv.s (a.at / 8 + 1)))), omega arith)

@@ -1,0 +1,34 @@
+-- `clear` meets its contract. The loop's invariant: the cells from the lowest pair to before j are emptied.
+use borrow.Author.Rules.{rules}
+use native.Mathlib.Omega.{arith}
+use mathlib.Core.Path.{◌≡◌, ◌∙◌, ap}
+use Prim.Native.Nat.{◌-◌, ◌≤◌, max}
+use lib.ListN.{length}
+use Rattle.calendar.specs.Layout.{low_of, high_of}
+use Rattle.calendar.proofs.Laws.{put_length}
+use Rattle.calendar.proofs.Clearing.{EmptiedTo, emptied_none, emptied_more, cleared}
+use Rattle.calendar.proofs.clear.Goals as goal
+
+pub cell-requires : goal.cell-requires
+cell-requires c = (c.requires.0, omega (arith, c.high-high.ensures.0, c.requires.1, c.loop-j-test.true))
+
+pub put-requires : goal.put-requires
+put-requires c = omega (arith, c.cell.ensures.1, c.loop-j.invariant.2.rest.size, c.requires.2)
+
+pub loop-j-preserved : goal.loop-j-preserved
+loop-j-preserved c = let l = c.loop-j in
+    let e = c.high-high.ensures.0 in
+    let t = c.loop-j-test.true in (
+      omega arith,
+      omega (arith, e, t),
+      rw (c.put.ensures, c.cell.ensures.0)
+          (emptied_more _ _ _ _ l.j c.requires.0 (omega (arith, e, t, c.requires.1)) l.invariant.0 (omega (arith, l.invariant.2.rest.size, c.requires.2)) l.invariant.2),
+    )
+
+pub put-requires-2 : goal.put-requires-2
+put-requires-2 c = omega (arith, c.loop-j.invariant.2.rest.size, c.requires.2, c.requires.0)
+
+pub returns : goal.returns
+returns c = let l = c.loop-j in
+    let e : l.j ≡ max (low_of c.args.work.now c.args.row) (high_of c.args.work.now c.args.row) = omega (arith, c.high-high.ensures.0, c.loop-j-test.false, l.invariant.1) in
+    rw c.put-2.ensures (cleared _ _ _ c.requires.0 (omega (arith, l.invariant.2.rest.size, c.requires.2)) (rw e at l.invariant.2))

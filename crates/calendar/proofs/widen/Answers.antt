@@ -1,0 +1,13 @@
+-- `widen` meets its contract.
+use Prim.Native.Nat.{◌+◌, ◌*◌}
+use native.Mathlib.Omega.{arith}
+use lib.ListN.{length-set}
+use lib.Seq.{get_or-set_other}
+use borrow.Author.Rules.{rules}
+use Rattle.calendar.specs.Posts.{widened}
+use Rattle.calendar.proofs.widen.Goals as goal
+
+pub returns : goal.returns
+unfolding widened
+returns c = let a = c.args in
+    rw (c.higher-2.ensures, c.higher.ensures, get_or-set_other a.work.now (2 * a.row) (2 * a.row + 1) _ 0 (λ e. omega arith))

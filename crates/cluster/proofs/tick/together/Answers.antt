@@ -1,0 +1,22 @@
+-- `tick::together` meets its contract. The loop's invariant: the set has the servers that a request of a party passed reaches.
+use mathlib.Core.Path.{◌≡◌, fun_ext}
+use Prim.Native.Nat.{ℕ, ◌-◌, ◌≤◌}
+use native.Mathlib.Numerals.{add-one}
+use native.Mathlib.Omega.{arith}
+use lib.ListN.{get_or}
+use borrow.Author.Rules.{rules}
+use Rattle.register.specs.Lists.{any_up_to}
+use Rattle.limits.specs.Bits.{bit}
+use Rattle.cluster.specs.Inputs.{requesters, is_asked}
+use Rattle.cluster.proofs.Asking.{joined_none, joined_more}
+use Rattle.cluster.proofs.tick.together.Goals as goal
+
+pub loop-p-init : goal.loop-p-init
+loop-p-init c = (search rules, joined_none c.args.arrivals.requests)
+
+pub loop-p-preserved : goal.loop-p-preserved
+loop-p-preserved c = let h = c.loop-p in (omega arith, rw (add-one h.p) (joined_more c.args.arrivals.requests h.r h.p h.invariant.1))
+
+pub returns : goal.returns
+unfolding is_asked
+returns c = let e : c.loop-p.p ≡ requesters = omega (arith, c.loop-p-test.false, c.loop-p.invariant.0) in fun_ext (rw e at c.loop-p.invariant.1)

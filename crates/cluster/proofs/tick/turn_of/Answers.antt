@@ -1,0 +1,24 @@
+-- `tick::turn_of` meets its contract: where no request reaches the server, no WRITE and no READ does.
+use mathlib.Core.Path.{◌≡◌, refl, sym, ◌∙◌, fun_ext}
+use mathlib.Core.Bool.{Bool}
+use mathlib.Core.Logic.{inl, inr}
+use Prim.Native.Nat.{ℕ}
+use borrow.Author.Rules.{rules}
+use Rattle.limits.specs.Bits.{bit}
+use Rattle.limits.proofs.Bits.{bit_zero}
+use Rattle.cluster.specs.Inputs.{wrote_at, asks_at}
+use Rattle.cluster.proofs.Asking.{none_wrote, none_asks}
+use Rattle.cluster.proofs.tick.turn_of.Goals as goal
+
+pub returns : goal.returns
+returns c = let requests = c.args.feed.arrivals.requests in
+    let number = c.args.feed.arrivals.number in
+    let wrote : c.if-has.wrote ≡ wrote_at requests number c.args.b = elim c.if-has.branch [
+      | inl y ↦ y.4 ∙ y.2.ensures
+      | inr y ↦ y.1 ∙ sym (none_wrote requests c.args.b (sym c.requires.1 ∙ (sym c.has.ensures ∙ y.0.left)) number)
+    ] in
+    let asks : ◌≡◌ {A = ℕ → Bool} (λ x. bit x c.if-has.asks) (asks_at requests c.args.b) = elim c.if-has.branch [
+      | inl y ↦ rw y.5 y.3.ensures
+      | inr y ↦ rw y.2 (fun_ext (λ x. bit_zero x ∙ sym (none_asks requests c.args.b (sym c.requires.1 ∙ (sym c.has.ensures ∙ y.0.left)) x)))
+    ] in
+    record { turn = rw (wrote, c.row.ensures.0) refl; asks = asks }

@@ -1,0 +1,31 @@
+-- `put_pair` meets its contract: nothing without room, else four stores, which are `stored_at` of four bytes.
+use mathlib.Core.Path.{refl}
+use Prim.Native.Nat.{◌*◌}
+use native.Mathlib.Omega.{arith}
+use lib.ListN.{length-set}
+use borrow.Author.Tests.{lt-ltb, le-ltb}
+use Rattle.codes.specs.Codes.{pair_size, pair_bytes}
+use Rattle.codes.proofs.PairLaws.{stored}
+use borrow.Author.Rules.{rules}
+use Rattle.codes.proofs.pairs.put_pair.Goals as goal
+
+pub returns-then-out-at : goal.returns-then-out-at
+returns-then-out-at c = (refl, rw (lt-ltb _ _ c.if-out-at.true))
+
+pub bounds-out-at-2 : goal.bounds-out-at-2
+bounds-out-at-2 c = simp length-set (omega arith)
+
+pub bounds-out-at-3 : goal.bounds-out-at-3
+bounds-out-at-3 c = simp length-set (omega arith)
+
+pub bounds-out-at-4 : goal.bounds-out-at-4
+bounds-out-at-4 c = simp length-set (omega arith)
+
+pub returns : goal.returns
+unfolding pair_bytes
+returns c = let a = c.args in
+    let high = c.high.ensures in
+    let mid = c.low.ensures in
+    let least = c.low-2.ensures in
+    let all = stored a.out.now (pair_size * a.i) _ _ _ a.p.number _ _ _ high mid least in
+    (simp length-set, rw (le-ltb _ _ c.if-out-at.false) all)

@@ -1,0 +1,9 @@
+-- `byte_stands` meets its contract.
+use native.Mathlib.Omega.{arith}
+use borrow.Author.Rules.{rules}
+use Rattle.delays.proofs.Pairs.{byte_stands}
+use Rattle.delays.proofs.byte_stands.Goals as goal
+
+pub returns : goal.returns
+returns c = let a = c.args in
+    rw (c.both-2.ensures, c.both.ensures) (byte_stands a.need a.delta a.x (omega arith) (omega arith) (omega arith))

@@ -1,0 +1,20 @@
+-- `needs` meets its contract: the loop has filled the entries below k.
+use mathlib.Core.Path.{◌≡◌, refl}
+use Prim.Native.Nat.{◌-◌, ◌≤◌}
+use native.Mathlib.Nat.{not-suc-le-zero}
+use native.Mathlib.Omega.{arith}
+use lib.ListN.{length-set, length}
+use Rattle.delays.specs.Steps.{most_pairs, Needed}
+use Rattle.delays.proofs.Pairs.{needed_more}
+use Rattle.delays.proofs.needs.Goals as goal
+
+pub loop-k-init : goal.loop-k-init
+loop-k-init c = (omega arith, refl, λ k l. absurd (not-suc-le-zero l))
+
+pub loop-k-preserved : goal.loop-k-preserved
+loop-k-preserved c = let l = c.loop-k in
+    let a = c.args in
+    (omega arith, rw length-set l.invariant.1, needed_more a.n a.parties l.k c.need_of.result l.r l.invariant.2 (omega arith) c.need_of.ensures)
+
+pub returns : goal.returns
+returns c = (c.loop-k.invariant.1, λ m l. c.loop-k.invariant.2 m (omega (arith, l)))

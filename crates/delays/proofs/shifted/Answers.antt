@@ -1,0 +1,7 @@
+-- `shifted` meets its contract.
+use mathlib.Core.Path.{refl}
+use borrow.Author.Rules.{rules}
+use Rattle.delays.proofs.shifted.Goals as goal
+
+pub returns : goal.returns
+returns c = refl

@@ -1,0 +1,76 @@
+-- `counted` meets its contract: after e turns the table has the arrivals of the first e messages.
+use mathlib.Core.Path.{◌≡◌, ap}
+use Prim.Native.Nat.{ℕ, ◌+◌, ◌-◌, ◌≤◌, ◌<◌}
+use native.Mathlib.Omega.{arith}
+use borrow.Author.Rules.{rules}
+use Rattle.register.specs.Plan.{Forgery}
+use Rattle.plan.specs.{Header.forgery_bits, Steps.forgery}
+use Rattle.plan.proofs.Sizes.{forgeries_few}
+use Rattle.bits.proofs.Records.{record_inside}
+use Rattle.tables.specs.Forged.{forged_at}
+use Rattle.forecast.specs.Steps.{most_arrivals, arrival_at, Arrived}
+use Rattle.forecast.proofs.Tables.{arrived_none, arrived_few, arrived_more}
+use Rattle.forecast.proofs.arrivals.counted.Goals.{After-delay_of, After-message_at-g}
+use Rattle.forecast.proofs.arrivals.counted.Goals as goal
+
+abbrev at : Forgery → ℕ
+at g = g.at
+
+abbrev from : Forgery → ℕ
+from g = g.from
+
+abbrev to : Forgery → ℕ
+to g = g.to
+
+-- the message that is looked at
+message : (c : After-message_at-g) → forgery c.args.width c.message_at-g.result ≡ forged_at c.args.width c.args.part.now c.args.offset c.loop-e.e
+message c = rw c.bits-bits.ensures at c.message_at-g.ensures.0
+
+-- the tick of its arrival is in the table
+in_table : (c : After-delay_of) → c.message_at-g.result.at + c.delay_of.result < most_arrivals
+in_table c = omega (arith, c.message_at-g.ensures.1, c.delay_of.ensures.1)
+
+pub loop-e-init : goal.loop-e-init
+loop-e-init c = (search rules, arrived_none _)
+
+pub overflow_mul-bits : goal.overflow_mul-bits
+overflow_mul-bits c = let bits = c.bits-bits in
+    omega (arith, forgeries_few bits.result c.loop-e.e (omega (arith, c.requires.narrow, bits.ensures)) (omega (arith, c.loop-e-test.true, c.requires.few)))
+
+pub overflow_add-offset : goal.overflow_add-offset
+overflow_add-offset c = let bits = c.bits-bits in
+    omega (arith, c.requires.start, forgeries_few bits.result c.loop-e.e (omega (arith, c.requires.narrow, bits.ensures)) (omega (arith, c.loop-e-test.true, c.requires.few)))
+
+pub message_at-g-requires : goal.message_at-g-requires
+message_at-g-requires c = let h = c.loop-e in
+    let bits = c.bits-bits in
+    let l : h.e < c.args.count = c.loop-e-test.true in (
+      rw bits.ensures (omega (arith, c.requires.inside, record_inside (forgery_bits c.args.width) h.e c.args.count l)),
+      omega (arith, c.requires.start, forgeries_few bits.result h.e (omega (arith, c.requires.narrow, bits.ensures)) (omega (arith, c.requires.few))),
+      c.requires.narrow,
+    )
+
+pub delay_of-requires : goal.delay_of-requires
+delay_of-requires c = let E = message (goal.at.delay_of-requires c).After-message_at-g in
+    rw (ap at E, ap from E, ap to E) (c.requires.reach _ c.loop-e-test.true)
+
+pub overflow_add-t : goal.overflow_add-t
+overflow_add-t c = omega (arith, in_table (goal.at.overflow_add-t c).After-delay_of)
+
+pub bounds-r-t : goal.bounds-r-t
+bounds-r-t c = in_table (goal.at.bounds-r-t c).After-delay_of
+
+pub overflow_add-r : goal.overflow_add-r
+overflow_add-r c = omega (arith, arrived_few _ _ _ c.loop-e.invariant.1 _ (in_table (goal.at.overflow_add-r c).After-delay_of), c.requires.few, c.loop-e-test.true)
+
+pub bounds-r-t-in-loop-e : goal.bounds-r-t-in-loop-e
+bounds-r-t-in-loop-e c = in_table (goal.at.bounds-r-t-in-loop-e c).After-delay_of
+
+pub loop-e-preserved : goal.loop-e-preserved
+loop-e-preserved c = let h = c.loop-e in
+    let E = message (goal.at.loop-e-preserved c).After-message_at-g in
+    (search rules, arrived_more _ h.e h.r h.invariant.1 _ (in_table (goal.at.loop-e-preserved c).After-delay_of) (rw (c.delay_of.ensures.0, ap at E, ap from E, ap to E)))
+
+pub returns : goal.returns
+returns c = let e : c.loop-e.e ≡ c.args.count = omega arith in
+    rw e at c.loop-e.invariant.1

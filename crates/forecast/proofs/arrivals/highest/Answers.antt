@@ -1,0 +1,26 @@
+-- `highest` meets its contract: after t turns it has the largest of the first t numbers.
+use mathlib.Core.Path.{◌≡◌, refl, ◌∙◌}
+use mathlib.Core.Logic.{⊎_elim}
+use Prim.Native.Nat.{◌-◌, ◌≤◌}
+use native.Mathlib.Numerals.{add-one}
+use native.Mathlib.Omega.{arith}
+use lib.ListN.{get_or}
+use borrow.Author.Rules.{rules}
+use Rattle.traffic.specs.Traffic.{largest}
+use Rattle.forecast.proofs.arrivals.highest.Goals as goal
+
+pub loop-t-init : goal.loop-t-init
+unfolding largest
+loop-t-init c = (search rules, refl)
+
+pub loop-t-preserved : goal.loop-t-preserved
+unfolding largest
+loop-t-preserved c = let l = c.loop-t in
+    ⊎_elim
+    (λ w. (search rules, w.1 ∙ rw (add-one l.t) (omega (arith, w.0.taken, l.invariant.1))))
+    (λ w. (search rules, w.1 ∙ rw (add-one l.t) (omega (arith, w.0.left, l.invariant.1))))
+    c.if-r-x.branch
+
+pub returns : goal.returns
+returns c = let e : c.loop-t.t ≡ c.args.ticks = omega arith in
+    rw e at c.loop-t.invariant.1

@@ -1,0 +1,16 @@
+-- `highest` meets its contract: after t turns it has the largest of the first t numbers.
+use mathlib.Core.Path.{◌≡◌, refl, ◌∙◌}
+use mathlib.Core.Logic.{⊎_elim}
+use Prim.Native.Nat.{◌-◌, ◌≤◌}
+use native.Mathlib.Numerals.{add-one}
+use native.Mathlib.Omega.{arith}
+use lib.ListN.{get_or}
+use borrow.Author.Rules.{rules}
+use Rattle.traffic.specs.Traffic.{largest}
+use Rattle.forecast.proofs.arrivals.highest.Given as goal
+
+abbrev pub invariant-loop-t : goal.invariant-loop-t
+invariant-loop-t l = (l.t ≤ l.ticks) × (l.r ≡ largest (λ i. get_or l.table i 0) l.t)
+
+abbrev pub decreases-loop-t : goal.decreases-loop-t
+decreases-loop-t l = l.ticks - l.t

@@ -1,0 +1,25 @@
+-- `receipts` meets its contract: after b turns the first b servers are counted.
+use mathlib.Core.Path.{◌≡◌, refl}
+use mathlib.Core.Bool.{Bool, not}
+use mathlib.Core.List.{List}
+use Prim.Native.Nat.{ℕ, ◌-◌, ◌≤◌}
+use native.Mathlib.Numerals.{add-one}
+use native.Mathlib.Omega.{arith}
+use lib.ListN.{get_or}
+use borrow.Author.Rules.{rules}
+use Rattle.register.specs.Lists.{count}
+use Rattle.tables.specs.declared.sending.Sending.{Sending}
+use Rattle.limits.specs.Limits.{most_servers}
+use Rattle.limits.specs.Bits.{bit}
+use Rattle.tables.specs.Sending.{arrival_of}
+use Rattle.forecast.proofs.receipts.receipts.Given as goal
+
+-- is server b free when it is reached
+abbrev isFree : Sending → List ℕ → ℕ → Bool
+isFree sending placements b = not (bit (most_servers - 1 - b) (get_or placements (arrival_of sending b - 1) 0))
+
+abbrev pub invariant-loop-b : goal.invariant-loop-b
+invariant-loop-b l = (l.b ≤ l.n) × (l.r ≤ l.b) × (l.r ≡ count (isFree l.sending l.placements) l.b)
+
+abbrev pub decreases-loop-b : goal.decreases-loop-b
+decreases-loop-b l = l.n - l.b

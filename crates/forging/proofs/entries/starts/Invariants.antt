@@ -1,0 +1,16 @@
+-- `entries::starts` meets its contract. The loop's invariant: the ticks passed have their starts, and the entries before the last start were sent before the tick.
+use mathlib.Core.Path.{◌≡◌}
+use Prim.Native.Nat.{ℕ, ◌-◌, ◌≤◌, ◌<◌}
+use native.Mathlib.Omega.{arith}
+use native.Mathlib.Decide.{dec_le}
+use lib.ListN.{length, length-set, get_or}
+use borrow.Author.Rules.{rules}
+use Rattle.forging.specs.Entries.{entry_at, Start}
+use Rattle.tables.proofs.Tables.{each_more}
+use Rattle.forging.proofs.entries.starts.Given as goal
+
+abbrev pub invariant-loop-u : goal.invariant-loop-u
+invariant-loop-u l = (l.u ≤ 129) × (length l.r ≡ 129) × (l.e ≤ l.count) × ((i : ℕ) → i < l.e → entry_at l.work i 0 < l.u) × ((k : ℕ) → k < l.u → Start l.work 0 l.count k (get_or l.r k 0))
+
+abbrev pub decreases-loop-u : goal.decreases-loop-u
+decreases-loop-u l = 129 - l.u

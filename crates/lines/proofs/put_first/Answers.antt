@@ -1,0 +1,10 @@
+-- `put_first` meets its contract: the word, then the number.
+use native.Mathlib.Omega.{arith}
+use Rattle.decimal.proofs.Stores.{stored_then}
+use borrow.Author.Rules.{rules}
+use Rattle.lines.proofs.put_first.Goals as goal
+
+pub returns : goal.returns
+returns c = let word = c.put_all-at.ensures in
+    let number = c.put_number.ensures in
+    (stored_then word number.0, omega (arith, word.next_is, number.1))

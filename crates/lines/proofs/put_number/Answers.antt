@@ -1,0 +1,9 @@
+-- `put_number` meets its contract: the digits, then the byte.
+use native.Mathlib.Omega.{arith}
+use Rattle.decimal.proofs.Stores.{stored_then}
+use borrow.Author.Rules.{rules}
+use Rattle.lines.proofs.put_number.Goals as goal
+
+pub returns : goal.returns
+returns c = let byte = c.put_byte.ensures in
+    (stored_then c.put-end.ensures.0 byte, omega (arith, c.put-end.ensures.1, byte.next_is))

@@ -1,0 +1,16 @@
+-- `put_between` meets its contract: the loop has written the bytes before byte k, and pair k - 1 is at hand.
+use mathlib.Core.Path.{◌≡◌}
+use Prim.Native.Nat.{◌+◌, ◌*◌, ◌-◌, ◌/◌, ◌%◌, ◌^◌, ◌≤◌}
+use native.Mathlib.Omega.{arith}
+use borrow.Author.Rules.{rules}
+use Rattle.bits.proofs.Written.{wrote_byte}
+use Rattle.nibbles.specs.Nibbles.{pair_limit, all_bits, pair_of, Part}
+use Rattle.nibbles.proofs.Parts.{part_of, part_then}
+use Rattle.nibbles.proofs.Numbers.{between_at}
+use Rattle.nibbles.proofs.put_between.Given as goal
+
+abbrev pub invariant-loop-k : goal.invariant-loop-k
+invariant-loop-k l = (1 ≤ l.k) × (l.k ≤ l.pairs) × (l.before ≡ pair_of l.numbers (l.k - 1)) × Part l.initial.out l.out l.at (all_bits l.numbers) (8 - l.at % 8) (8 * l.k - l.at % 8)
+
+abbrev pub decreases-loop-k : goal.decreases-loop-k
+decreases-loop-k l = l.pairs - l.k

@@ -1,0 +1,20 @@
+-- `put_odd` meets its contract.
+use mathlib.Core.Path.{◌≡◌}
+use Prim.Native.Nat.{◌*◌, ◌-◌, ◌/◌}
+use native.Mathlib.Omega.{arith}
+use lib.ListN.{length, get_or}
+use borrow.Author.Rules.{rules}
+use Rattle.nibbles.specs.Nibbles.{width, pair_width}
+use Rattle.nibbles.proofs.Parts.{part_of}
+use Rattle.nibbles.proofs.Numbers.{number_at}
+use Rattle.nibbles.proofs.put_odd.Goals as goal
+
+pub overflow_cast-last : goal.overflow_cast-last
+overflow_cast-last c = omega (arith, c.type_inv.numbers (length c.args.numbers.now - 1))
+
+pub returns : goal.returns
+returns c = let a = c.args in
+    let xs = a.numbers.now in
+    let j = length xs - 1 in
+    let e : pair_width * (length xs / 2) ≡ width * j = omega arith in
+    part_of width (get_or xs j 0) (omega arith) (omega arith) c.put.ensures (rw e (number_at xs j (omega arith)))

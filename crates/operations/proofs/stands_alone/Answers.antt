@@ -1,0 +1,6 @@
+-- `stands_alone` meets its contract.
+use native.Mathlib.Omega.{arith}
+use Rattle.operations.proofs.stands_alone.Goals as goal
+
+pub returns : goal.returns
+returns c = rw (c.both-2.ensures, c.both.ensures, c.either.ensures, c.end.ensures.0)

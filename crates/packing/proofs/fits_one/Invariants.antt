@@ -1,0 +1,19 @@
+-- `fits_one` meets its contract: what is left fits as the whole does.
+use mathlib.Core.Path.{◌≡◌, ◌∙◌, sym}
+use Prim.Native.Nat.{◌-◌, ◌≤◌}
+use native.Mathlib.Nat.{sub-zero}
+use native.Mathlib.Numerals.{add-one}
+use native.Mathlib.Omega.{arith}
+use lib.ListN.{length, take, drop}
+use borrow.Author.Rules.{rules}
+use borrow.Author.Tests.{not-true, not-false}
+use Rattle.bits.specs.Layout.{fits}
+use Rattle.packing.proofs.Turns.{narrow_at}
+use Rattle.packing.proofs.Fitting as fitting
+use Rattle.packing.proofs.fits_one.Given as goal
+
+abbrev pub invariant-loop-j : goal.invariant-loop-j
+invariant-loop-j l = (l.j ≤ length l.widths) × (fits l.widths (take (length l.widths) l.numbers) ≡ fits (drop l.j l.widths) (take (length l.widths - l.j) (drop l.j l.numbers)))
+
+abbrev pub decreases-loop-j : goal.decreases-loop-j
+decreases-loop-j l = length l.widths - l.j

@@ -1,0 +1,35 @@
+-- `joined` meets its contract.
+use Prim.Native.Nat.{◌-◌}
+use native.Mathlib.Nat.{lt_of_lt_of_le}
+use native.Mathlib.Numerals.{add-one}
+use native.Mathlib.Omega.{arith}
+use lib.ListN.{length}
+use lib.Pow.{pow_mono}
+use borrow.Author.Rules.{rules}
+use Rattle.packing.proofs.Writing.{Joining, total_inside, join_none, join_more, join_all}
+use Rattle.packing.proofs.joined.Goals as goal
+
+pub loop-j-init : goal.loop-j-init
+loop-j-init c = join_none _ _
+
+pub overflow_cast-widths : goal.overflow_cast-widths
+overflow_cast-widths c = omega (arith, c.type_inv.widths c.loop-j.j)
+
+pub overflow_cast-numbers : goal.overflow_cast-numbers
+overflow_cast-numbers c = omega (arith, c.type_inv.numbers c.loop-j.j)
+
+pub behind-acc-requires : goal.behind-acc-requires
+behind-acc-requires c = let a = c.args in
+    let l = c.loop-j in
+    let t = total_inside a.widths.now l.j (omega arith) in
+    (omega arith, lt_of_lt_of_le l.invariant.small (pow_mono (omega arith)))
+
+pub loop-j-preserved : goal.loop-j-preserved
+loop-j-preserved c = let a = c.args in
+    let l = c.loop-j in
+    rw (add-one l.j, c.behind-acc.ensures) (join_more a.widths.now a.numbers.now (omega arith) l.invariant (omega arith))
+
+pub returns : goal.returns
+returns c = let a = c.args in
+    let l = c.loop-j in
+    join_all a.widths.now a.numbers.now (omega arith) l.invariant (omega arith)

@@ -1,0 +1,6 @@
+-- `header::Shape::bytes` meets its contract.
+use borrow.Author.Rules.{rules}
+use Rattle.plan.proofs.header.Shape.bytes.Goals as goal
+
+pub returns : goal.returns
+returns c = rw (← c.bits.ensures.0) c.bytes_for.ensures

@@ -1,0 +1,18 @@
+-- `choose::chosen` meets its contract. The loop's invariant: no pair from j on has a quorum.
+use borrow.Author.Rules.{rules}
+use native.Mathlib.Omega.{arith}
+use mathlib.Core.Path.{◌≡◌, refl, sym, ap, ◌∙◌}
+use mathlib.Core.Bool.{Bool}
+use Prim.Native.Nat.{ℕ, suc, ◌≤◌, ◌+◌, ◌-◌}
+use lib.ListN.{length, get_or}
+use lib.Count.{ones}
+use Rattle.register.specs.Lists.{count}
+use Rattle.limits.specs.Limits.{places}
+use Rattle.tallies.specs.Tallies.{holds}
+use Rattle.limits.proofs.Bits.{ones_count}
+use Rattle.reading.specs.Choosing.{highest_of}
+use Rattle.reading.proofs.Chosen.{highest_here, highest_below}
+use Rattle.reading.proofs.choose.chosen.Given as goal
+
+abbrev pub invariant-loop-j : goal.invariant-loop-j
+invariant-loop-j l = (l.j ≤ l.m) × (l.m ≤ places) × (l.at + l.m ≤ length l.sets) × (highest_of (λ y i. holds l.sets (l.at + y) i) l.reply l.m ≡ highest_of (λ y i. holds l.sets (l.at + y) i) l.reply l.j)

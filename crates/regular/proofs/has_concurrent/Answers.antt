@@ -1,0 +1,25 @@
+-- `has_concurrent` is whether a write is concurrent: it looks at the first one behind the last finished one.
+use mathlib.Core.Path.{◌≡◌, refl, sym, ◌∙◌}
+use mathlib.Core.List.{List}
+use Prim.Native.Nat.{ℕ}
+use native.Mathlib.Numerals.{add-one}
+use native.Mathlib.Omega.{arith}
+use Rattle.register.specs.Plan.{Plan, Read}
+use Rattle.regular.specs.Tables.{Tables}
+use Rattle.regular.proofs.Laws.{Sought, write_at, none_concurrent, next_concurrent}
+use borrow.Author.Rules.{rules}
+use Rattle.regular.proofs.has_concurrent.Goals as goal
+
+known : (c : tie.After-last-finished) (w : ℕ) (P : Plan) (x : Read) (values : List ℕ) → Tables w P values c.before.args.begun.now c.before.args.m
+    → P.delta ≡ c.before.args.delta → x.begun ≡ c.before.args.read
+    → Sought w P x values c.before.args.begun.now c.before.args.m c.last-finished.result
+known c w P x values W d r =
+    record { tables = W; found = c.last-finished.ensures.1 P x (write_at w values c.before.args.begun.now) d r (λ j. refl) }
+
+pub returns-then-m-next : goal.returns-then-m-next
+returns-then-m-next c = λ w P x values W d r. sym (none_concurrent (known c w P x values W d r) (omega arith))
+
+pub returns : goal.returns
+returns c = λ w P x values W d r.
+    let next = next_concurrent (known c w P x values W d r) (omega arith) in
+    c.is_begun_by_end.ensures ∙ rw (← d, ← r, add-one c.last_finished-next.result) (sym next)

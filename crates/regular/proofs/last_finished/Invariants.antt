@@ -1,0 +1,25 @@
+-- `last_finished` finds the last write that finished before the read. The invariant says so of the writes passed.
+-- It stands on the laws of one turn more.
+use mathlib.Core.Path.{◌≡◌, sym, ◌∙◌}
+use mathlib.Core.Logic.{inl, inr}
+use mathlib.Core.List.{List}
+use Prim.Native.Nat.{ℕ, ◌-◌, ◌≤◌, ◌<◌}
+use native.Mathlib.Omega.{arith}
+use borrow.Author.Rules.{rules}
+use lib.ListN.{get_or}
+use Rattle.register.specs.Plan.{Plan, Read, Write}
+use Rattle.register.specs.Regular.{finished}
+use Rattle.regular.specs.Tables.{Last}
+use Rattle.regular.proofs.Steps.{last_none, last_taken, last_left}
+use Rattle.regular.proofs.last_finished.Given as goal
+
+-- the last of the first j writes that finished
+abbrev Sought : List ℕ → ℕ → ℕ → ℕ → ℕ → Type 0
+Sought begun delta read j last = (P : Plan) (x : Read) (w : ℕ → Write) → P.delta ≡ delta → x.begun ≡ read
+    → ((k : ℕ) → (w k).begun ≡ get_or begun k 0) → Last (λ k. finished P x (w k)) j last
+
+abbrev pub invariant-loop-j : goal.invariant-loop-j
+invariant-loop-j l = (1 ≤ l.j) × (l.j ≤ l.m) × (l.last < l.j) × Sought l.begun l.delta l.read l.j l.last
+
+abbrev pub decreases-loop-j : goal.decreases-loop-j
+decreases-loop-j l = l.m - l.j

@@ -1,0 +1,19 @@
+-- `post` meets its contract. The loop's invariant: the request reaches the servers before b.
+use borrow.Author.Rules.{rules}
+use native.Mathlib.Omega.{arith}
+use mathlib.Core.Path.{◌≡◌}
+use Prim.Native.Nat.{◌-◌, ◌≤◌}
+use Rattle.requests.specs.Requests.{asked_first, Asked}
+use Rattle.requests.proofs.Requesting.{asked_first_lem, asked_more, reaching}
+use Rattle.requests.proofs.post.Goals as goal
+
+pub add-requires : goal.add-requires
+add-requires c = (omega (arith, c.word.ensures.1, c.loop-b.invariant.1.outside.rest.size, c.requires.2), omega (arith, c.requires.0.servers, c.loop-b-test.true))
+
+pub loop-b-preserved : goal.loop-b-preserved
+unfolding reaching
+loop-b-preserved c = let l = c.loop-b in (
+  omega arith,
+  rw (c.add.ensures, c.word.ensures.0, c.arrival.ensures.0)
+      (asked_more c.args.sending c.args.p c.requires.1 _ _ l.b (omega (arith, l.invariant.1.outside.rest.size, c.requires.2)) l.invariant.1),
+)

@@ -1,0 +1,14 @@
+-- `post` meets its contract. The loop's invariant: the request reaches the servers before b.
+use borrow.Author.Rules.{rules}
+use native.Mathlib.Omega.{arith}
+use mathlib.Core.Path.{◌≡◌}
+use Prim.Native.Nat.{◌-◌, ◌≤◌}
+use Rattle.requests.specs.Requests.{asked_first, Asked}
+use Rattle.requests.proofs.Requesting.{asked_first_lem, asked_more, reaching}
+use Rattle.requests.proofs.post.Given as goal
+
+abbrev pub invariant-loop-b : goal.invariant-loop-b
+invariant-loop-b l = (l.b ≤ l.n) × Asked l.initial.work l.work (asked_first l.sending l.p l.b)
+
+abbrev pub decreases-loop-b : goal.decreases-loop-b
+decreases-loop-b l = l.n - l.b

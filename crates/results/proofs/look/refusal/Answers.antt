@@ -1,0 +1,6 @@
+-- `look::refusal` meets its contract: its number, and no pair.
+use borrow.Author.Rules.{rules}
+use Rattle.results.proofs.look.refusal.Goals as goal
+
+pub returns : goal.returns
+returns c = cc

@@ -1,0 +1,24 @@
+-- `inputs::live` meets its contract. The loop's invariant: the set has the readers passed whose read did not begin in the tick before.
+use mathlib.Core.Path.{◌≡◌, fun_ext}
+use mathlib.Core.Bool.{Bool, not, ◌&&◌}
+use mathlib.Core.Logic.{inl, inr}
+use Prim.Native.Nat.{ℕ, ◌+◌, ◌*◌, ◌-◌, ◌≤◌}
+use native.Mathlib.Omega.{arith}
+use lib.Dec.{eqb, ltb}
+use lib.ListN.{get_or}
+use borrow.Author.Rules.{rules}
+use borrow.Author.Tests.{lt-ltb, eq-eqb, ne_eqb}
+use Rattle.limits.specs.Bits.{bit}
+use Rattle.cluster.specs.Inputs.{requesters}
+use Rattle.cluster.proofs.Asking.{set_none, set_more, set_same}
+use Rattle.script.specs.Inputs.{live_at}
+use Rattle.script.proofs.inputs.live.Goals as goal
+
+pub loop-x-preserved : goal.loop-x-preserved
+loop-x-preserved c = let h = c.loop-x in
+    let a = c.args in
+    let g : ℕ → Bool = λ k. ltb 0 k && not (eqb (get_or a.t1 (k - 1) 0 + 1) (a.t + 2 * a.delta)) in
+    elim c.if-size_of-fresh.branch [
+      | inl w ↦ (omega arith, omega arith, rw w.1 (set_more g h.r h.x h.invariant.2 (omega arith) (rw (lt-ltb 0 h.x h.invariant.0, ← c.size_of.ensures.0, ne_eqb _ _ w.0.taken))))
+      | inr w ↦ (omega arith, omega arith, rw w.1 (set_same g h.r h.x h.invariant.2 (rw (lt-ltb 0 h.x h.invariant.0, ← c.size_of.ensures.0, eq-eqb _ _ w.0.left))))
+    ]

@@ -1,0 +1,15 @@
+-- `inputs::reached` meets its contract. The loop's invariant: the parties passed have their words.
+use mathlib.Core.Path.{◌≡◌}
+use Prim.Native.Nat.{ℕ, ◌-◌, ◌≤◌, ◌<◌}
+use native.Mathlib.Omega.{arith}
+use lib.ListN.{length, get_or}
+use borrow.Author.Rules.{rules}
+use Rattle.requests.specs.Requests.{reached_of}
+use Rattle.cluster.specs.Inputs.{requesters}
+use Rattle.tables.proofs.Tables.{each_more}
+use Rattle.script.proofs.inputs.reached.Goals as goal
+
+pub loop-p-preserved : goal.loop-p-preserved
+loop-p-preserved c = let h = c.loop-p in
+    let a = c.args in
+    (omega arith, search rules, each_more (λ k v. v ≡ reached_of a.work.now a.t k) h.r h.p _ (omega arith) c.reached.ensures h.invariant.2)

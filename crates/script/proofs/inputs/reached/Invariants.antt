@@ -1,0 +1,16 @@
+-- `inputs::reached` meets its contract. The loop's invariant: the parties passed have their words.
+use mathlib.Core.Path.{◌≡◌}
+use Prim.Native.Nat.{ℕ, ◌-◌, ◌≤◌, ◌<◌}
+use native.Mathlib.Omega.{arith}
+use lib.ListN.{length, get_or}
+use borrow.Author.Rules.{rules}
+use Rattle.requests.specs.Requests.{reached_of}
+use Rattle.cluster.specs.Inputs.{requesters}
+use Rattle.tables.proofs.Tables.{each_more}
+use Rattle.script.proofs.inputs.reached.Given as goal
+
+abbrev pub invariant-loop-p : goal.invariant-loop-p
+invariant-loop-p l = (l.p ≤ requesters) × (length l.r ≡ requesters) × ((k : ℕ) → k < l.p → get_or l.r k 0 ≡ reached_of l.work l.t k)
+
+abbrev pub decreases-loop-p : goal.decreases-loop-p
+decreases-loop-p l = requesters - l.p

@@ -1,0 +1,8 @@
+-- `sending::echo` meets its contract: a vote for each pair kept, to every other server.
+use borrow.Author.Rules.{rules}
+use Rattle.sending.proofs.SendLaws.{echo_sent}
+use Rattle.sending.proofs.echo.Goals as goal
+
+pub returns : goal.returns
+returns c = let a = c.args in
+    echo_sent _ a.from _ c.to_servers-sending.ensures a.kept _ _ c.post_votes.ensures

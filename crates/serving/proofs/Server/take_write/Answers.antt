@@ -1,0 +1,8 @@
+-- `Server::take_write` meets its contract.
+use mathlib.Core.Path.{refl, ◌∙◌}
+use borrow.Author.Tests.{lt-ltb, le-ltb}
+use borrow.Author.Rules.{rules}
+use Rattle.serving.proofs.Server.take_write.Goals as goal
+
+pub returns-then-at-m : goal.returns-then-at-m
+returns-then-at-m c = let w = c.write.ensures in (λ m sets b. w.0 m sets b ∙ rw (lt-ltb _ _ c.if-at-m.true), λ v. w.1 c.args.values.now v (λ h. refl))

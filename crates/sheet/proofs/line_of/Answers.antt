@@ -1,0 +1,23 @@
+-- `line_of` meets its contract: the numbers of the answer, and whether a write is concurrent with its read.
+use mathlib.Core.Path.{◌∙◌}
+use native.Mathlib.Omega.{arith}
+use Rattle.register.specs.Plan.{Plan}
+use Rattle.plan.specs.Packed.{plan_of}
+use Rattle.results.specs.Judge.{read_of}
+use Rattle.page.specs.Page.{is_marked}
+use Rattle.sheet.proofs.Rows.{reader_low, count_low, begun_is, line_is}
+use borrow.Author.Rules.{rules}
+use Rattle.sheet.proofs.line_of.Goals as goal
+
+pub read_line-requires : goal.read_line-requires
+read_line-requires c = let is = c.read-answer.ensures in
+    (omega (arith, reader_low is), omega arith, omega (arith, count_low is))
+
+pub returns : goal.returns
+unfolding is_marked
+returns c = λ s values count A l W d.
+    let answer = c.read-answer in
+    let x = c.args in
+    let P : Plan = plan_of x.width s in
+    let marked = c.has_concurrent.ensures x.width P (read_of P x.i) values W d (begun_is answer.ensures A l) in
+    c.read_line.ensures x.width (omega arith) answer.ensures.value_hi ∙ line_is answer.ensures A l x.delta _ d marked

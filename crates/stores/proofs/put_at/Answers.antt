@@ -1,0 +1,15 @@
+-- `store::put_at` meets its contract. The loop's invariant: with what is carried put before place q the places are what they have to be.
+use mathlib.Core.Path.{◌≡◌, refl, ◌∙◌}
+use Prim.Native.Nat.{◌≤◌, ◌-◌}
+use native.Mathlib.Omega.{arith}
+use lib.ListN.{length, length-set}
+use borrow.Author.Rules.{rules}
+use Rattle.plan.specs.Packed.{store_depth}
+use Rattle.stores.specs.Stores.{put_at}
+use Rattle.stores.proofs.StoreLaws.{carried_on, dropped}
+use Rattle.stores.proofs.put_at.Goals as goal
+
+pub loop-q-preserved : goal.loop-q-preserved
+loop-q-preserved c = let l = c.loop-q in
+    let h = c.loop-q-test.true in
+    (omega (arith, h), length-set l.more l.q l.carried ∙ l.invariant.1, carried_on l.q l.carried l.more (omega (arith, h, l.invariant.1)) ∙ l.invariant.2)

@@ -1,0 +1,16 @@
+-- `store::put_at` meets its contract. The loop's invariant: with what is carried put before place q the places are what they have to be.
+use mathlib.Core.Path.{◌≡◌, refl, ◌∙◌}
+use Prim.Native.Nat.{◌≤◌, ◌-◌}
+use native.Mathlib.Omega.{arith}
+use lib.ListN.{length, length-set}
+use borrow.Author.Rules.{rules}
+use Rattle.plan.specs.Packed.{store_depth}
+use Rattle.stores.specs.Stores.{put_at}
+use Rattle.stores.proofs.StoreLaws.{carried_on, dropped}
+use Rattle.stores.proofs.put_at.Given as goal
+
+abbrev pub invariant-loop-q : goal.invariant-loop-q
+invariant-loop-q l = (l.q ≤ store_depth) × (length l.more ≡ store_depth) × (put_at l.q l.carried l.more ≡ put_at l.at l.initial.carried l.initial.more)
+
+abbrev pub decreases-loop-q : goal.decreases-loop-q
+decreases-loop-q l = store_depth - l.q
