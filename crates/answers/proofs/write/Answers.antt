@@ -14,11 +14,11 @@ use Rattle.answers.proofs.write.Goals.{After-blank}
 use Rattle.answers.proofs.write.Goals as goal
 
 -- the bytes that are lent, with the answer's own zero, are as many
-sized : (c : After-blank) → length c.blank.new.0 ≡ length c.args.out.now
+sized : (c : After-blank) → length c.blank.new.bytes ≡ length c.args.out.now
 sized c = blanked_length _ _ _ (blank-requires c c.lifetimes) c.blank.ensures
 
-rest : (c : After-blank) → drop (answer_size c.args.width) c.blank.new.0 ≡ drop (answer_size c.args.width) c.args.out.now
-rest c = blanked_rest (answer_size c.args.width) c.args.out.now c.blank.new.0 (rw c.size.ensures at c.blank.ensures)
+rest : (c : After-blank) → drop (answer_size c.args.width) c.blank.new.bytes ≡ drop (answer_size c.args.width) c.args.out.now
+rest c = blanked_rest (answer_size c.args.width) c.args.out.now c.blank.new.bytes (rw c.size.ensures at c.blank.ensures)
 
 pub blank-requires : goal.blank-requires
 blank-requires c = rw c.size.ensures c.requires.0

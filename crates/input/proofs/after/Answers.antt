@@ -30,6 +30,12 @@ room c =
 pub returns-then-got-lt0 : goal.returns-then-got-lt0
 returns-then-got-lt0 c = failed (same (goal.at.returns-then-got-lt0 c).Start) _ c.if-got-lt0.true
 
+pub overflow_cast-more : goal.overflow_cast-more
+overflow_cast-more c = (
+  subst (λ (z : ℤ). T (non_neg z)) (sym (same (goal.at.overflow_cast-more c).Start ∙ is (goal.at.overflow_cast-more c).Else-got-lt0)) tt,
+  record { fits = omega (arith, room (goal.at.overflow_cast-more c).Else-got-lt0, c.ranges.room.fits) },
+)
+
 pub returns-then-more-eq0 : goal.returns-then-more-eq0
 returns-then-more-eq0 c = ended c.args.got _ (is (goal.at.returns-then-more-eq0 c).Else-got-lt0) _ c.if-more-eq0.true
 

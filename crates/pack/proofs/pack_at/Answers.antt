@@ -86,7 +86,7 @@ full4 c =
     record { placements = f.placements; operations = f.operations; forgeries = f.forgeries; delays = f.delays }
 
 -- the first bytes of the array are the packed plan
-plan_is : (c : After-bytes-size) → take c.bytes-size.result c.write.new.0 ≡ packed_plan c.of-h.result.width (((((let a = c.args in
+plan_is : (c : After-bytes-size) → take c.bytes-size.result c.write.new.page ≡ packed_plan c.of-h.result.width (((((let a = c.args in
     lists_from a.header.now a.placements.now a.operations.now a.forgeries.now a.delays.now)))))
 plan_is c =
     let same2 : ((shape c.of-h.result) ≡ listed (((let a = c.args in lists_from a.header.now a.placements.now a.operations.now a.forgeries.now a.delays.now)))) × (c.of-h.result.width ≡ c.args.width) = c.of-h.ensures in
@@ -101,7 +101,7 @@ plan_is c =
     let narrow4 : c.of-h.result.width ≤ most_width = narrow2 in
     let wrote = c.write.ensures in
     ready.plan_own c.of-h.result.width (narrow4) (((((let a = c.args in
-    lists_from a.header.now a.placements.now a.operations.now a.forgeries.now a.delays.now))))) ((((shape c.of-h.result)))) (listed4) c.write.new.0 c.bytes-size.result c.bytes-size.ensures wrote.1 wrote.0
+    lists_from a.header.now a.placements.now a.operations.now a.forgeries.now a.delays.now))))) ((((shape c.of-h.result)))) (listed4) c.write.new.page c.bytes-size.result c.bytes-size.ensures wrote.1 wrote.0
 
 pub returns-then-not-is_header : goal.returns-then-not-is_header
 unfolding pack_of pack_tests into_buffer part_tests lengths_implied
@@ -145,7 +145,7 @@ slice_bounds-own-end c = let few = implied_few c.of-h.result.width ((((shape c.o
 
 pub slice_bounds-finish-end : goal.slice_bounds-finish-end
 slice_bounds-finish-end c = let few = implied_few c.of-h.result.width ((((shape c.of-h.result)))) (listed4 (goal.at.slice_bounds-finish-end c).Else-not-are_implied).ranged (narrow4 (goal.at.slice_bounds-finish-end c).Else-not-are_implied) in
-    sym (length-take-le c.bytes-size.result c.write.new.0 (omega (arith, few, c.bytes-size.ensures, c.own-2-1.given)))
+    sym (length-take-le c.bytes-size.result c.write.new.page (omega (arith, few, c.bytes-size.ensures, c.own-2-1.given)))
 
 pub finish-requires : goal.finish-requires
 finish-requires c = let e = plan_is (goal.at.finish-requires c).After-bytes-size in

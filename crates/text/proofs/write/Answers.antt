@@ -24,7 +24,7 @@ ends : {l o : List ℕ} {r : ℕ} (s : List ℕ) → Stored l 0 (text_of program
 ends s S = (stored_over S, omega (arith, S.next-is, text_length s))
 
 -- the array of answers has room for the most reads, and the workspace has its bytes
-by-play : (c : After-of_outcome-code) → Decided c.args.plan.now c.of_outcome-code.result c.play.new.1.1.0
+by-play : (c : After-of_outcome-code) → Decided c.args.plan.now c.of_outcome-code.result c.play.new.work.1.0
 by-play c = decided _ _ _ (lit≤ tt) (le_of_eq (sym (length-replicate {A = ℕ} 60000 0))) _ c.play.ensures.0 _ c.of_outcome-code.ensures
 
 -- the bytes of an answer in the program's form, and those of all answers
@@ -33,7 +33,7 @@ sized c = c.size.ensures ∙ ap answer_size c.width.ensures.0
 
 few : (c : After-size) → c.size.result * c.of_outcome-code.result ≤ answer_size program_width * most_reads
 few c =
-    let by-play : Decided c.args.plan.now c.of_outcome-code.result c.play.new.1.1.0 = decided _ _ _ (lit≤ tt) (le_of_eq (sym (length-replicate {A = ℕ} 60000 0))) _ c.play.ensures.0 _ c.of_outcome-code.ensures in
+    let by-play : Decided c.args.plan.now c.of_outcome-code.result c.play.new.work.1.0 = decided _ _ _ (lit≤ tt) (le_of_eq (sym (length-replicate {A = ℕ} 60000 0))) _ c.play.ensures.0 _ c.of_outcome-code.ensures in
     let sized : c.size.result ≡ answer_size program_width = c.size.ensures ∙ ap answer_size c.width.ensures.0 in
     rw (sized) (mul-le-mul_left (answer_size program_width) ((by-play).few c.if-code-ge-REFUSED.false))
 

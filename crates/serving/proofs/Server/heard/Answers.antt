@@ -9,7 +9,7 @@ pub returns-then-is_quorate : goal.returns-then-is_quorate
 returns-then-is_quorate c = let a = c.args in
     let w = c.write.ensures in
     record {
-      table = joined_both a.sets.now c.join.new.0 c.join-2.new.0 a.at a.got c.join.ensures c.join-2.ensures;
+      table = joined_both a.sets.now c.join.new.sets c.join-2.new.sets a.at a.got c.join.ensures c.join-2.ensures;
       status = written_status a.p.number a.self c.write.result w.0;
       pending = written_pending a.p.number a.self c.write.result w.0;
       kept = rw (sym c.is_quorate.ensures ∙ c.if-is_quorate.true) (written_keys a.p.number a.self c.write.result w.0);
@@ -19,7 +19,7 @@ returns-then-is_quorate c = let a = c.args in
 pub returns : goal.returns
 returns c = let a = c.args in
     record {
-      table = joined_both a.sets.now c.join.new.0 c.join-2.new.0 a.at a.got c.join.ensures c.join-2.ensures;
+      table = joined_both a.sets.now c.join.new.sets c.join-2.new.sets a.at a.got c.join.ensures c.join-2.ensures;
       status = refl;
       pending = refl;
       kept = rw (sym c.is_quorate.ensures ∙ c.if-is_quorate.false);

@@ -20,3 +20,10 @@ returns-then-is_faulty c = let w = c.wipe.ensures in
       stage = λ m h. rw (c.if-faulty.false, sym c.is_faulty.ensures ∙ c.if-is_faulty.true) (w.blank m h);
       valued = λ values v. w.valued values;
     }
+
+pub returns : goal.returns
+returns c = record {
+  others = others_none _ _;
+  stage = λ m h. rw (c.if-faulty.false, sym c.is_faulty.ensures ∙ c.if-is_faulty.false);
+  valued = λ values v. v;
+}

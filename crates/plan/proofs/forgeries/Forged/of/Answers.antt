@@ -8,3 +8,20 @@ use Rattle.plan.proofs.forgeries.Forged.of.Goals as goal
 
 pub overflow_cast-result-4 : goal.overflow_cast-result-4
 overflow_cast-result-4 c = omega (arith, narrow_value _ _ (omega arith) c.part-4.ensures.1)
+
+pub returns : goal.returns
+returns c = record {
+  is =
+      rw (
+        c.part-5.ensures.0,
+        c.part-4.ensures.0,
+        c.part-3.ensures.0,
+        c.part-2.ensures.0,
+        c.part.ensures.0,
+      )
+      (sym (forgery_parts _ _));
+  tick_hi = search rules;
+  sender_hi = search rules;
+  receiver_hi = search rules;
+  value_hi = c.part-4.ensures.1;
+}

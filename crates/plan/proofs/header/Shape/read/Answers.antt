@@ -22,8 +22,8 @@ header-parts : (w : ℕ) (s : List ℕ) → let front = field_of s 0 28 in let b
   operations = back / 2 ^ 12 % 2 ^ 8;
   forgeries = back / 2 ^ 1 % 2 ^ 11;
   zero_bit = back / 2 ^ 0 % 2 ^ 1;
-unfolding header_of
 }
+unfolding header_of
 header-parts w s =
     let operations : field_of s (28 + w) 8 ≡ field_of s (28 + w) 20 / 2 ^ 12 % 2 ^ 8 = ap (λ (at : ℕ). field_of s at 8) (omega arith) ∙ field_inner s (28 + w) 0 8 12 in
     let zero_bit : field_of s (28 + w + 8 + 11) 1 ≡ field_of s (28 + w) 20 / 2 ^ 0 % 2 ^ 1 = ap (λ (at : ℕ). field_of s at 1) (omega arith) ∙ field_inner s (28 + w) 19 1 0 in
@@ -43,22 +43,21 @@ pub overflow_cast-result-7 : goal.overflow_cast-result-7
 overflow_cast-result-7 c = omega (arith, narrow_value _ _ (omega arith) c.field.ensures.1)
 
 pub returns : goal.returns
-returns c = let a = c.args in
-    (
-      rw (
-        c.part-9.ensures.0,
-        c.part-8.ensures.0,
-        c.part-7.ensures.0,
-        c.field.ensures.0,
-        c.part-6.ensures.0,
-        c.part-5.ensures.0,
-        c.part-4.ensures.0,
-        c.part-3.ensures.0,
-        c.part-2.ensures.0,
-        c.part.ensures.0,
-        c.field-back.ensures.0,
-        c.field-front.ensures.0,
-      )
-          (sym (header-parts a.width a.plan.now)),
-      refl,
-    )
+returns c = let a = c.args in (
+  rw (
+    c.part-9.ensures.0,
+    c.part-8.ensures.0,
+    c.part-7.ensures.0,
+    c.field.ensures.0,
+    c.part-6.ensures.0,
+    c.part-5.ensures.0,
+    c.part-4.ensures.0,
+    c.part-3.ensures.0,
+    c.part-2.ensures.0,
+    c.part.ensures.0,
+    c.field-back.ensures.0,
+    c.field-front.ensures.0,
+  )
+      (sym (header-parts a.width a.plan.now)),
+  refl,
+)
