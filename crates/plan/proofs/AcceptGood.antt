@@ -124,7 +124,7 @@ module _ (w : ℕ) (s : List ℕ) (A : plan-specs.Playable.Playable w s) where
     delay_lo = λ t i j. (delay_range t i j).0;
     delay_hi = λ t i j. (delay_range t i j).1;
     forger = plan-laws.AcceptForgeries.forger_placed w s A;
-    forger_below = λ g m. plan-laws.AcceptForgeries.Placed-below w s (g.at / (header_of w s).period) g.from (plan-laws.AcceptForgeries.forger_placed w s A g m);
+    forger_below = λ g m. plan-laws.AcceptForgeries.placed_below w s (g.at / (header_of w s).period) g.from (plan-laws.AcceptForgeries.forger_placed w s A g m);
     rising = rising;
     initial_least = initial_least;
     apart = plan-laws.AcceptReads.reads_apart w s A;

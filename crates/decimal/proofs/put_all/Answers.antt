@@ -14,7 +14,7 @@ loop-i-init c = (search rules, refl, stored_none _ _ (omega arith))
 
 pub loop-i-preserved : goal.loop-i-preserved
 loop-i-preserved c = let p = c.put_byte in
-    (search rules, p.auto.0 ∙ c.loop-i.invariant.1, stored_more _ c.loop-i-test.true c.loop-i.invariant.2 p.ensures)
+    (search rules, p.auto.out ∙ c.loop-i.invariant.1, stored_more _ c.loop-i-test.true c.loop-i.invariant.2 p.ensures)
 
 pub returns : goal.returns
 returns c = rw (take_all _ _ c.loop-i-test.false) at c.loop-i.invariant.2
