@@ -1,6 +1,6 @@
 -- Laws of sets kept as the bits of a number: union, intersection, shifts, the set of one number, and the size of a set. They stand on the library's laws of
 -- binary digits.
-use mathlib.Core.Path.{◌≡◌, refl, sym, ap, ◌∙◌}
+use mathlib.Core.Path.{◌≡◌, refl, sym, ap, subst, ◌∙◌}
 use mathlib.Core.Bool.{Bool, false, ◌&&◌, ◌||◌}
 use Prim.Native.Nat.{ℕ, zero, suc, ◌+◌, ◌/◌, ◌%◌, ◌^◌, ◌≤◌, ◌<◌}
 use native.Mathlib.Nat.{zero-add, add-zero, suc-add, mul_comm, pow-suc, div-div-eq-div-mul}
@@ -76,5 +76,5 @@ unfolding count
 count_cut p n zero h = let e : n ≡ 0 = omega arith in rw e
 count_cut p n (suc k) h = elim (dec_le n k) [
   | yes l ↦ rw (le-ltb k n l) (omega (arith, count_cut p n k l))
-  | no l ↦ (let e : n ≡ suc k = omega arith in rw e (count_cong (λ i. ltb i (suc k) && p i) p (suc k) (λ i w. rw (lt-ltb i (suc k) w))))
+  | no l ↦ (let e : n ≡ suc k = omega arith in subst (λ (m : ℕ). count (λ i. ltb i m && p i) (suc k) ≡ count p m) (sym e) (count_cong (λ i. ltb i (suc k) && p i) p (suc k) (λ i w. rw (lt-ltb i (suc k) w))))
 ]

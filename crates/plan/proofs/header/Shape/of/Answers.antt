@@ -54,7 +54,7 @@ pub bounds-x-5 : goal.bounds-x-5
 bounds-x-5 c = search (rules, inside)
 
 pub overflow_cast-result-6 : goal.overflow_cast-result-6
-overflow_cast-result-6 c = search (rules, fitting)
+overflow_cast-result-6 c = search (rules, fitting _ _ c.requires 5 tt 8 tt)
 
 pub bounds-x-6 : goal.bounds-x-6
 bounds-x-6 c = search (rules, inside)
@@ -63,16 +63,16 @@ pub bounds-x-7 : goal.bounds-x-7
 bounds-x-7 c = search (rules, inside)
 
 pub overflow_cast-result-7 : goal.overflow_cast-result-7
-overflow_cast-result-7 c = search (rules, fitting)
+overflow_cast-result-7 c = search (rules, fitting _ _ c.requires 7 tt 8 tt)
 
 pub bounds-x-8 : goal.bounds-x-8
 bounds-x-8 c = search (rules, inside)
 
 pub overflow_cast-result-8 : goal.overflow_cast-result-8
-overflow_cast-result-8 c = search (rules, fitting)
+overflow_cast-result-8 c = search (rules, fitting _ _ c.requires 8 tt 16 tt)
 
 pub bounds-x-9 : goal.bounds-x-9
 bounds-x-9 c = search (rules, inside)
 
 pub overflow_cast-result-9 : goal.overflow_cast-result-9
-overflow_cast-result-9 c = search (rules, fitting)
+overflow_cast-result-9 c = search (rules, fitting _ _ c.requires 9 tt 8 tt)
