@@ -10,7 +10,6 @@ use Rattle.records.specs.Records.{no_wider}
 use Rattle.plan.specs.Form.{most_width}
 use Rattle.answers.specs.Answers.{answer_bits, answer_size}
 use Rattle.answers.proofs.Lengths.{answer_few, answer_inside, bits_before, bits_inside}
-use borrow.Author.Rules.{rules}
 use Rattle.answers.proofs.field.Goals as goal
 
 small : (w size : ℕ) → size ≡ answer_size w → w ≤ most_width → size ≤ 6

@@ -10,7 +10,6 @@ use Rattle.plan.proofs.Sizes.{narrow_value}
 use Rattle.answers.specs.Answers.{answer_bits, answer_size, answer_at, begin_in, reader_in, pair_in, count_in, zero_in}
 use Rattle.answers.proofs.Lengths.{answer_few, answer_inside, bits_before, bits_inside}
 use Rattle.answers.proofs.Taken.{answer_taken}
-use borrow.Author.Rules.{rules}
 use Rattle.answers.proofs.read.Goals as goal
 
 pub overflow_mul-size-2 : goal.overflow_mul-size-2

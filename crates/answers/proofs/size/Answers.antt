@@ -1,7 +1,6 @@
 -- `size` meets its contract.
 use mathlib.Core.Path.{◌∙◌, ap}
 use Rattle.bits.specs.Fill.{bytes_for}
-use borrow.Author.Rules.{rules}
 use Rattle.answers.proofs.size.Goals as goal
 
 pub returns : goal.returns

@@ -15,7 +15,7 @@ use Rattle.answers.proofs.write.Goals as goal
 
 -- the bytes that are lent, with the answer's own zero, are as many
 sized : (c : After-blank) → length c.blank.new.bytes ≡ length c.args.out.now
-sized c = blanked_length _ _ _ (blank-requires c c.lifetimes) c.blank.ensures
+sized c = blanked_length _ _ _ (rw c.size.ensures c.requires.0) c.blank.ensures
 
 rest : (c : After-blank) → drop (answer_size c.args.width) c.blank.new.bytes ≡ drop (answer_size c.args.width) c.args.out.now
 rest c = blanked_rest (answer_size c.args.width) c.args.out.now c.blank.new.bytes (rw c.size.ensures at c.blank.ensures)
@@ -39,4 +39,4 @@ returns c = let a = c.args in
     let written = rw c.widths-widths.ensures at c.put_fields.ensures in
     let filled = rw c.fill.ensures at c.put.ensures in
     stored a.width a.begun a.reader a.value a.number a.count (omega arith) _ _ _ _ _ (rest (goal.at.returns c).After-blank) (omega arith) written filled
-    (λ i. omega (arith, c.type_inv.out i)) (λ i. omega (arith, c.type_inv.out i)) (omega (arith, sized (goal.at.returns c).After-blank, c.requires.0))
+    (λ i. search rules) (λ i. omega (arith, c.type_inv.out i)) (omega (arith, sized (goal.at.returns c).After-blank, c.requires.0))
