@@ -101,6 +101,6 @@ module _ (w : ℕ) (s : List ℕ) (A : plan-laws.Accept.Accepted w s) where
         let a : List ℕ = answers_of w s in
         let n : ℕ = answer_size w * m in
         let long : eqb (length a) n ≡ true = register-laws.Logic.T_eq (eqb (length a) n) (rw (answers_of_length w s) (eqb_refl n)) in
-        let fit : all_up_to m (answer_fits w s a) ≡ true = register-laws.Logic.T_eq (all_up_to m (answer_fits w s a)) (plan-laws.Tests.All-from m (answer_fits w s a) all_fit) in
-        let yes : all_up_to m (answer_allowed w s a) ≡ true = register-laws.Logic.T_eq (all_up_to m (answer_allowed w s a)) (plan-laws.Tests.All-from m (answer_allowed w s a) all-allowed) in
+        let fit : all_up_to m (answer_fits w s a) ≡ true = register-laws.Logic.T_eq (all_up_to m (answer_fits w s a)) (plan-laws.Tests.all_from m (answer_fits w s a) all_fit) in
+        let yes : all_up_to m (answer_allowed w s a) ≡ true = register-laws.Logic.T_eq (all_up_to m (answer_allowed w s a)) (plan-laws.Tests.all_from m (answer_allowed w s a) all-allowed) in
         rw (plan-laws.Accept.accepts w s A, long, fit, yes)

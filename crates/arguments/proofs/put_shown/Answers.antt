@@ -19,7 +19,7 @@ returns-then-i-ge-NAME_BYTES c = shown_cut c.args.name.now (omega arith) c.loop-
 
 pub loop-i-preserved : goal.loop-i-preserved
 loop-i-preserved c = let p = c.put_byte in
-    (search rules, search rules, p.auto.0 ∙ c.loop-i.invariant.2, shown_more c.args.name.now c.loop-i-test.true c.loop-i.invariant.3 c.shown.ensures p.ensures)
+    (search rules, search rules, p.auto.out ∙ c.loop-i.invariant.2, shown_more c.args.name.now c.loop-i-test.true c.loop-i.invariant.3 c.shown.ensures p.ensures)
 
 pub returns : goal.returns
 returns c = shown_all c.args.name.now c.loop-i-test.false c.loop-i.invariant.1 c.loop-i.invariant.3
