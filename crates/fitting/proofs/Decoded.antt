@@ -55,4 +55,4 @@ module _ (w : ℕ) (s : List ℕ) (m : ℕ) (e : check_of w s ≡ result m) wher
 
     pub fits_same : (a : List ℕ) → all_up_to m (λ i. fits_read w a i (get_or begun i 0) (get_or reader i 0)) ≡ all_up_to m (answer_fits w s a)
     unfolding fits_read answer_fits
-    fits_same a = plan-laws.Laws.All-same _ (answer_fits w s a) m (λ i l. rw (read_is i l))
+    fits_same a = plan-laws.Laws.all_same _ (answer_fits w s a) m (λ i l. rw (read_is i l))

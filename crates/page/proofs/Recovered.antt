@@ -4,7 +4,7 @@ use mathlib.Core.Path.{◌≡◌, refl, sym, ap, ◌∙◌}
 use mathlib.Core.Bool.{Bool, true, false}
 use mathlib.Core.List.{List, [], ◌∷◌, map}
 use Prim.Native.Nat.{ℕ, zero, suc, ◌+◌, ◌*◌, ◌-◌, ◌/◌, ◌≤◌, ◌<◌}
-use native.Mathlib.{Nat.mul-zero, Nat.mul_suc, Nat.mul_assoc, Nat.le_refl, Nat.le_of_eq, Decide.dec_lt, Omega.arith}
+use native.Mathlib.{Nat.mul-zero, Nat.mul-suc, Nat.mul_assoc, Nat.le_refl, Nat.le_of_eq, Decide.dec_lt, Omega.arith}
 use lib.Dec.{lit<, lit≤}
 use lib.ListN.{length, take, drop, length-drop, take-append-drop, get_or-eq_default}
 use lib.Seq.{take_at, drop_at, take-add, take_all, length-take-le, get_or-take, get_or-drop}
@@ -99,7 +99,7 @@ module _ (w : ℕ) (s a : List ℕ) (narrow : w ≤ most_width) (whole : fill 8 
   unfolding answers_from
   first-answers zero l = rw (mul-zero (answer_size w))
   first-answers (suc i) l =
-      rw (mul_suc (answer_size w) i, take-add (answer_size w * i) (answer_size w) a, page_line w s a narrow i l, answer_back i l, first-answers i (omega arith))
+      rw (mul-suc (answer_size w) i, take-add (answer_size w * i) (answer_size w) a, page_line w s a narrow i l, answer_back i l, first-answers i (omega arith))
 
   pub answers_back : answers_from w (page_of w s a) (length (plan_of w s).reads) ≡ a
   answers_back = first-answers (length (plan_of w s).reads) (le_refl (length (plan_of w s).reads)) ∙ take_all _ a (le_of_eq long)

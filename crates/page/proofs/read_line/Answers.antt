@@ -13,10 +13,6 @@ use Rattle.page.proofs.Rows.{RowFits, row_is}
 use Rattle.page.proofs.read_line.Goals.{Start}
 use Rattle.page.proofs.read_line.Goals as goal
 
-fits : (s : tie.Start) (w : ℕ) → w ≤ most_width → s.args.x.value < 2 ^ w
-    → let x = s.args.x in RowFits w x.begin x.reader x.end x.value x.number x.count
-fits s w narrow h = record { narrow = narrow; begin_hi = omega arith; reader_hi = omega arith; end_hi = omega arith; value_hi = h; number_hi = omega arith; count_hi = omega arith }
-
 -- the digits of each number, by its bytes or by what is asked
 begin-fits : (c : Start) → length (decimal_of c.args.x.begin) ≤ 3
 begin-fits c = digits_fit 3 c.args.x.begin (omega arith) (omega arith)
@@ -35,6 +31,10 @@ number_fits c = digits_fit 3 c.args.x.number (omega arith) (omega arith)
 
 count_fits : (c : Start) → length (decimal_of c.args.x.count) ≤ 2
 count_fits c = digits_fit 2 c.args.x.count (omega arith) (omega arith)
+
+fits : (s : Start) (w : ℕ) → w ≤ most_width → s.args.x.value < 2 ^ w
+    → let x = s.args.x in RowFits w x.begin x.reader x.end x.value x.number x.count
+fits s w narrow h = record { narrow = narrow; begin_hi = omega arith; reader_hi = omega arith; end_hi = omega arith; value_hi = h; number_hi = omega arith; count_hi = omega arith }
 
 pub put_right-requires : goal.put_right-requires
 put_right-requires c = omega (arith, begin-fits (goal.at.put_right-requires c).Start)
@@ -63,4 +63,4 @@ returns c = λ w narrow value_hi.
     let number = one_more 12 26 value (omega (arith, number_fits (goal.at.returns c).Start)) refl c.put_right-5.ensures in
     let count = one_more 12 14 number (omega (arith, count_fits (goal.at.returns c).Start)) refl c.put_right-6.ensures in
     let marked = one_more 14 0 count (lit≤ tt) c.put_byte.ensures.next_is c.put_byte.ensures in
-    all_filled marked ∙ rw c.mark.ensures (row_is (fits c w narrow value_hi) c.args.x.marked)
+    all_filled marked ∙ rw c.mark.ensures (row_is (fits (goal.at.returns c).Start w narrow value_hi) c.args.x.marked)
