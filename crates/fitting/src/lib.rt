@@ -7,7 +7,7 @@ ghost use Rattle.std.specs.Prelude.{◌≡◌, ◌*◌, ◌+◌, ◌≤◌, ◌<
 ghost use Rattle.register.specs.Lists.{all_up_to};
 ghost use Rattle.answers.specs.Answers.{answer_size};
 ghost use Rattle.plan.specs.Form.{most_width};
-ghost use Rattle.plan.specs.Check.{result, check_of};
+ghost use Rattle.plan.specs.Check.{result as returned, check_of};
 ghost use Rattle.plan.specs.Numbered.{numbered};
 ghost use Rattle.fitting.specs.Answered.{answered_after, answered_in};
 ghost use Rattle.fitting.specs.Fitting.{fits_read};
@@ -19,7 +19,7 @@ use tables::operations::{TABLE_READS, reads_of};
 // Are begin, reader and zero bit of answer i those of its read?
 fn is_fitting(answers: &[u8], width: u8, i: usize, begun: u8, reader: u8) -> bool
     requires { (answer_size width * i + answer_size width ≤ length answers.now) × (i < 256) × (width ≤ most_width) }
-    ensures* { λ r. ⌜ r ≡ fits_read width answers.now i begun reader ⌝ }
+    ensures { result ≡ fits_read width answers.now i begun reader }
 {
     let answer = answers::read(answers, width, i);
     if answer.begin != begun {
@@ -40,7 +40,7 @@ fn all_fit<'a>(
     count: usize,
 ) -> bool
     requires { (count ≤ 255) × (width ≤ most_width) × (answer_size width * count ≤ length answers.now) }
-    ensures* { λ r. ⌜ r ≡ all_up_to count (λ i. fits_read width answers.now i (get_or begun.now i 0) (get_or reader.now i 0)) ⌝ }
+    ensures { result ≡ all_up_to count (λ i. fits_read width answers.now i (get_or begun.now i 0) (get_or reader.now i 0)) }
 {
     let mut i: usize = 0;
     while i < count {
@@ -54,8 +54,8 @@ fn all_fit<'a>(
 
 // The answers to an accepted plan with so many reads.
 fn answered_at(plan: &[u8], width: u8, answers: &[u8], count: usize) -> Outcome
-    requires { (check_of width plan.now ≡ result count) × (width ≤ most_width) }
-    ensures* { λ r. ⌜ numbered r ≡ answered_after width plan.now answers.now (result count) ⌝ }
+    requires { (check_of width plan.now ≡ returned count) × (width ≤ most_width) }
+    ensures { numbered result ≡ answered_after width plan.now answers.now (returned count) }
 {
     if answers.len() != answers::size(width) * count {
         return Outcome::Refused(Refusal::WrongLength);
@@ -72,7 +72,7 @@ fn answered_at(plan: &[u8], width: u8, answers: &[u8], count: usize) -> Outcome
 
 // Tests answers against the reads of a plan: Check's refusals, 12, 13, else the number of reads.
 pub fn answered(form: usize, plan: &[u8], answers: &[u8]) -> Outcome
-    ensures* { λ r. ⌜ numbered r ≡ answered_in form plan.now answers.now ⌝ }
+    ensures { numbered result ≡ answered_in form plan.now answers.now }
 {
     let checked = checks::check(form, plan);
     match checked {

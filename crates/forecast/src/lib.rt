@@ -5,7 +5,7 @@ mod receipts;
 
 ghost use Rattle.std.specs.Prelude.{◌≡◌, ◌≤◌};
 ghost use Rattle.plan.specs.Form.{most_width};
-ghost use Rattle.plan.specs.Check.{result, check_of};
+ghost use Rattle.plan.specs.Check.{result as returned, check_of};
 ghost use Rattle.forecast.specs.Forecast.{counts_of, forecast_in};
 ghost use Rattle.forecast.specs.Numbered.{counts, foreseen};
 
@@ -36,8 +36,8 @@ pub enum Foreseen {
 
 // Those of an accepted plan with so many reads.
 fn counts_of(plan: &[u8], width: u8, reads: usize) -> Counts
-    requires { (check_of width plan.now ≡ result reads) × (width ≤ most_width) }
-    ensures* { λ r. ⌜ counts r ≡ counts_of width plan.now ⌝ }
+    requires { (check_of width plan.now ≡ returned reads) × (width ≤ most_width) }
+    ensures { counts result ≡ counts_of width plan.now }
 {
     let h = Shape::read(plan, width);
     let n = h.n as u32;
@@ -54,7 +54,7 @@ fn counts_of(plan: &[u8], width: u8, reads: usize) -> Counts
 
 // Says what playing a plan will take: Check's refusals, else six numbers.
 pub fn forecast(form: usize, plan: &[u8]) -> Foreseen
-    ensures* { λ r. ⌜ foreseen r ≡ forecast_in form plan.now ⌝ }
+    ensures { foreseen result ≡ forecast_in form plan.now }
 {
     let checked = checks::check(form, plan);
     match checked {

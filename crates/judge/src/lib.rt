@@ -4,7 +4,7 @@ ghost use Rattle.std.specs.Prelude.{◌≡◌, ℕ, ◌*◌, ◌≤◌, ◌<◌,
 ghost use Rattle.register.specs.{Lists.all_up_to, Plan.Plan, Regular.allowed};
 ghost use Rattle.answers.specs.Answers.{answer_size, begin_in, pair_in};
 ghost use Rattle.plan.specs.Form.{most_width};
-ghost use Rattle.plan.specs.Check.{result};
+ghost use Rattle.plan.specs.Check.{result as returned};
 ghost use Rattle.results.specs.{Judge.read_of, Judge.answer_allowed, Judge.judge_in, Numbered.judged};
 ghost use Rattle.regular.specs.Tables.{Tables};
 ghost use Rattle.fitting.specs.Answered.{Answered};
@@ -26,9 +26,9 @@ fn all_allowed(
     count: usize,
 ) -> bool
     requires { (1 ≤ m) × (m ≤ 65) × (count ≤ 255) × (width ≤ most_width) × (answer_size width * count ≤ length answers.now) }
-    ensures* { λ r. ⌜ ((P : Plan) → Tables width P values.now begun.now m → P.delta ≡ delta
+    ensures { ((P : Plan) → Tables width P values.now begun.now m → P.delta ≡ delta
         → ((i : ℕ) → i < count → (read_of P i).begun ≡ begin_in width answers.now i)
-        → r ≡ all_up_to count (λ i. allowed P (read_of P i) (pair_in width answers.now i))) ⌝ }
+        → result ≡ all_up_to count (λ i. allowed P (read_of P i) (pair_in width answers.now i))) }
 {
     let mut i: usize = 0;
     while i < count {
@@ -52,7 +52,7 @@ fn all_allowed(
 // The verdict on answers that are to the reads of an accepted plan.
 fn judge_answers(plan: &[u8], width: u8, answers: &[u8], count: usize) -> Judged
     requires { Answered width plan.now answers.now count × (width ≤ most_width) }
-    ensures* { λ r. ⌜ judged r ≡ result (all_up_to count (answer_allowed width plan.now answers.now)) ⌝ }
+    ensures { judged result ≡ returned (all_up_to count (answer_allowed width plan.now answers.now)) }
 {
     let times = times::of_plan(plan, width);
     let writes = times.writes;
@@ -74,7 +74,7 @@ fn judge_answers(plan: &[u8], width: u8, answers: &[u8], count: usize) -> Judged
 
 // Judges answers against a plan: Check's refusals, 12, 13, then yes or no.
 pub fn judge(form: usize, plan: &[u8], answers: &[u8]) -> Judged
-    ensures* { λ r. ⌜ judged r ≡ judge_in form plan.now answers.now ⌝ }
+    ensures { judged result ≡ judge_in form plan.now answers.now }
 {
     let checked = fitting::answered(form, plan, answers);
     match checked {

@@ -5,7 +5,7 @@ ghost use Rattle.decimal.specs.Decimal.{most_digits};
 ghost use Rattle.decimal.specs.Stored.{Stored};
 ghost use Rattle.decimal.specs.Aligned.{line_feed};
 ghost use Rattle.plan.specs.Packed.{plan_of};
-ghost use Rattle.plan.specs.Check.{result, check_of};
+ghost use Rattle.plan.specs.Check.{result as returned, check_of};
 ghost use Rattle.answers.specs.Answers.{answers_of};
 ghost use Rattle.lines.specs.Text.{program_width, number_then, lines_for};
 ghost use Rattle.lines.specs.Lines.{line_for};
@@ -20,8 +20,8 @@ pub const FORM: usize = form::ONE;
 // A number and the byte behind it.
 fn put_number(out: &mut [u8], at: usize, n: u64, after: u8) -> usize
     requires { at < 2 ^ 60 }
-    ensures* fact { λ r. ⌜ Stored out.old at (number_then after n) out.new r ⌝ }
-    ensures* r_bound { λ r. ⌜ r ≤ at + (most_digits + 1) ⌝ }
+    ensures fact { Stored out.old at (number_then after n) out.new result }
+    ensures r_bound { result ≤ at + (most_digits + 1) }
 {
     let end = decimal::put(out, at, n);
     decimal::put_byte(out, end, after)
@@ -30,8 +30,8 @@ fn put_number(out: &mut [u8], at: usize, n: u64, after: u8) -> usize
 // The first line: a word and a number.
 pub fn put_first(out: &mut [u8], word: &[u8], n: u64) -> usize
     requires { length word.now < 2 ^ 8 }
-    ensures* fact { λ r. ⌜ Stored out.old 0 (word.now ++ number_then line_feed n) out.new r ⌝ }
-    ensures* r_in_bounds { λ r. ⌜ r ≤ length word.now + (most_digits + 1) ⌝ }
+    ensures fact { Stored out.old 0 (word.now ++ number_then line_feed n) out.new result }
+    ensures r_in_bounds { result ≤ length word.now + (most_digits + 1) }
 {
     let at = decimal::put_all(out, 0, word);
     put_number(out, at, n, b'\n')
@@ -40,8 +40,8 @@ pub fn put_first(out: &mut [u8], word: &[u8], n: u64) -> usize
 // The line of an answer to a read that lasts `span` ticks: begin, reader, end, value, number, count.
 fn put_line(out: &mut [u8], at: usize, a: Answer, span: u64) -> usize
     requires { (at < 2 ^ 32) × (span < 256) }
-    ensures* fact { λ r. ⌜ Stored out.old at (line_for span a) out.new r ⌝ }
-    ensures* r_bound { λ r. ⌜ r ≤ at + 6 * (most_digits + 1) ⌝ }
+    ensures fact { Stored out.old at (line_for span a) out.new result }
+    ensures r_bound { result ≤ at + 6 * (most_digits + 1) }
 {
     let mut next = put_number(out, at, a.begin as u64, b' ');
     next = put_number(out, next, a.reader as u64, b' ');
@@ -53,8 +53,8 @@ fn put_line(out: &mut [u8], at: usize, a: Answer, span: u64) -> usize
 
 // A line for each answer to an accepted plan.
 pub fn put_lines(out: &mut [u8], start: usize, plan: &[u8], answers: &[u8], count: usize) -> usize
-    requires { (start < 2 ^ 16) × (check_of program_width plan.now ≡ result count) × (answers.now ≡ answers_of program_width plan.now) }
-    ensures* { λ r. ⌜ Stored out.old start (lines_for program_width (plan_of program_width plan.now) (plan_of program_width plan.now).reads) out.new r ⌝ }
+    requires { (start < 2 ^ 16) × (check_of program_width plan.now ≡ returned count) × (answers.now ≡ answers_of program_width plan.now) }
+    ensures { Stored out.old start (lines_for program_width (plan_of program_width plan.now) (plan_of program_width plan.now).reads) out.new result }
 {
     let width = form::width(FORM);
     let shape = Shape::read(plan, width);

@@ -3,7 +3,7 @@
 ghost use mathlib.Core.{Path.◌≡◌, List.List};
 ghost use Rattle.std.specs.Prelude.{ℕ, ◌+◌, ◌*◌, ◌^◌, ◌≤◌, ◌<◌, length};
 ghost use Rattle.decimal.specs.Stored.{Stored};
-ghost use Rattle.plan.specs.{Form.most_width, Packed.plan_of, Check.result, Buffer.into_buffer, Numbered.numbered};
+ghost use Rattle.plan.specs.{Form.most_width, Packed.plan_of, Check.result as returned, Buffer.into_buffer, Numbered.numbered};
 ghost use Rattle.answers.specs.Answers.{answer_size};
 ghost use Rattle.regular.specs.Tables.{Tables};
 ghost use Rattle.fitting.specs.Answered.{Answered};
@@ -86,8 +86,8 @@ fn write(page: &mut [u8], plan: &[u8], width: u8, answers: &[u8], count: usize) 
 // Answers to the reads of an accepted plan.
 fn sheet_at(plan: &[u8], width: u8, answers: &[u8], count: usize, page: &mut [u8]) -> Outcome
     requires { (width ≤ most_width) × Answered width plan.now answers.now count }
-    ensures* { λ r. ⌜ record { outcome = numbered r; out = page.new } ≡ into_buffer (page_of width plan.now answers.now) page.old
-        (sheet_after (page_of width plan.now answers.now) (length page.old) (result count)) ⌝ }
+    ensures { record { outcome = numbered result; out = page.new } ≡ into_buffer (page_of width plan.now answers.now) page.old
+        (sheet_after (page_of width plan.now answers.now) (length page.old) (returned count)) }
 {
     if page.len() < page::LINE_BYTES * (count + OTHER_LINES) {
         return Outcome::Refused(Refusal::PageShort);
