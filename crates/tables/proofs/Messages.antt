@@ -42,7 +42,7 @@ module _ (w : ℕ) (s : List ℕ) (A : plan-specs.Playable.Playable w s) where
 
     pub sender_below : (message_of w s e).from < (header_of w s).n
     sender_below =
-        plan-laws.AcceptForgeries.Placed-below w s ((message_of w s e).at / (header_of w s).period) (message_of w s e).from (plan-laws.AcceptForgeries.forger_placed w s A (message_of w s e) (listed e l))
+        plan-laws.AcceptForgeries.placed_below w s ((message_of w s e).at / (header_of w s).period) (message_of w s e).from (plan-laws.AcceptForgeries.forger_placed w s A (message_of w s e) (listed e l))
 
     -- it goes to another server or to a reader
     pub on_link : ((message_of w s e).to < parties (header_of w s)) × T (plan-specs.Parts.is_link (header_of w s).n (message_of w s e).from (message_of w s e).to)

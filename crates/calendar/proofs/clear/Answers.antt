@@ -1,12 +1,9 @@
 -- `clear` meets its contract. The loop's invariant: the cells from the lowest pair to before j are emptied.
-use borrow.Author.Rules.{rules}
 use native.Mathlib.Omega.{arith}
-use mathlib.Core.Path.{◌≡◌, ◌∙◌, ap}
-use Prim.Native.Nat.{◌-◌, ◌≤◌, max}
-use lib.ListN.{length}
+use mathlib.Core.Path.{◌≡◌}
+use Prim.Native.Nat.{max}
 use Rattle.calendar.specs.Layout.{low_of, high_of}
-use Rattle.calendar.proofs.Laws.{put_length}
-use Rattle.calendar.proofs.Clearing.{EmptiedTo, emptied_none, emptied_more, cleared}
+use Rattle.calendar.proofs.Clearing.{emptied_more, cleared}
 use Rattle.calendar.proofs.clear.Goals as goal
 
 pub cell-requires : goal.cell-requires

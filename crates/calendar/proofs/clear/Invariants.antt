@@ -1,12 +1,7 @@
 -- `clear` meets its contract. The loop's invariant: the cells from the lowest pair to before j are emptied.
-use borrow.Author.Rules.{rules}
-use native.Mathlib.Omega.{arith}
-use mathlib.Core.Path.{◌≡◌, ◌∙◌, ap}
 use Prim.Native.Nat.{◌-◌, ◌≤◌, max}
-use lib.ListN.{length}
 use Rattle.calendar.specs.Layout.{low_of, high_of}
-use Rattle.calendar.proofs.Laws.{put_length}
-use Rattle.calendar.proofs.Clearing.{EmptiedTo, emptied_none, emptied_more, cleared}
+use Rattle.calendar.proofs.Clearing.{EmptiedTo}
 use Rattle.calendar.proofs.clear.Given as goal
 
 abbrev pub invariant-loop-j : goal.invariant-loop-j

@@ -2,7 +2,6 @@
 use mathlib.Core.Bool.{and-false}
 use native.Mathlib.Omega.{arith}
 use lib.Dec.{eqb}
-use borrow.Author.Rules.{rules}
 use borrow.Author.Tests.{ne_eqb}
 use Rattle.calendar.proofs.Posting.{added, posted_one, posted_none}
 use Rattle.calendar.proofs.post.Goals as goal

@@ -1,21 +1,17 @@
 -- `post_all` meets its contract. The loop's invariant: the pairs of the places before q, none of them empty, are in the cells; the span is widened before.
 use mathlib.Core.Path.{◌≡◌, ap, ◌∙◌}
-use mathlib.Core.Logic.{inl, inr}
-use Prim.Native.Nat.{◌-◌, ◌≤◌, ◌<◌}
+use Prim.Native.Nat.{◌<◌}
 use native.Mathlib.Omega.{arith}
 use lib.ListN.{length}
-use borrow.Author.Rules.{rules}
-use Rattle.plan.specs.Packed.{store_depth}
-use Rattle.calendar.specs.Layout.{calendar_size}
-use Rattle.calendar.specs.Posts.{in_row, among_first}
-use Rattle.calendar.proofs.Posting.{Filled, added, widened_length, widened_posted}
-use Rattle.calendar.proofs.Stores.{Full, full_more, kept_first, kept_turn, kept_skip, kept_stop}
+use Rattle.calendar.proofs.Posting.{added, widened_length, widened_posted}
+use Rattle.calendar.proofs.Stores.{full_more, kept_first, kept_turn, kept_skip, kept_stop}
+use Rattle.calendar.proofs.post_all.Goals.{then-j-lt-PLACES, else-j-lt-PLACES}
 use Rattle.calendar.proofs.post_all.Goals as goal
 
 pub loop-q-init : goal.loop-q-init
 loop-q-init c = (
   omega arith,
-  omega (arith, c.well_formed.1.1.0.1.0.1),
+  omega arith,
   λ q h. absurd (omega arith),
   kept_first c.args.kept c.args.row c.args.i _,
   rw (c.widen.ensures, widened_length c.args.work.now c.args.row c.args.span.low c.args.span.high) c.requires.2,
@@ -48,9 +44,9 @@ loop-q-preserved c = let ps = c.args.kept in
       l.invariant.1,
       full_more l.q ps l.invariant.2 k,
       elim c.if-j-lt-PLACES.branch [
-        | inl w ↦ rw (w.6, w.3.ensures, w.2.ensures.0, e)
-            (kept_turn ps l.q l.invariant.2 t k c.args.row c.args.i _ _ c.requires.0 (omega (arith, l.invariant.3.rest.size, l.invariant.4)) (rw e at w.0.taken) l.invariant.3)
-        | inr w ↦ rw w.1 (kept_skip ps l.q l.invariant.2 t k c.args.row c.args.i _ _ (rw e at w.0.left) l.invariant.3)
+        | then-j-lt-PLACES w ↦ rw (w.work-is, w.add.ensures, w.cell.ensures.0, e)
+            (kept_turn ps l.q l.invariant.2 t k c.args.row c.args.i _ _ c.requires.0 (omega (arith, l.invariant.3.rest.size, l.invariant.4)) (rw e at w.if-j-lt-PLACES.true) l.invariant.3)
+        | else-j-lt-PLACES w ↦ rw w.work-is (kept_skip ps l.q l.invariant.2 t k c.args.row c.args.i _ _ (rw e at w.if-j-lt-PLACES.false) l.invariant.3)
       ],
       l.invariant.4,
     )

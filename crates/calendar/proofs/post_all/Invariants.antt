@@ -1,15 +1,12 @@
 -- `post_all` meets its contract. The loop's invariant: the pairs of the places before q, none of them empty, are in the cells; the span is widened before.
-use mathlib.Core.Path.{◌≡◌, ap, ◌∙◌}
-use mathlib.Core.Logic.{inl, inr}
-use Prim.Native.Nat.{◌-◌, ◌≤◌, ◌<◌}
-use native.Mathlib.Omega.{arith}
+use mathlib.Core.Path.{◌≡◌}
+use Prim.Native.Nat.{◌-◌, ◌≤◌}
 use lib.ListN.{length}
-use borrow.Author.Rules.{rules}
 use Rattle.plan.specs.Packed.{store_depth}
 use Rattle.calendar.specs.Layout.{calendar_size}
 use Rattle.calendar.specs.Posts.{in_row, among_first}
-use Rattle.calendar.proofs.Posting.{Filled, added, widened_length, widened_posted}
-use Rattle.calendar.proofs.Stores.{Full, full_more, kept_first, kept_turn, kept_skip, kept_stop}
+use Rattle.calendar.proofs.Posting.{Filled}
+use Rattle.calendar.proofs.Stores.{Full}
 use Rattle.calendar.proofs.post_all.Given as goal
 
 abbrev pub invariant-loop-q : goal.invariant-loop-q

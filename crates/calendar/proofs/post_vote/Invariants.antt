@@ -1,13 +1,8 @@
 -- `post_vote` meets its contract. The loop's invariant: the vote is posted to the servers before b.
-use borrow.Author.Rules.{rules}
-use native.Mathlib.Omega.{arith}
-use mathlib.Core.Path.{◌≡◌}
-use mathlib.Core.Logic.{inl, inr}
-use Prim.Native.Nat.{◌-◌, ◌≤◌, ◌<◌}
+use Prim.Native.Nat.{◌-◌, ◌≤◌}
 use lib.Dec.{eqb}
 use Rattle.calendar.specs.View.{Posted}
 use Rattle.calendar.specs.Posts.{to_first}
-use Rattle.calendar.proofs.Stores.{others_first, others_yes, others_self}
 use Rattle.calendar.proofs.post_vote.Given as goal
 
 abbrev pub invariant-loop-b : goal.invariant-loop-b

@@ -1,12 +1,8 @@
 -- `post_votes` meets its contract. The loop's invariant: the pairs kept are posted to the servers before b; the span is theirs.
-use borrow.Author.Rules.{rules}
 use native.Mathlib.Omega.{arith}
-use mathlib.Core.Path.{◌≡◌}
-use mathlib.Core.Logic.{inl, inr}
-use Prim.Native.Nat.{◌-◌, ◌≤◌, ◌<◌}
-use Rattle.calendar.specs.View.{Posted}
-use Rattle.calendar.specs.Posts.{to_first, among, SpanOf}
-use Rattle.calendar.proofs.Stores.{others_first, others_yes, others_self}
+use Prim.Native.Nat.{◌<◌}
+use Rattle.calendar.proofs.Stores.{others_yes, others_self}
+use Rattle.calendar.proofs.post_votes.Goals.{then-b-i, else-b-i}
 use Rattle.calendar.proofs.post_votes.Goals as goal
 
 pub post_all-requires : goal.post_all-requires
@@ -19,8 +15,8 @@ loop-b-preserved c = let l = c.loop-b in
     let h : l.b < 16 = omega (arith, c.requires.0.servers, c.loop-b-test.true) in (
       omega arith,
       elim c.if-b-i.branch [
-        | inl w ↦ (rw w.7 (others_yes c.args.sending _ _ _ _ l.b h w.0.taken l.invariant.1 (rw (w.3.ensures.0, w.2.ensures.0) at w.4.ensures)))
-        | inr w ↦ (rw w.1 (others_self c.args.sending _ _ _ l.b w.0.left l.invariant.1))
+        | then-b-i w ↦ (rw w.work-is (others_yes c.args.sending _ _ _ _ l.b h w.if-b-i.true l.invariant.1 (rw (w.row.ensures.0, w.arrival.ensures.0) at w.post_all.ensures)))
+        | else-b-i w ↦ (rw w.work-is (others_self c.args.sending _ _ _ l.b w.if-b-i.false l.invariant.1))
       ],
       l.invariant.2,
     )

@@ -1,12 +1,7 @@
 -- `post_votes` meets its contract. The loop's invariant: the pairs kept are posted to the servers before b; the span is theirs.
-use borrow.Author.Rules.{rules}
-use native.Mathlib.Omega.{arith}
-use mathlib.Core.Path.{◌≡◌}
-use mathlib.Core.Logic.{inl, inr}
-use Prim.Native.Nat.{◌-◌, ◌≤◌, ◌<◌}
+use Prim.Native.Nat.{◌-◌, ◌≤◌}
 use Rattle.calendar.specs.View.{Posted}
 use Rattle.calendar.specs.Posts.{to_first, among, SpanOf}
-use Rattle.calendar.proofs.Stores.{others_first, others_yes, others_self}
 use Rattle.calendar.proofs.post_votes.Given as goal
 
 abbrev pub invariant-loop-b : goal.invariant-loop-b

@@ -1,13 +1,10 @@
 -- `span_of` meets its contract. The loop's invariant: low and high are the span of the places before this one, none of them empty.
 use mathlib.Core.Path.{◌≡◌}
-use mathlib.Core.Logic.{inl, inr}
-use Prim.Native.Nat.{◌-◌, ◌≤◌, ◌<◌}
-use native.Mathlib.Omega.{arith}
+use Prim.Native.Nat.{◌-◌, ◌≤◌}
 use lib.ListN.{length}
-use borrow.Author.Rules.{rules}
 use Rattle.plan.specs.Packed.{store_depth}
 use Rattle.calendar.specs.Posts.{among_first, SpanOf}
-use Rattle.calendar.proofs.Stores.{Full, full_more, span_first, span_turn, span_skip, span_stop}
+use Rattle.calendar.proofs.Stores.{Full}
 use Rattle.calendar.proofs.span_of.Given as goal
 
 abbrev pub invariant-loop-place : goal.invariant-loop-place

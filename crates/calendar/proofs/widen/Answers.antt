@@ -1,9 +1,7 @@
 -- `widen` meets its contract.
 use Prim.Native.Nat.{◌+◌, ◌*◌}
 use native.Mathlib.Omega.{arith}
-use lib.ListN.{length-set}
 use lib.Seq.{get_or-set_other}
-use borrow.Author.Rules.{rules}
 use Rattle.calendar.specs.Posts.{widened}
 use Rattle.calendar.proofs.widen.Goals as goal
 

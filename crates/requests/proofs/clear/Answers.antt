@@ -1,7 +1,6 @@
 -- `clear` meets its contract.
 use native.Mathlib.Omega.{arith}
 use Rattle.requests.proofs.Requesting.{taken}
-use borrow.Author.Rules.{rules}
 use Rattle.requests.proofs.clear.Goals as goal
 
 pub returns : goal.returns

@@ -1,10 +1,6 @@
 -- `post` meets its contract. The loop's invariant: the request reaches the servers before b.
-use borrow.Author.Rules.{rules}
-use native.Mathlib.Omega.{arith}
-use mathlib.Core.Path.{◌≡◌}
 use Prim.Native.Nat.{◌-◌, ◌≤◌}
 use Rattle.requests.specs.Requests.{asked_first, Asked}
-use Rattle.requests.proofs.Requesting.{asked_first_lem, asked_more, reaching}
 use Rattle.requests.proofs.post.Given as goal
 
 abbrev pub invariant-loop-b : goal.invariant-loop-b

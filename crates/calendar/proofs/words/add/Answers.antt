@@ -1,6 +1,5 @@
 -- `words::add` meets its contract.
 use mathlib.Core.Path.{◌∙◌}
-use borrow.Author.Rules.{rules}
 use Rattle.bits.proofs.Laws.{one_shl}
 use Rattle.calendar.proofs.words.add.Goals as goal
 

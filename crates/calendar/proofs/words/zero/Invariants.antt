@@ -1,10 +1,6 @@
 -- `words::zero` meets its contract. The loop's invariant: the bytes passed are zero, the others as they were.
-use native.Mathlib.Omega.{arith}
-use borrow.Author.Rules.{rules}
 use Prim.Native.Nat.{◌-◌, ◌≤◌}
-use mathlib.Core.Path.{◌≡◌}
 use Rattle.calendar.specs.View.{Zeroed}
-use Rattle.calendar.proofs.Laws.{zeroed_none, zeroed_more}
 use Rattle.calendar.proofs.words.zero.Given as goal
 
 abbrev pub invariant-loop-at : goal.invariant-loop-at

@@ -1,7 +1,6 @@
 -- `ask` meets its contract.
 use Prim.Native.Nat.{◌+◌}
 use native.Mathlib.Omega.{arith}
-use borrow.Author.Rules.{rules}
 use Rattle.tables.proofs.Sendings.{sent_sendable}
 use Rattle.tables.proofs.LinkLaws.{parties_few, link_inside, link_small}
 use Rattle.requests.proofs.AskingLaws.{asked_sent}

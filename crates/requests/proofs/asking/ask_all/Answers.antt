@@ -1,10 +1,8 @@
 -- `ask_all` meets its contract. The loop's invariant: the READs of the reads passed are under way.
 use native.Mathlib.Omega.{arith}
 use mathlib.Core.Path.{◌≡◌}
-use Prim.Native.Nat.{◌-◌, ◌≤◌, ◌<◌}
+use Prim.Native.Nat.{◌<◌}
 use borrow.Author.Rules.{rules}
-use Rattle.requests.specs.Requests.{Asked}
-use Rattle.requests.specs.Asking.{asked_between}
 use Rattle.requests.proofs.AskingLaws.{between_none, between_more}
 use Rattle.requests.proofs.asking.ask_all.Goals as goal
 
@@ -25,3 +23,6 @@ loop-i-preserved c = let l = c.loop-i in
 
 pub returns : goal.returns
 returns c = let e : c.loop-i.i ≡ c.args.to = omega (arith, c.loop-i.invariant.1, c.loop-i-test.false) in rw e at c.loop-i.invariant.2
+
+pub loop-i-init : goal.loop-i-init
+loop-i-init c = (omega arith, c.requires.1.ordered, between_none _ _ _ _ _ _ _)

@@ -1,11 +1,7 @@
 -- `ask_all` meets its contract. The loop's invariant: the READs of the reads passed are under way.
-use native.Mathlib.Omega.{arith}
-use mathlib.Core.Path.{◌≡◌}
-use Prim.Native.Nat.{◌-◌, ◌≤◌, ◌<◌}
-use borrow.Author.Rules.{rules}
+use Prim.Native.Nat.{◌-◌, ◌≤◌}
 use Rattle.requests.specs.Requests.{Asked}
 use Rattle.requests.specs.Asking.{asked_between}
-use Rattle.requests.proofs.AskingLaws.{between_none, between_more}
 use Rattle.requests.proofs.asking.ask_all.Given as goal
 
 abbrev pub invariant-loop-i : goal.invariant-loop-i

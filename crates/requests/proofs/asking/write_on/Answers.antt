@@ -1,7 +1,6 @@
 -- `write_on` meets its contract: there is a next write, it begins now, its WRITE is sent.
 use native.Mathlib.Omega.{arith}
 use native.Mathlib.Numerals.{add-one}
-use borrow.Author.Rules.{rules}
 use borrow.Author.Tests.{lt-ltb, le-ltb, eq-eqb, ne_eqb}
 use Rattle.requests.proofs.Requesting.{asked_none}
 use Rattle.requests.proofs.AskingLaws.{wrote_on}

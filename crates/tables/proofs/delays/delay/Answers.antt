@@ -1,5 +1,4 @@
 -- `delays::delay` meets its contract: the four bits lie in the plan, and their place is small.
-use borrow.Author.Rules.{rules}
 use native.Mathlib.Omega.{arith}
 use Rattle.tables.proofs.LinkLaws.{parties_few, link_at, link_small, link_inside}
 use Rattle.tables.proofs.delays.delay.Goals as goal

@@ -1,5 +1,4 @@
 -- `forged::message_at` meets its contract: the fields are parts of one number.
-use borrow.Author.Rules.{rules}
 use Rattle.plan.proofs.Taken.{forged_in_lem}
 use Rattle.tables.proofs.forged.message_at.Goals as goal
 

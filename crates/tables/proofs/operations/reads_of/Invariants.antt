@@ -1,18 +1,10 @@
 -- `operations::reads_of` meets its contract. The loop's invariant: the tables have the reads among the operations passed.
-use mathlib.Core.Logic.{inl, inr}
-use mathlib.Core.Path.{◌≡◌, ap, ◌∙◌}
-use Prim.Native.Nat.{ℕ, ◌+◌, ◌*◌, ◌-◌, ◌≤◌, ◌<◌}
-use native.Mathlib.Omega.{arith}
-use lib.ListN.{length, length-set}
-use borrow.Author.Tests.{ne_eqb}
-use borrow.Author.Rules.{rules}
+use mathlib.Core.Path.{◌≡◌}
+use Prim.Native.Nat.{◌-◌, ◌≤◌}
+use lib.ListN.{length}
 use Rattle.register.specs.Lists.{tab}
-use Rattle.plan.specs.Header.{operation_bits}
-use Rattle.plan.specs.Parts.{Operation, operation_in, reads_from}
+use Rattle.plan.specs.Parts.{reads_from}
 use Rattle.tables.specs.Operations.{op_at, ReadIn}
-use Rattle.plan.proofs.Sizes.{operations_few}
-use Rattle.bits.proofs.Records.{record_inside}
-use Rattle.tables.proofs.Storing.{read_stored, read_left, read_in_none}
 use Rattle.tables.proofs.operations.reads_of.Given as goal
 
 abbrev pub invariant-loop-i : goal.invariant-loop-i

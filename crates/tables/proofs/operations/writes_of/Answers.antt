@@ -1,22 +1,20 @@
 -- `operations::writes_of` meets its contract. The loop's invariant: the tables have the writes among the operations passed. A write more finds a number left.
-use mathlib.Core.Path.{◌≡◌, refl, ap, ◌∙◌}
-use mathlib.Core.Logic.{inl, inr}
-use Prim.Native.Nat.{ℕ, ◌+◌, ◌*◌, ◌-◌, ◌^◌, ◌≤◌, ◌<◌}
+use mathlib.Core.Path.{refl, ap, ◌∙◌}
+use Prim.Native.Nat.{ℕ, ◌+◌, ◌*◌, ◌^◌, ◌≤◌, ◌<◌}
 use native.Mathlib.Omega.{arith}
-use lib.ListN.{length, get_or, replicate, length-set}
+use lib.ListN.{get_or, replicate, length-set}
 use lib.Pow.{pow_pos}
 use borrow.Author.Tests.{ne_eqb}
 use borrow.Author.Rules.{rules}
-use Rattle.register.specs.Lists.{tab}
 use Rattle.register.proofs.Lists.{get_d_replicate_same}
 use Rattle.plan.specs.Header.{operation_bits}
-use Rattle.plan.specs.Parts.{Operation, operation_in, writes_from}
-use Rattle.tables.specs.Operations.{op_at, Written}
+use Rattle.plan.specs.Parts.{Operation, operation_in}
+use Rattle.tables.specs.Operations.{op_at}
 use Rattle.tables.proofs.Tables.{each_stored}
 use Rattle.plan.proofs.Sizes.{operations_few}
 use Rattle.bits.proofs.Records.{record_inside}
 use Rattle.tables.proofs.Storing.{number_left, write_stored, write_left, written_none}
-use Rattle.tables.proofs.operations.writes_of.Goals.{Then-o-eq0}
+use Rattle.tables.proofs.operations.writes_of.Goals.{Then-o-eq0, then-o-eq0, else-o-eq0}
 use Rattle.tables.proofs.operations.writes_of.Goals as goal
 
 left : (c : Then-o-eq0) → c.loop-i.m ≤ 64
@@ -48,14 +46,14 @@ loop-i-preserved c = let h = c.loop-i in
     let value = ap (λ (o : Operation). o.value) E in
     let op = op_at a.width a.plan.now a.at in
     elim c.if-o-eq0.branch [
-      | inl w ↦ rw (w.1, w.2, w.3, length-set, length-set, value, tick) (
+      | then-o-eq0 w ↦ rw (w.values-is, w.begun-is, w.m-is, length-set, length-set, value, tick) (
         omega arith,
         h.invariant.1,
         h.invariant.2,
-        write_stored a.width op h.i _ h.values h.begun h.m h.invariant.3 _ c.loop-i-test.true c.requires.0.writes (rw party at w.0.taken)
+        write_stored a.width op h.i _ h.values h.begun h.m h.invariant.3 _ c.loop-i-test.true c.requires.0.writes (rw party at w.if-o-eq0.true)
             (rw value at c.read-o.ensures.value_hi) h.invariant.1 h.invariant.2,
       )
-      | inr w ↦ rw (w.1, w.2, w.3) (omega arith, h.invariant.1, h.invariant.2, write_left a.width op h.i _ h.values h.begun h.m h.invariant.3 (rw (← party) (ne_eqb _ 0 w.0.left)))
+      | else-o-eq0 w ↦ rw (w.values-is, w.begun-is, w.m-is) (omega arith, h.invariant.1, h.invariant.2, write_left a.width op h.i _ h.values h.begun h.m h.invariant.3 (rw (← party) (ne_eqb _ 0 w.if-o-eq0.false)))
     ]
 
 pub overflow_mul-bits : goal.overflow_mul-bits
@@ -77,3 +75,9 @@ read-o-requires c = let h = c.loop-i in
       omega (arith, c.requires.0.start, operations_few bits.result h.i (omega (arith, c.requires.0.narrow, bits.ensures)) (omega (arith, c.requires.0.few))),
       c.requires.0.narrow,
     )
+
+pub bounds-values-m : goal.bounds-values-m
+bounds-values-m c = let h = left (goal.at.bounds-values-m c).Then-o-eq0 in omega arith
+
+pub bounds-begun-m : goal.bounds-begun-m
+bounds-begun-m c = let h = left (goal.at.bounds-begun-m c).Then-o-eq0 in omega arith

@@ -3,7 +3,6 @@ use Prim.Native.Nat.{ℕ, ◌*◌, ◌≤◌, ◌<◌}
 use native.Mathlib.Omega.{arith}
 use mathlib.Core.Path.{◌≡◌}
 use Rattle.tables.proofs.Sendings.{two_reads}
-use borrow.Author.Rules.{rules}
 use Rattle.tables.proofs.sending.nibbles.Goals as goal
 
 -- 15 and 16 are left above 14
