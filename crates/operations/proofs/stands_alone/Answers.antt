@@ -1,5 +1,4 @@
 -- `stands_alone` meets its contract.
-use native.Mathlib.Omega.{arith}
 use Rattle.operations.proofs.stands_alone.Goals as goal
 
 pub returns : goal.returns

@@ -1,12 +1,10 @@
 -- `reads::count` meets its contract: the loop has counted among the first i operations.
 use mathlib.Core.Bool.{not, true, false, Bool}
-use mathlib.Core.Logic.{⊎_elim}
 use mathlib.Core.Path.{◌≡◌, refl, sym, ap, ◌∙◌}
-use Prim.Native.Nat.{ℕ, ◌+◌, ◌*◌, ◌-◌, ◌≤◌}
+use Prim.Native.Nat.{ℕ, ◌+◌, ◌*◌}
 use native.Mathlib.Omega.{arith}
 use lib.Dec.{eqb}
 use borrow.Author.Tests.{eq-eqb, ne_eqb}
-use borrow.Author.Rules.{rules}
 use Rattle.register.specs.Lists.{count}
 use Rattle.plan.specs.Shape.{shape}
 use Rattle.plan.specs.Parts.{Operation, operation_in, operation_of, operations_of}
@@ -14,13 +12,13 @@ use Rattle.plan.specs.Header.{operation_bits, placement_at, moves}
 use Rattle.plan.proofs.Sizes.{operations_few}
 use Rattle.operations.proofs.Inside.{operation_inside}
 use Rattle.plan.proofs.Reading.{length_reads, count_yes, count_no}
+use Rattle.operations.proofs.reads.count.Goals.{After-read-o, then-o-ne0, else-o-ne0}
 use Rattle.operations.proofs.reads.count.Goals as goal
 
-party-test : (c : tie.After-read invariant-loop decreases-loop) (b : Bool) → eqb c.read.result.party 0 ≡ b
-    → let l = c.before.before in
-    let a = l.before.before.before.before.before.args in
-    not (eqb (operation_in a.h.width a.plan.now (l.before.before.operations-at.result + l.before.operation-bits.result * l.loop.i)).party 0) ≡ not b
-party-test c b e = rw (← ap (λ (o : Operation). o.party) c.read.ensures.is, e)
+party-test : (c : After-read-o) (b : Bool) → eqb c.read-o.result.party 0 ≡ b
+    → let a = c.args in
+    not (eqb (operation_in a.h.width a.plan.now (c.operations_at-first.result + c.operation_bits-bits.result * c.loop-i.i)).party 0) ≡ not b
+party-test c b e = rw (← ap (λ (o : Operation). o.party) c.read-o.ensures.is, e)
 
 pub loop-i-init : goal.loop-i-init
 unfolding count
@@ -44,10 +42,18 @@ loop-i-preserved c = let l = c.loop-i in
     let first = c.operations_at-first.result in
     let bits = c.operation_bits-bits.result in
     let reads : ℕ → Bool = λ j. not (eqb (operation_in a.h.width a.plan.now (first + bits * j)).party 0) in
-    ⊎_elim
-    (λ w. (omega arith, omega arith, w.1 ∙ omega (arith, count_yes reads l.i (party-test c false (ne_eqb _ _ w.0.taken)), l.invariant.2)))
-    (λ w. (omega arith, omega arith, w.1 ∙ l.invariant.2 ∙ sym (count_no reads l.i (party-test c true (eq-eqb _ _ w.0.left)))))
-    c.if-o-ne0.branch
+    elim c.if-o-ne0.branch [
+      | then-o-ne0 w ↦ (
+        omega arith,
+        omega arith,
+        w.reads-is ∙ omega (arith, count_yes reads l.i (party-test (goal.at.loop-i-preserved c).After-read-o false (ne_eqb _ _ w.if-o-ne0.true)), l.invariant.2),
+      )
+      | else-o-ne0 w ↦ (
+        omega arith,
+        omega arith,
+        w.reads-is ∙ l.invariant.2 ∙ sym (count_no reads l.i (party-test (goal.at.loop-i-preserved c).After-read-o true (eq-eqb _ _ w.if-o-ne0.false))),
+      )
+    ]
 
 pub returns : goal.returns
 unfolding operations_of operation_of

@@ -1,19 +1,10 @@
 -- `reads::count` meets its contract: the loop has counted among the first i operations.
-use mathlib.Core.Bool.{not, true, false, Bool}
-use mathlib.Core.Logic.{⊎_elim}
-use mathlib.Core.Path.{◌≡◌, refl, sym, ap, ◌∙◌}
-use Prim.Native.Nat.{ℕ, ◌+◌, ◌*◌, ◌-◌, ◌≤◌}
-use native.Mathlib.Omega.{arith}
+use mathlib.Core.Bool.{not}
+use mathlib.Core.Path.{◌≡◌}
+use Prim.Native.Nat.{◌+◌, ◌*◌, ◌-◌, ◌≤◌}
 use lib.Dec.{eqb}
-use borrow.Author.Tests.{eq-eqb, ne_eqb}
-use borrow.Author.Rules.{rules}
 use Rattle.register.specs.Lists.{count}
-use Rattle.plan.specs.Shape.{shape}
-use Rattle.plan.specs.Parts.{Operation, operation_in, operation_of, operations_of}
-use Rattle.plan.specs.Header.{operation_bits, placement_at, moves}
-use Rattle.plan.proofs.Sizes.{operations_few}
-use Rattle.operations.proofs.Inside.{operation_inside}
-use Rattle.plan.proofs.Reading.{length_reads, count_yes, count_no}
+use Rattle.plan.specs.Parts.{operation_in}
 use Rattle.operations.proofs.reads.count.Given as goal
 
 abbrev pub invariant-loop-i : goal.invariant-loop-i

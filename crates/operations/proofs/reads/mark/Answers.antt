@@ -1,9 +1,7 @@
 -- `reads::mark` meets its contract: the loop has marked the ticks below t.
 use mathlib.Core.Path.{◌∙◌, ◌≡◌}
-use Prim.Native.Nat.{◌-◌, ◌≤◌}
 use native.Mathlib.Omega.{arith}
-use lib.ListN.{length, length-set}
-use Rattle.operations.specs.Reads.{Marked}
+use lib.ListN.{length-set}
 use Rattle.operations.proofs.Spans.{marked_none, marked_more}
 use Rattle.operations.proofs.reads.mark.Goals as goal
 

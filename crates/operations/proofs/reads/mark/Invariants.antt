@@ -1,10 +1,8 @@
 -- `reads::mark` meets its contract: the loop has marked the ticks below t.
-use mathlib.Core.Path.{◌∙◌, ◌≡◌}
+use mathlib.Core.Path.{◌≡◌}
 use Prim.Native.Nat.{◌-◌, ◌≤◌}
-use native.Mathlib.Omega.{arith}
-use lib.ListN.{length, length-set}
+use lib.ListN.{length}
 use Rattle.operations.specs.Reads.{Marked}
-use Rattle.operations.proofs.Spans.{marked_none, marked_more}
 use Rattle.operations.proofs.reads.mark.Given as goal
 
 abbrev pub invariant-loop-t : goal.invariant-loop-t

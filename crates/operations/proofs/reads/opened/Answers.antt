@@ -1,20 +1,14 @@
 -- `reads::opened` meets its contract: the loop has marked the reads among the first i operations.
-use mathlib.Core.List.{List}
-use mathlib.Core.Logic.{⊎_elim}
 use mathlib.Core.Path.{◌≡◌, refl}
-use Prim.Native.Nat.{ℕ, ◌-◌, ◌≤◌}
 use native.Mathlib.Omega.{arith}
-use lib.ListN.{length}
-use borrow.Author.Rules.{rules}
-use Rattle.plan.specs.Header.{Header, operation_at}
+use Rattle.plan.specs.Header.{operation_at}
 use Rattle.plan.specs.Steps.{IsOperation}
-use Rattle.operations.specs.Reads.{Opened}
 use Rattle.plan.specs.Shape.{shape}
 use Rattle.plan.proofs.Sizes.{operations_few}
 use Rattle.operations.proofs.Inside.{operation_inside}
 use Rattle.operations.proofs.Passed.{read_ends}
 use Rattle.operations.proofs.Spans.{opened_none, opened_write, opened_read}
-use Rattle.operations.proofs.reads.opened.Goals.{After-read-o}
+use Rattle.operations.proofs.reads.opened.Goals.{After-read-o, then-o-ne0, else-o-ne0}
 use Rattle.operations.proofs.reads.opened.Goals as goal
 
 here : (c : After-read-o) → IsOperation c.args.h.width c.args.plan.now (operation_at c.args.h.width ((shape c.args.h)) c.loop-i.i) c.read-o.result
@@ -40,14 +34,18 @@ mark-requires c = let e = read_ends _ _ _ _ _ (here (goal.at.mark-requires c).Af
 
 pub loop-i-preserved : goal.loop-i-preserved
 loop-i-preserved c = let l = c.loop-i in
-    ⊎_elim
-    (λ w. (
-      omega arith,
-      rw w.6 w.5.ensures.0,
-      rw w.6 (opened_read _ _ _ _ _ (here (goal.at.loop-i-preserved c).After-read-o) w.5.last.0 l.table w.0.taken w.5.ensures.1 l.invariant.2),
-    ))
-    (λ w. (omega arith, rw w.1 l.invariant.1, rw w.1 (opened_write _ _ _ _ _ (here (goal.at.loop-i-preserved c).After-read-o) l.table w.0.left l.invariant.2)))
-    c.if-o-ne0.branch
+    elim c.if-o-ne0.branch [
+      | then-o-ne0 w ↦ (
+        omega arith,
+        rw w.table-is w.mark.ensures.0,
+        rw w.table-is (opened_read _ _ _ _ _ (here (goal.at.loop-i-preserved c).After-read-o) w.mark.new.table l.table w.if-o-ne0.true w.mark.ensures.1 l.invariant.2),
+      )
+      | else-o-ne0 w ↦ (
+        omega arith,
+        rw w.table-is l.invariant.1,
+        rw w.table-is (opened_write _ _ _ _ _ (here (goal.at.loop-i-preserved c).After-read-o) l.table w.if-o-ne0.false l.invariant.2),
+      )
+    ]
 
 pub returns : goal.returns
 returns c = let e : c.loop-i.i ≡ c.args.h.operations = omega arith in
