@@ -7,4 +7,4 @@ use Rattle.lines.proofs.put_first.Goals as goal
 pub returns : goal.returns
 returns c = let word = c.put_all-at.ensures in
     let number = c.put_number.ensures in
-    (stored_then word number.0, omega (arith, word.next_is, number.1))
+    record { fact = stored_then word number.fact; r_in_bounds = omega (arith, word.next_is, number.r_bound) }

@@ -34,9 +34,9 @@ pub loop-i-preserved : goal.loop-i-preserved
 loop-i-preserved c = let shaped = rw c.width-width.ensures.0 at c.read-shape.ensures.0 in
     let one = line_more _ _ c.requires.1 _ c.loop-i.i (span_is _ _ c.requires.1 c.read-shape.result shaped) (omega arith) _ c.requires.2 _ (rw c.width-width.ensures.0 at c.read.ensures) in (
       search rules,
-      c.put_line-at.auto.0 ∙ c.loop-i.invariant.1,
-      omega (arith, c.loop-i.invariant.2, c.put_line-at.ensures.1),
-      stored_as one (stored_then c.loop-i.invariant.3 c.put_line-at.ensures.0),
+      c.put_line-at.auto.out ∙ c.loop-i.invariant.1,
+      omega (arith, c.loop-i.invariant.2, c.put_line-at.ensures.r_bound),
+      stored_as one (stored_then c.loop-i.invariant.3 c.put_line-at.ensures.fact),
     )
 
 pub returns : goal.returns

@@ -6,4 +6,4 @@ use Rattle.lines.proofs.put_number.Goals as goal
 
 pub returns : goal.returns
 returns c = let byte = c.put_byte.ensures in
-    (stored_then c.put-end.ensures.0 byte, omega (arith, c.put-end.ensures.1, byte.next_is))
+    record { fact = stored_then c.put-end.ensures.stored byte; r_bound = omega (arith, c.put-end.ensures.upper_bound, byte.next_is) }

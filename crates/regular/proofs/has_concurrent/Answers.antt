@@ -7,19 +7,19 @@ use native.Mathlib.Omega.{arith}
 use Rattle.register.specs.Plan.{Plan, Read}
 use Rattle.regular.specs.Tables.{Tables}
 use Rattle.regular.proofs.Laws.{Sought, write_at, none_concurrent, next_concurrent}
-use borrow.Author.Rules.{rules}
+use Rattle.regular.proofs.has_concurrent.Goals.{After-last_finished-next}
 use Rattle.regular.proofs.has_concurrent.Goals as goal
 
-known : (c : tie.After-last-finished) (w : ℕ) (P : Plan) (x : Read) (values : List ℕ) → Tables w P values c.before.args.begun.now c.before.args.m
-    → P.delta ≡ c.before.args.delta → x.begun ≡ c.before.args.read
-    → Sought w P x values c.before.args.begun.now c.before.args.m c.last-finished.result
+known : (c : After-last_finished-next) (w : ℕ) (P : Plan) (x : Read) (values : List ℕ) → Tables w P values c.args.begun.now c.args.m
+    → P.delta ≡ c.args.delta → x.begun ≡ c.args.read
+    → Sought w P x values c.args.begun.now c.args.m c.last_finished-next.result
 known c w P x values W d r =
-    record { tables = W; found = c.last-finished.ensures.1 P x (write_at w values c.before.args.begun.now) d r (λ j. refl) }
+    record { tables = W; found = c.last_finished-next.ensures.1 P x (write_at w values c.args.begun.now) d r (λ j. refl) }
 
 pub returns-then-m-next : goal.returns-then-m-next
-returns-then-m-next c = λ w P x values W d r. sym (none_concurrent (known c w P x values W d r) (omega arith))
+returns-then-m-next c = λ w P x values W d r. sym (none_concurrent (known (goal.at.returns-then-m-next c).After-last_finished-next w P x values W d r) (omega arith))
 
 pub returns : goal.returns
 returns c = λ w P x values W d r.
-    let next = next_concurrent (known c w P x values W d r) (omega arith) in
+    let next = next_concurrent (known (goal.at.returns c).After-last_finished-next w P x values W d r) (omega arith) in
     c.is_begun_by_end.ensures ∙ rw (← d, ← r, add-one c.last_finished-next.result) (sym next)

@@ -1,7 +1,6 @@
 -- `is_finished` is the test 'finished before', of any plan, read and write with these ticks.
 -- It stands on the definition alone.
 use Rattle.register.specs.Regular.{finished}
-use borrow.Author.Rules.{rules}
 use Rattle.regular.proofs.is_finished.Goals as goal
 
 pub returns : goal.returns

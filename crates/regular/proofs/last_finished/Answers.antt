@@ -1,16 +1,11 @@
 -- `last_finished` finds the last write that finished before the read. The invariant says so of the writes passed.
 -- It stands on the laws of one turn more.
 use mathlib.Core.Path.{◌≡◌, sym, ◌∙◌}
-use mathlib.Core.Logic.{inl, inr}
-use mathlib.Core.List.{List}
-use Prim.Native.Nat.{ℕ, ◌-◌, ◌≤◌, ◌<◌}
 use native.Mathlib.Omega.{arith}
 use borrow.Author.Rules.{rules}
-use lib.ListN.{get_or}
-use Rattle.register.specs.Plan.{Plan, Read, Write}
 use Rattle.register.specs.Regular.{finished}
-use Rattle.regular.specs.Tables.{Last}
 use Rattle.regular.proofs.Steps.{last_none, last_taken, last_left}
+use Rattle.regular.proofs.last_finished.Goals.{then-is_finished, else-is_finished}
 use Rattle.regular.proofs.last_finished.Goals as goal
 
 pub loop-j-init : goal.loop-j-init
@@ -20,19 +15,19 @@ pub loop-j-preserved : goal.loop-j-preserved
 loop-j-preserved c = let h = c.loop-j in
     let t = c.is_finished in
     elim c.if-is_finished.branch [
-      | inl g ↦ (
+      | then-is_finished g ↦ (
         omega arith,
         omega arith,
         omega arith,
         λ P x w d b e.
-            rw g.1 (last_taken (λ k. finished P x (w k)) h.j (sym (t.ensures P x (w h.j) d b (e h.j)) ∙ g.0.taken)),
+            rw g.last-is (last_taken (λ k. finished P x (w k)) h.j (sym (t.ensures P x (w h.j) d b (e h.j)) ∙ g.if-is_finished.true)),
       )
-      | inr g ↦ (
+      | else-is_finished g ↦ (
         omega arith,
         omega arith,
         omega arith,
         λ P x w d b e.
-            rw g.1 (last_left (λ k. finished P x (w k)) h.j h.last (sym (t.ensures P x (w h.j) d b (e h.j)) ∙ g.0.left) (h.invariant.3 P x w d b e)),
+            rw g.last-is (last_left (λ k. finished P x (w k)) h.j h.last (sym (t.ensures P x (w h.j) d b (e h.j)) ∙ g.if-is_finished.false) (h.invariant.3 P x w d b e)),
       )
     ]
 

@@ -1,16 +1,12 @@
 -- `last_finished` finds the last write that finished before the read. The invariant says so of the writes passed.
 -- It stands on the laws of one turn more.
-use mathlib.Core.Path.{◌≡◌, sym, ◌∙◌}
-use mathlib.Core.Logic.{inl, inr}
+use mathlib.Core.Path.{◌≡◌}
 use mathlib.Core.List.{List}
 use Prim.Native.Nat.{ℕ, ◌-◌, ◌≤◌, ◌<◌}
-use native.Mathlib.Omega.{arith}
-use borrow.Author.Rules.{rules}
 use lib.ListN.{get_or}
 use Rattle.register.specs.Plan.{Plan, Read, Write}
 use Rattle.register.specs.Regular.{finished}
 use Rattle.regular.specs.Tables.{Last}
-use Rattle.regular.proofs.Steps.{last_none, last_taken, last_left}
 use Rattle.regular.proofs.last_finished.Given as goal
 
 -- the last of the first j writes that finished
