@@ -1,12 +1,8 @@
 -- `forging::forge` meets its contract. The loop's invariant: the entries passed are posted.
-use borrow.Author.Rules.{rules}
-use native.Mathlib.Omega.{arith}
-use mathlib.Core.Path.{◌≡◌}
-use Prim.Native.Nat.{◌+◌, ◌-◌, ◌≤◌}
+use Prim.Native.Nat.{◌-◌, ◌≤◌}
 use lib.ListN.{get_or}
 use Rattle.calendar.specs.View.{Posted}
 use Rattle.forging.specs.Forging.{forges}
-use Rattle.forging.proofs.Forgeries.{entry_still, forges_none, forges_more}
 use Rattle.forging.proofs.forge.Given as goal
 
 abbrev pub invariant-loop-e : goal.invariant-loop-e

@@ -1,5 +1,4 @@
 -- `forging::post_entry` meets its contract: where the entry goes, by its receiver and its arrival.
-use borrow.Author.Rules.{rules}
 use mathlib.Core.Path.{sym, ap, ◌∙◌}
 use lib.Dec.{eqb}
 use Rattle.forging.proofs.Forgeries.{goes_server, goes_writer, goes_nowhere, goes_late, goes_reader, entry_posted, entry_none}

@@ -12,7 +12,7 @@ use Rattle.reading.proofs.answer.Goals.{After-chosen-choice}
 use Rattle.reading.proofs.answer.Goals as goal
 
 -- the choice is made in the reader's row
-in_row : (c : After-chosen-choice) → let s = c.args in c.chosen-choice.result ≡ highest_of (λ j k. holds s.sets.now (of_reader (s.reader - 1) + j) k) s.reply s.t4.m
+in_row : (c : After-chosen-choice) → let s = c.args in c.chosen-choice.result ≡ highest_of (λ j k. holds s.sets.now (of_reader (s.reader - 1) + j) k) s.reply s.known.m
 in_row c = rw (c.of_reader-at.ensures.0, c.size_of.ensures.0) at c.chosen-choice.ensures
 
 pub write-requires : goal.write-requires

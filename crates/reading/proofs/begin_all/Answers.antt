@@ -21,7 +21,7 @@ inside : (c : In-loop-i) → c.loop-i.i < 255
 inside c = omega (arith, c.loop-i-test.true, c.loop-i.invariant.6.few)
 
 pub loop-i-init : goal.loop-i-init
-loop-i-init c = (omega arith, c.requires.0.ordered, c.well_formed.0.1.0.1, c.requires.1, begun_none _ _ _ _, set_up_none _ _ _, c.requires.0)
+loop-i-init c = (omega arith, c.requires.0.ordered, search rules, c.requires.1, begun_none _ _ _ _, set_up_none _ _ _, c.requires.0)
 
 pub loop-i-preserved : goal.loop-i-preserved
 loop-i-preserved c = let l = c.loop-i in (
@@ -38,3 +38,21 @@ pub returns : goal.returns
 returns c = let l = c.loop-i in
     let e : l.i ≡ c.args.to = omega (arith, l.invariant.1, c.loop-i-test.false) in
     (rw e at l.invariant.4, rw e at l.invariant.5)
+
+pub bounds-by-i : goal.bounds-by-i
+bounds-by-i c = let h = inside (goal.at.bounds-by-i c).In-loop-i in search rules
+
+pub overflow_sub-x : goal.overflow_sub-x
+overflow_sub-x c = omega (arith, (reader (goal.at.overflow_sub-x c).After-size_of-x).0)
+
+pub of_reader-requires : goal.of_reader-requires
+of_reader-requires c = omega (arith, reader (goal.at.of_reader-requires c).After-size_of-x)
+
+pub empty-requires : goal.empty-requires
+empty-requires c = (c.loop-i.invariant.3, c.of_reader.ensures.1)
+
+pub bounds-ends-x : goal.bounds-ends-x
+bounds-ends-x c = omega (arith, reader (goal.at.bounds-ends-x c).After-size_of-x, c.loop-i.invariant.2)
+
+pub overflow_add-i : goal.overflow_add-i
+overflow_add-i c = let h = inside (goal.at.overflow_add-i c).In-loop-i in search rules

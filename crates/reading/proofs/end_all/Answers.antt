@@ -44,3 +44,6 @@ pub returns : goal.returns
 returns c = let l = c.loop-i in
     let e : l.i ≡ c.args.to = omega (arith, l.invariant.1, c.loop-i-test.false) in
     rw e at l.invariant.3
+
+pub bounds-reads-i : goal.bounds-reads-i
+bounds-reads-i c = let h = inside (goal.at.bounds-reads-i c).In-loop-i in search rules

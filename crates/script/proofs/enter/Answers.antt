@@ -19,3 +19,6 @@ pub returns : goal.returns
 returns c = let f = c.forgeries_at-at in
     forged c.args.header.width c.args.plan.now c.requires.0 c.args.header c.requires.2 _ f.ensures.0 c.args.links c.requires.3 _ _ _ _ _
     c.fill.ensures c.starts.ensures
+
+pub forgeries_at-at-requires : goal.forgeries_at-at-requires
+forgeries_at-at-requires c = (shape_ranged c.args.header.width c.args.plan.now c.requires.0 c.args.header c.requires.2, c.requires.1)

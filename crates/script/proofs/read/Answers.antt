@@ -49,3 +49,6 @@ returns c = let x = c.read-header in
       },
       e,
     )
+
+pub read-header-requires : goal.read-header-requires
+read-header-requires c = (header_there c.args.width c.args.plan.now c.requires.0, c.requires.1)

@@ -1,10 +1,7 @@
 -- `entries::next_start` meets its contract. The loop's invariant: the entries passed were sent before the tick.
-use Prim.Native.Nat.{ℕ, ◌-◌, ◌≤◌, ◌<◌}
 use native.Mathlib.Nat.{add-zero}
 use native.Mathlib.Omega.{arith}
 use native.Mathlib.Decide.{ℕ_discrete}
-use borrow.Author.Rules.{rules}
-use Rattle.forging.specs.Entries.{entry_at}
 use Rattle.forging.proofs.entries.next_start.Goals as goal
 
 pub loop-i-preserved : goal.loop-i-preserved

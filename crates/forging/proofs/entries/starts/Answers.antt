@@ -1,10 +1,8 @@
 -- `entries::starts` meets its contract. The loop's invariant: the ticks passed have their starts, and the entries before the last start were sent before the tick.
-use mathlib.Core.Path.{◌≡◌}
-use Prim.Native.Nat.{ℕ, ◌-◌, ◌≤◌, ◌<◌}
+use Prim.Native.Nat.{ℕ, ◌<◌}
 use native.Mathlib.Omega.{arith}
 use native.Mathlib.Decide.{dec_le}
-use lib.ListN.{length, length-set, get_or}
-use borrow.Author.Rules.{rules}
+use lib.ListN.{length-set}
 use Rattle.forging.specs.Entries.{entry_at, Start}
 use Rattle.tables.proofs.Tables.{each_more}
 use Rattle.forging.proofs.entries.starts.Goals as goal

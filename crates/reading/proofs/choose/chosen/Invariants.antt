@@ -16,3 +16,6 @@ use Rattle.reading.proofs.choose.chosen.Given as goal
 
 abbrev pub invariant-loop-j : goal.invariant-loop-j
 invariant-loop-j l = (l.j ≤ l.m) × (l.m ≤ places) × (l.at + l.m ≤ length l.sets) × (highest_of (λ y i. holds l.sets (l.at + y) i) l.reply l.m ≡ highest_of (λ y i. holds l.sets (l.at + y) i) l.reply l.j)
+
+abbrev pub decreases-loop-j : goal.decreases-loop-j
+decreases-loop-j l = l.j

@@ -12,13 +12,21 @@ use Rattle.limits.specs.Bits.{bit}
 use Rattle.cluster.specs.Inputs.{requesters}
 use Rattle.cluster.proofs.Asking.{set_none, set_more, set_same}
 use Rattle.script.specs.Inputs.{live_at}
+use Rattle.script.proofs.inputs.live.Goals.{then-size_of-fresh, else-size_of-fresh}
 use Rattle.script.proofs.inputs.live.Goals as goal
 
 pub loop-x-preserved : goal.loop-x-preserved
 loop-x-preserved c = let h = c.loop-x in
     let a = c.args in
-    let g : ℕ → Bool = λ k. ltb 0 k && not (eqb (get_or a.t1 (k - 1) 0 + 1) (a.t + 2 * a.delta)) in
+    let g : ℕ → Bool = λ k. ltb 0 k && not (eqb (get_or a.ends (k - 1) 0 + 1) (a.t + 2 * a.delta)) in
     elim c.if-size_of-fresh.branch [
-      | inl w ↦ (omega arith, omega arith, rw w.1 (set_more g h.r h.x h.invariant.2 (omega arith) (rw (lt-ltb 0 h.x h.invariant.0, ← c.size_of.ensures.0, ne_eqb _ _ w.0.taken))))
-      | inr w ↦ (omega arith, omega arith, rw w.1 (set_same g h.r h.x h.invariant.2 (rw (lt-ltb 0 h.x h.invariant.0, ← c.size_of.ensures.0, eq-eqb _ _ w.0.left))))
+      | then-size_of-fresh w ↦ (omega arith, omega arith, rw w.r-is (set_more g h.r h.x h.invariant.2 (omega arith) (rw (lt-ltb 0 h.x h.invariant.0, ← c.size_of.ensures.0, ne_eqb _ _ w.if-size_of-fresh.true))))
+      | else-size_of-fresh w ↦ (omega arith, omega arith, rw w.r-is (set_same g h.r h.x h.invariant.2 (rw (lt-ltb 0 h.x h.invariant.0, ← c.size_of.ensures.0, eq-eqb _ _ w.if-size_of-fresh.false))))
     ]
+
+pub loop-x-init : goal.loop-x-init
+loop-x-init c = (search rules, search rules, set_none _)
+
+pub returns : goal.returns
+unfolding live_at
+returns c = let e : c.loop-x.x ≡ requesters = omega (arith, c.loop-x-test.false, c.loop-x.invariant.1) in fun_ext (rw e at c.loop-x.invariant.2)

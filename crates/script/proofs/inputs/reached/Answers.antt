@@ -13,3 +13,6 @@ pub loop-p-preserved : goal.loop-p-preserved
 loop-p-preserved c = let h = c.loop-p in
     let a = c.args in
     (omega arith, search rules, each_more (λ k v. v ≡ reached_of a.work.now a.t k) h.r h.p _ (omega arith) c.reached.ensures h.invariant.2)
+
+pub returns : goal.returns
+returns c = record { each = λ p l. c.loop-p.invariant.2 p (omega (arith, c.loop-p-test.false)) }
