@@ -12,6 +12,7 @@ use Rattle.plan.proofs.Laws.{all_none, all_more, all_stop, all_end}
 use Rattle.bits.proofs.Records.{record_inside}
 use Rattle.answers.specs.Answers.{answer_size}
 use Rattle.fitting.specs.Fitting.{fits_read}
+use Rattle.fitting.proofs.all_fit.Invariants.{fits}
 use Rattle.fitting.proofs.all_fit.Goals as goal
 
 pub loop-i-init : goal.loop-i-init

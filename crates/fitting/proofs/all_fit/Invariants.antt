@@ -15,7 +15,7 @@ use Rattle.fitting.specs.Fitting.{fits_read}
 use Rattle.fitting.proofs.all_fit.Given as goal
 
 -- answer i fits its read
-abbrev fits : ℕ → List ℕ → List ℕ → List ℕ → ℕ → Bool
+abbrev pub fits : ℕ → List ℕ → List ℕ → List ℕ → ℕ → Bool
 fits width answers begun reader i = fits_read width answers i (get_or begun i 0) (get_or reader i 0)
 
 abbrev pub invariant-loop-i : goal.invariant-loop-i
