@@ -1,6 +1,6 @@
 // The receipts of WRITEs by servers that are not faulty when these arrive.
 ghost use Rattle.std.specs.Prelude.{◌≡◌, not, ℕ, ◌-◌, ◌≤◌, ◌<◌, length, get_or};
-ghost use Rattle.register.specs.Lists.{one-if, count};
+ghost use Rattle.register.specs.Lists.{one_if, count};
 ghost use Rattle.plan.specs.{Form.most_width, Header.header_of, Packed.plan_of, Playable.Playable, Shape.shape, Shape.Sized};
 ghost use Rattle.limits.specs.Limits.{most_servers};
 ghost use Rattle.limits.specs.Bits.{bit};
@@ -35,7 +35,7 @@ fn in_force(plan: &[u8], h: Shape) -> [u16; TICKS]
 // 1 if the placement does not make server b faulty, else 0: server 0 is its top bit.
 fn free(placement: u16, b: usize) -> u32
     requires { b < most_servers }
-    ensures { (result ≡ one-if (not (bit (most_servers - 1 - b) placement))) × (result ≤ 1) }
+    ensures { (result ≡ one_if (not (bit (most_servers - 1 - b) placement))) × (result ≤ 1) }
 {
     1 - ((placement >> (SERVERS - 1 - b)) % 2) as u32
 }

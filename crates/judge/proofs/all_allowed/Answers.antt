@@ -15,26 +15,18 @@ use Rattle.bits.proofs.Records.{record_inside}
 use Rattle.answers.specs.Answers.{answer_size, begin_in, pair_in}
 use Rattle.results.specs.Judge.{read_of}
 use Rattle.regular.specs.Tables.{Tables}
-use Rattle.judge.proofs.all_allowed.Goals.{In-loop-i}
+use Rattle.judge.proofs.all_allowed.Invariants.{allowed_at, Begun}
+use Rattle.judge.proofs.all_allowed.Goals.{After-is_allowed, In-loop-i}
 use Rattle.judge.proofs.all_allowed.Goals as goal
 
--- answer i is allowed
-abbrev allowedAt : ℕ → Plan → List ℕ → ℕ → Bool
-allowedAt w P answers i = allowed P (read_of P i) (pair_in w answers i)
-
--- the reads of a plan begin as the answers say
-abbrev Begun : ℕ → Plan → List ℕ → ℕ → Type 0
-Begun w P answers count = (i : ℕ) → i < count → (read_of P i).begun ≡ begin_in w answers i
-
-tested : (c : tie.After-is-allowed invariant-loop decreases-loop) (P : Plan)
-    → Tables (entry c).args.width P (entry c).args.values.now (entry c).args.begun.now (entry c).args.m → P.delta ≡ (entry c).args.delta
-    → Begun (entry c).args.width P (entry c).args.answers.now (entry c).args.count
-    → allowedAt (entry c).args.width P (entry c).args.answers.now c.before.before.before.loop.i ≡ c.is-allowed.result
+tested : (c : After-is_allowed) (P : Plan)
+    → Tables c.args.width P c.args.values.now c.args.begun.now c.args.m → P.delta ≡ c.args.delta
+    → Begun c.args.width P c.args.answers.now c.args.count
+    → allowed_at c.args.width P c.args.answers.now c.loop-i.i ≡ c.is_allowed.result
 tested c P W d b =
-    let i = c.before.before.before.loop.i in
-    let is = c.before.read.ensures in
+    let is = c.read-answer.ensures in
     rw (← is.pair)
-    (sym (c.is-allowed.ensures (entry c).args.width P (read_of P i) is.value-hi W d (b i (omega arith) ∙ sym is.begin)))
+    (sym (c.is_allowed.ensures c.args.width P (read_of P c.loop-i.i) is.value_hi W d (b c.loop-i.i (omega arith) ∙ sym is.begin)))
 
 -- answer i lies in the buffer
 inside : (c : In-loop-i) → let a = c.args in
@@ -42,7 +34,7 @@ inside : (c : In-loop-i) → let a = c.args in
 inside c = omega (arith, c.requires.4, record_inside (answer_size c.args.width) c.loop-i.i c.args.count c.loop-i-test.true)
 
 pub loop-i-init : goal.loop-i-init
-loop-i-init c = (search rules, λ P W d b. all_none (allowedAt c.args.width P c.args.answers.now))
+loop-i-init c = (search rules, λ P W d b. all_none (allowed_at c.args.width P c.args.answers.now))
 
 pub read-answer-requires : goal.read-answer-requires
 read-answer-requires c = (inside (goal.at.read-answer-requires c).In-loop-i, omega (arith, c.requires.2, c.loop-i-test.true), c.requires.3)
@@ -51,15 +43,15 @@ pub returns-then-not-is_allowed : goal.returns-then-not-is_allowed
 returns-then-not-is_allowed c = λ P W d b.
     let a = c.args in
     let l = c.loop-i in
-    sym (all_stop (allowedAt a.width P a.answers.now) l.i a.count (omega arith) (tested c P W d b ∙ not-true _ c.if-not-is_allowed.true-raw))
+    sym (all_stop (allowed_at a.width P a.answers.now) l.i a.count (omega arith) (tested (goal.at.returns-then-not-is_allowed c).After-is_allowed P W d b ∙ not-true _ c.if-not-is_allowed.true-raw))
 
 pub loop-i-preserved : goal.loop-i-preserved
 loop-i-preserved c = let a = c.args in
     let l = c.loop-i in
-    (search rules, λ P W d b. all_more (allowedAt a.width P a.answers.now) l.i (l.invariant.1 P W d b) (tested c P W d b ∙ not-false _ c.if-not-is_allowed.false-raw))
+    (search rules, λ P W d b. all_more (allowed_at a.width P a.answers.now) l.i (l.invariant.1 P W d b) (tested (goal.at.loop-i-preserved c).After-is_allowed P W d b ∙ not-false _ c.if-not-is_allowed.false-raw))
 
 pub returns : goal.returns
 returns c = λ P W d b.
     let a = c.args in
     let l = c.loop-i in
-    all_end (allowedAt a.width P a.answers.now) l.i a.count (omega arith) (omega arith) (l.invariant.1 P W d b)
+    all_end (allowed_at a.width P a.answers.now) l.i a.count (omega arith) (omega arith) (l.invariant.1 P W d b)

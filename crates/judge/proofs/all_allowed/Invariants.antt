@@ -1,25 +1,27 @@
 -- `all_allowed` tests every answer's pair. The invariant: all answers passed are allowed, in every plan that the tables say.
-use mathlib.Core.Path.{◌≡◌, sym, ◌∙◌}
+use mathlib.Core.Path.{◌≡◌}
 use mathlib.Core.Bool.{Bool, true}
 use mathlib.Core.List.{List}
-use Prim.Native.Nat.{ℕ, ◌+◌, ◌*◌, ◌-◌, ◌≤◌, ◌<◌}
-use native.Mathlib.Omega.{arith}
-use borrow.Author.Rules.{rules}
-use borrow.Author.Tests.{not-true, not-false}
-use lib.ListN.{length}
+use Prim.Native.Nat.{ℕ, ◌-◌, ◌≤◌, ◌<◌}
 use Rattle.register.specs.Lists.{all_up_to}
 use Rattle.register.specs.Plan.{Plan}
 use Rattle.register.specs.Regular.{allowed}
-use Rattle.plan.proofs.Laws.{all_none, all_more, all_stop, all_end}
-use Rattle.bits.proofs.Records.{record_inside}
-use Rattle.answers.specs.Answers.{answer_size, begin_in, pair_in}
+use Rattle.answers.specs.Answers.{begin_in, pair_in}
 use Rattle.results.specs.Judge.{read_of}
 use Rattle.regular.specs.Tables.{Tables}
 use Rattle.judge.proofs.all_allowed.Given as goal
 
-abbrev Passed : List ℕ → ℕ → List ℕ → List ℕ → ℕ → ℕ → ℕ → ℕ → Type 0
+-- answer i is allowed
+abbrev pub allowed_at : ℕ → Plan → List ℕ → ℕ → Bool
+allowed_at w P answers i = allowed P (read_of P i) (pair_in w answers i)
+
+-- the reads of a plan begin as the answers say
+abbrev pub Begun : ℕ → Plan → List ℕ → ℕ → Type 0
+Begun w P answers count = (i : ℕ) → i < count → (read_of P i).begun ≡ begin_in w answers i
+
+abbrev pub Passed : List ℕ → ℕ → List ℕ → List ℕ → ℕ → ℕ → ℕ → ℕ → Type 0
 Passed answers width values begun m delta count i =
-    (P : Plan) → Tables width P values begun m → P.delta ≡ delta → Begun width P answers count → all_up_to i (allowedAt width P answers) ≡ true
+    (P : Plan) → Tables width P values begun m → P.delta ≡ delta → Begun width P answers count → all_up_to i (allowed_at width P answers) ≡ true
 
 abbrev pub invariant-loop-i : goal.invariant-loop-i
 invariant-loop-i l = (l.i ≤ l.count) × Passed l.answers l.width l.values l.begun l.m l.delta l.count l.i

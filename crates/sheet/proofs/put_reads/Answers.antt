@@ -44,7 +44,7 @@ loop-i-preserved c = let T = c.of_plan-times.ensures in
     let p = c.put_line-next in
     let more : c.loop-i.i < c.args.count = c.loop-i-test.true in
     let line = c.line_of-line.ensures c.args.plan.now _ c.args.count c.requires.2 more T.tables T.delta_is in
-    (omega (arith, more), p.auto.0 ∙ c.loop-i.invariant.1, rw (add-one c.loop-i.i) (stored_then c.loop-i.invariant.2 (rw line at p.ensures)))
+    (omega (arith, more), p.auto.page ∙ c.loop-i.invariant.1, rw (add-one c.loop-i.i) (stored_then c.loop-i.invariant.2 (rw line at p.ensures)))
 
 pub returns : goal.returns
 returns c = let all : c.loop-i.i ≡ c.args.count = omega arith in rw all at c.loop-i.invariant.2

@@ -7,6 +7,7 @@ use native.Mathlib.Omega.{arith}
 use lib.ListN.{get_or}
 use borrow.Author.Rules.{rules}
 use Rattle.traffic.specs.Traffic.{largest}
+use Rattle.forecast.proofs.arrivals.highest.Goals.{then-r-x, else-r-x}
 use Rattle.forecast.proofs.arrivals.highest.Goals as goal
 
 pub loop-t-init : goal.loop-t-init
@@ -16,10 +17,10 @@ loop-t-init c = (search rules, refl)
 pub loop-t-preserved : goal.loop-t-preserved
 unfolding largest
 loop-t-preserved c = let l = c.loop-t in
-    ⊎_elim
-    (λ w. (search rules, w.1 ∙ rw (add-one l.t) (omega (arith, w.0.taken, l.invariant.1))))
-    (λ w. (search rules, w.1 ∙ rw (add-one l.t) (omega (arith, w.0.left, l.invariant.1))))
-    c.if-r-x.branch
+    elim c.if-r-x.branch [
+      | then-r-x w ↦ (search rules, w.r-is ∙ rw (add-one l.t) (omega (arith, w.if-r-x.true, l.invariant.1)))
+      | else-r-x w ↦ (search rules, w.r-is ∙ rw (add-one l.t) (omega (arith, w.if-r-x.false, l.invariant.1)))
+    ]
 
 pub returns : goal.returns
 returns c = let e : c.loop-t.t ≡ c.args.ticks = omega arith in

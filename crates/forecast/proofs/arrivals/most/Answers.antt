@@ -18,10 +18,10 @@ pub counted-table-requires : goal.counted-table-requires
 counted-table-requires c = legible c.args.h.width c.args.plan.now c.requires.0 c.args.h c.requires.2 _ c.forgeries_at-at.ensures.0 _ c.links_of.ensures c.requires.1
 
 pub highest-requires : goal.highest-requires
-highest-requires c = (c.counted-table.ensures.size, (shape_ranged c.args.h.width c.args.plan.now c.requires.0 c.args.h c.requires.2).ticks-hi)
+highest-requires c = (c.counted-table.ensures.size, (shape_ranged c.args.h.width c.args.plan.now c.requires.0 c.args.h c.requires.2).ticks_hi)
 
 pub returns : goal.returns
 returns c = let at = c.forgeries_at-at in
     c.highest.ensures
     ∙ most_arriving c.args.h.width c.args.plan.now c.requires.0 c.args.h c.requires.2 _ at.ensures.0 _ c.links_of.ensures
-    _ c.args.h.ticks (shape_ranged c.args.h.width c.args.plan.now c.requires.0 c.args.h c.requires.2).ticks-hi c.counted-table.ensures
+    _ c.args.h.ticks (shape_ranged c.args.h.width c.args.plan.now c.requires.0 c.args.h c.requires.2).ticks_hi c.counted-table.ensures
