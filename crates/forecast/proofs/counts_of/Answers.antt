@@ -57,7 +57,7 @@ sized c =
     let ranged : Ranged (shape c.read-h.result) = shape_ranged c.args.width c.args.plan.now (plays) c.read-h.result (same) in
     let few : c.args.reads ≤ c.read-h.result.operations = omega (arith, reads_counted c.args.width _ c.args.reads c.requires.0, operations_are c.args.width c.args.plan.now (plays), ap (λ (h : Header). h.operations) (same)) in
     let size : c.size.result ≤ 6 = rw c.size.ensures (answer_few c.args.width c.requires.1) in
-    mul-le-mul {n₂ = 6} {m₂ = 255} size (omega (arith, few, (ranged).operations-hi))
+    mul-le-mul {n₂ = 6} {m₂ = 255} size (omega (arith, few, (ranged).operations_hi))
 
 pub read-h-requires : goal.read-h-requires
 read-h-requires c = (header_there c.args.width c.args.plan.now (plays (goal.at.read-h-requires c).Start), c.requires.1)
@@ -75,22 +75,22 @@ pub moves-requires : goal.moves-requires
 moves-requires c = ranged (goal.at.moves-requires c).After-read-h
 
 pub overflow_mul-result-2 : goal.overflow_mul-result-2
-overflow_mul-result-2 c = record { fits = small _ _ (ranged (goal.at.overflow_mul-result-2 c).After-read-h).n-hi (omega (arith, (ranged (goal.at.overflow_mul-result-2 c).After-read-h).operations-hi)) }
+overflow_mul-result-2 c = record { fits = small _ _ (ranged (goal.at.overflow_mul-result-2 c).After-read-h).n_hi (omega (arith, (ranged (goal.at.overflow_mul-result-2 c).After-read-h).operations_hi)) }
 
 pub overflow_cast-result-4 : goal.overflow_cast-result-4
-overflow_cast-result-4 c = omega (arith, few (goal.at.overflow_cast-result-4 c).After-read-h, (ranged (goal.at.overflow_cast-result-4 c).After-read-h).operations-hi)
+overflow_cast-result-4 c = omega (arith, few (goal.at.overflow_cast-result-4 c).After-read-h, (ranged (goal.at.overflow_cast-result-4 c).After-read-h).operations_hi)
 
 pub overflow_mul-result-3 : goal.overflow_mul-result-3
-overflow_mul-result-3 c = record { fits = small _ _ (ranged (goal.at.overflow_mul-result-3 c).After-read-h).n-hi (omega (arith, few (goal.at.overflow_mul-result-3 c).After-read-h, (ranged (goal.at.overflow_mul-result-3 c).After-read-h).operations-hi)) }
+overflow_mul-result-3 c = record { fits = small _ _ (ranged (goal.at.overflow_mul-result-3 c).After-read-h).n_hi (omega (arith, few (goal.at.overflow_mul-result-3 c).After-read-h, (ranged (goal.at.overflow_mul-result-3 c).After-read-h).operations_hi)) }
 
 pub overflow_sub-result : goal.overflow_sub-result
-overflow_sub-result c = omega (arith, (ranged (goal.at.overflow_sub-result c).After-read-h).n-lo)
+overflow_sub-result c = omega (arith, (ranged (goal.at.overflow_sub-result c).After-read-h).n_lo)
 
 pub all-requires : goal.all-requires
 all-requires c = asked (goal.at.all-requires c).After-read-h
 
 pub overflow_mul-result-4 : goal.overflow_mul-result-4
-overflow_mul-result-4 c = record { fits = small _ _ (omega (arith, (ranged (goal.at.overflow_mul-result-4 c).After-read-h).n-hi)) c.all.ensures.1 }
+overflow_mul-result-4 c = record { fits = small _ _ (omega (arith, (ranged (goal.at.overflow_mul-result-4 c).After-read-h).n_hi)) c.all.ensures.1 }
 
 pub most-requires : goal.most-requires
 most-requires c = asked (goal.at.most-requires c).After-read-h

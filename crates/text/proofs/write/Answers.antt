@@ -58,5 +58,5 @@ put_lines-requires c = let d = by-play (goal.at.put_lines-requires c).After-of_o
 
 pub returns : goal.returns
 returns c = let first = c.put_first-start.ensures.0 in
-    let text = (by-play (goal.at.returns c).After-of_outcome-code).reads-text c.if-code-ge-REFUSED.false in
+    let text = (by-play (goal.at.returns c).After-of_outcome-code).reads_text c.if-code-ge-REFUSED.false in
     ends _ (stored_as text (stored_then first c.put_lines.ensures))

@@ -82,7 +82,7 @@ loop-j-preserved c = let found =
     c.receipts-r.ensures.0
     ∙ sent_receipts _ _ _ c.size_of-t.result 0 c.of-sending.result c.in_force-placements.result (sends (goal.at.loop-j-preserved c).After-of-sending)
     ∙ ap (receipts_by c.args.plan.now c.links_of-links.result c.args.h.n c.in_force-placements.result) c.size_of-t.ensures.0 in
-    (search rules, omega (arith, c.receipts-r.ensures.1), rw (add-one c.loop-j.j) (omega (arith, found, c.loop-j.inv.2)))
+    (search rules, omega (arith, c.receipts-r.ensures.1), rw (add-one c.loop-j.j) (omega (arith, found, c.loop-j.invariant.2)))
 
 pub returns : goal.returns
 returns c = let e : c.loop-j.j ≡ c.args.writes.known.m - 1 = omega arith in (
