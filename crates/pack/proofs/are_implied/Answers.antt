@@ -1,7 +1,6 @@
 -- `are_implied` meets its contract.
 use native.Mathlib.Nat.{one-mul}
 use Rattle.pack.specs.Pack.{lengths_implied}
-use borrow.Author.Rules.{rules}
 use Rattle.pack.proofs.are_implied.Goals as goal
 
 pub returns : goal.returns

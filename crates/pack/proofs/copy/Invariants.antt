@@ -1,13 +1,8 @@
 -- `copy` meets its contract: so many bytes of the plan, then the rest of the buffer.
-use mathlib.Core.Path.{◌≡◌, ◌∙◌}
+use mathlib.Core.Path.{◌≡◌}
 use mathlib.Core.List.{◌++◌}
 use Prim.Native.Nat.{◌-◌, ◌≤◌}
-use native.Mathlib.Numerals.{add-one}
-use native.Mathlib.Omega.{arith}
 use lib.ListN.{length, take, drop}
-use lib.Seq.{take_all}
-use borrow.Author.Rules.{rules}
-use Rattle.register.proofs.Lists.{copy_more}
 use Rattle.pack.proofs.copy.Given as goal
 
 abbrev pub invariant-loop-i : goal.invariant-loop-i

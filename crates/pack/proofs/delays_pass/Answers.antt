@@ -4,7 +4,6 @@ use native.Mathlib.Omega.{arith}
 use lib.ListN.{length}
 use Rattle.plan.specs.Header.{delay_count}
 use Rattle.plan.specs.Shape.{shape}
-use borrow.Author.Rules.{rules}
 use Rattle.pack.proofs.delays_pass.Goals as goal
 
 pub returns : goal.returns

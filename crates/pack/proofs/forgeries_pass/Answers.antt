@@ -2,7 +2,6 @@
 use Rattle.records.specs.Records.{no_wider}
 use borrow.Author.Tests.{le-leb}
 use native.Mathlib.Omega.{arith}
-use borrow.Author.Rules.{rules}
 use Rattle.pack.proofs.forgeries_pass.Goals as goal
 
 pub fits_all-requires : goal.fits_all-requires

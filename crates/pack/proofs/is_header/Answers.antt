@@ -7,7 +7,6 @@ use Rattle.bits.specs.Layout.{fits}
 use Rattle.bits.proofs.Packing.{fits_not}
 use Rattle.records.specs.Records.{no_wider}
 use Rattle.plan.specs.Widths.{header_widths}
-use borrow.Author.Rules.{rules}
 use Rattle.pack.proofs.is_header.Goals as goal
 
 pub returns-then-numbers-ne-HEADER_FIELDS : goal.returns-then-numbers-ne-HEADER_FIELDS

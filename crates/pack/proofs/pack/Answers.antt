@@ -1,6 +1,5 @@
 -- `pack` meets its contract: in a form that there is, it is Pack at the form's width.
 use mathlib.Core.Path.{◌∙◌, sym}
-use borrow.Author.Rules.{rules}
 use borrow.Author.Tests.{not-true, not-false}
 use Rattle.pack.specs.Numbered.{lists_from}
 use Rattle.pack.proofs.Tests.{form_packs, no_form_packs}

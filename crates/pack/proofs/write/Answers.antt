@@ -10,7 +10,6 @@ use Rattle.plan.specs.Shape.{shape}
 use Rattle.plan.proofs.Sizes.{delays_few, width_times}
 use Rattle.pack.specs.Numbered.{lists_from}
 use Rattle.pack.proofs.Writes.{all_written}
-use borrow.Author.Rules.{rules}
 use Rattle.pack.proofs.write.Goals.{Start}
 use Rattle.pack.proofs.write.Goals as goal
 
