@@ -4,7 +4,7 @@ use mathlib.Core.{Path.◌≡◌, Path.refl, Path.sym, Path.◌∙◌, Path.fun_
 use mathlib.Core.Bool.{Bool, true, false, not, ◌&&◌, ◌||◌, cond, and-false, or-false}
 use Prim.Native.Nat.{ℕ, ◌/◌, ◌%◌, ◌≤◌, ◌<◌}
 use native.Mathlib.Omega.{arith}
-use lib.{Bits.bitAnd, Dec.eqb, Dec.ltb}
+use lib.{Bits.bit_and, Dec.eqb, Dec.ltb}
 use borrow.Author.Tests.{le-ltb, ne_eqb, eqb-true, ltb-true, not-false}
 use Rattle.register.specs.Server.{is_faulty, is_correct}
 use Rattle.register.specs.Lists.{member}
@@ -45,15 +45,15 @@ silent_sends plan from ends x j l = sends_none plan from ends silent x j (rw (ne
 -- ---- its stage
 
 -- what it means that nothing reaches a server: `high` is its row's, `asked` whether some request reaches it
-pub unreached : (any : Bool) (high : ℕ) (asked : Bool) (pending live : ℕ) → any ≡ (not (eqb high 0) || (asked || not (eqb (bitAnd pending live) pending))) → any ≡ false
-    → (high ≡ 0) × (asked ≡ false) × (bitAnd pending live ≡ pending)
+pub unreached : (any : Bool) (high : ℕ) (asked : Bool) (pending live : ℕ) → any ≡ (not (eqb high 0) || (asked || not (eqb (bit_and pending live) pending))) → any ≡ false
+    → (high ≡ 0) × (asked ≡ false) × (bit_and pending live ≡ pending)
 unreached any high asked pending live e none =
     let a = neither (not (eqb high 0)) _ (sym e ∙ none) in
     let b = neither asked _ a.1 in
-    (eqb-true high 0 (not-false _ a.0), b.0, eqb-true (bitAnd pending live) pending (not-false _ b.1))
+    (eqb-true high 0 (not-false _ a.0), b.0, eqb-true (bit_and pending live) pending (not-false _ b.1))
 
 -- a read drops out of its list only if it is not live
-pub none_drops : (pending live : ℕ) → bitAnd pending live ≡ pending → ◌≡◌ {A = ℕ → Bool} (λ x. bit x pending && bit x live) (λ x. bit x pending)
+pub none_drops : (pending live : ℕ) → bit_and pending live ≡ pending → ◌≡◌ {A = ℕ → Bool} (λ x. bit x pending && bit x live) (λ x. bit x pending)
 none_drops pending live e = fun_ext (λ x. sym (limits-laws.Bits.bit_and_lem x pending live) ∙ rw e)
 
 module _ (m e r w : ℕ) (got : ℕ → ℕ → Bool) (asks live : ℕ → Bool) (s : Plain) (K : Settled m e r s) (few : m ≤ places) (none : (j i : ℕ) → j < m → got j i ≡ false)
@@ -79,7 +79,7 @@ module _ (m e r w : ℕ) (got : ℕ → ℕ → Bool) (asks live : ℕ → Bool)
         joined_none s.fresh,
         joined_none s.recent,
         le-ltb w m (omega arith),
-        serving-laws.Settled.Taken-none (voting e r s.fresh s.recent) m s.kept K.same,
+        serving-laws.Settled.taken_none (voting e r s.fresh s.recent) m s.kept K.same,
         same-list,
         stores-laws.StoreLaws.same_as_itself s.kept,
         no-replies (is_correct s.status) s.pending,

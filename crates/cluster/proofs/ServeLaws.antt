@@ -242,7 +242,7 @@ module _ (F : Fed) (ends values : List ℕ) (c : List Server) (sets : List ℕ) 
         (or-false (sender F.work (row_of F.t b) j i))
 
     first : first_of (feed_at F work) b (server F.m then b (get_or r b absent)) ≡ first_of F b (server_at F.m sets c b)
-    first = rw same (serving-laws.StageLaws.one-Alike F.m F.rules.echo F.rules.reply (wrote_at F.arrivals.requests F.arrivals.number b)
+    first = rw same (serving-laws.StageLaws.one_alike F.m F.rules.echo F.rules.reply (wrote_at F.arrivals.requests F.arrivals.number b)
         (sender work (row_of F.t b)) (sender F.work (row_of F.t b)) (asks_at F.arrivals.requests b) (λ x. bit x F.arrivals.live) (server_at F.m sets c b)
         (λ j i l. still j i (omega (arith, Z.pairs))))
 

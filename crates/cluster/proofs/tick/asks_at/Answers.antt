@@ -1,8 +1,7 @@
 -- `tick::asks_at` meets its contract. The loop's invariant: the set has the readers passed whose READ reaches the server.
 use mathlib.Core.Path.{◌≡◌, sym, ◌∙◌, fun_ext}
 use mathlib.Core.Bool.{Bool, ◌&&◌}
-use mathlib.Core.Logic.{inl, inr}
-use Prim.Native.Nat.{ℕ, ◌-◌, ◌≤◌}
+use Prim.Native.Nat.{ℕ}
 use native.Mathlib.Omega.{arith}
 use lib.Dec.{ltb}
 use lib.ListN.{get_or}
@@ -19,10 +18,10 @@ loop-x-init c = (search rules, search rules, set_none _)
 pub loop-x-preserved : goal.loop-x-preserved
 loop-x-preserved c = let h = c.loop-x in
     let a = c.args in
-    let g : ℕ → Bool = λ k. ltb 0 k && bit a.b (get_or a.t1 k 0) in
+    let g : ℕ → Bool = λ k. ltb 0 k && bit a.b (get_or a.requests k 0) in
     elim c.if-has.branch [
-      | inl w ↦ (omega arith, omega arith, rw w.1 (set_more g h.r h.x h.invariant.2 (omega arith) (rw (lt-ltb 0 h.x h.invariant.0) (sym c.has.ensures ∙ w.0.taken))))
-      | inr w ↦ (omega arith, omega arith, rw w.1 (set_same g h.r h.x h.invariant.2 (rw (lt-ltb 0 h.x h.invariant.0) (sym c.has.ensures ∙ w.0.left))))
+      | goal.then-has w ↦ (omega arith, omega arith, rw w.r-is (set_more g h.r h.x h.invariant.2 (omega arith) (rw (lt-ltb 0 h.x h.invariant.0) (sym c.has.ensures ∙ w.if-has.true))))
+      | goal.else-has w ↦ (omega arith, omega arith, rw w.r-is (set_same g h.r h.x h.invariant.2 (rw (lt-ltb 0 h.x h.invariant.0) (sym c.has.ensures ∙ w.if-has.false))))
     ]
 
 pub returns : goal.returns

@@ -1,16 +1,11 @@
 -- `tick::asks_at` meets its contract. The loop's invariant: the set has the readers passed whose READ reaches the server.
-use mathlib.Core.Path.{◌≡◌, sym, ◌∙◌, fun_ext}
-use mathlib.Core.Bool.{Bool, ◌&&◌}
-use mathlib.Core.Logic.{inl, inr}
+use mathlib.Core.Path.{◌≡◌}
+use mathlib.Core.Bool.{◌&&◌}
 use Prim.Native.Nat.{ℕ, ◌-◌, ◌≤◌}
-use native.Mathlib.Omega.{arith}
 use lib.Dec.{ltb}
 use lib.ListN.{get_or}
-use borrow.Author.Rules.{rules}
-use borrow.Author.Tests.{lt-ltb}
 use Rattle.limits.specs.Bits.{bit}
-use Rattle.cluster.specs.Inputs.{requesters, asks_at}
-use Rattle.cluster.proofs.Asking.{set_none, set_more, set_same}
+use Rattle.cluster.specs.Inputs.{requesters}
 use Rattle.cluster.proofs.tick.asks_at.Given as goal
 
 abbrev pub invariant-loop-x : goal.invariant-loop-x

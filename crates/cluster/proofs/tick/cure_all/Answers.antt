@@ -1,11 +1,9 @@
 -- `tick::cure_all` meets its contract. The loop's invariant: the cures of the servers before b have ended.
 use mathlib.Core.Path.{◌≡◌, sym, ◌∙◌}
-use mathlib.Core.Logic.{inl, inr}
-use Prim.Native.Nat.{◌-◌, ◌≤◌, ◌<◌}
+use Prim.Native.Nat.{◌<◌}
 use native.Mathlib.Omega.{arith}
 use native.Mathlib.Numerals.{add-one}
-use borrow.Author.Rules.{rules}
-use Rattle.cluster.proofs.StageRuns.{Curing, curing_none, curing_more, curing_same, curing_all}
+use Rattle.cluster.proofs.StageRuns.{curing_more, curing_same, curing_all}
 use Rattle.cluster.proofs.tick.cure_all.Goals.{In-loop-b}
 use Rattle.cluster.proofs.tick.cure_all.Goals as goal
 
@@ -22,9 +20,9 @@ pub loop-b-preserved : goal.loop-b-preserved
 loop-b-preserved c = let l = c.loop-b in (
   omega (arith, c.loop-b-test.true),
   elim c.if-is_cured_at.branch [
-    | inl w ↦ rw (w.8, w.9) (curing_more _ _ _ _ _ _ _ _ _ _ l.b l.invariant.1 (omega (arith, few (goal.at.loop-b-preserved c).In-loop-b, c.well_formed.0.1.0.1)) (sym c.is_cured_at.ensures ∙ w.0.taken)
-        w.1.result w.1.ensures w.4.result w.4.ensures _ w.5.ensures)
-    | inr w ↦ rw (w.1, w.2) (curing_same _ _ _ _ _ _ _ _ _ _ l.b l.invariant.1 (sym c.is_cured_at.ensures ∙ w.0.left))
+    | goal.then-is_cured_at w ↦ rw (w.work-is, w.after-is) (curing_more _ _ _ _ _ _ _ _ _ _ l.b l.invariant.1 (omega (arith, few (goal.at.loop-b-preserved c).In-loop-b)) (sym c.is_cured_at.ensures ∙ w.if-is_cured_at.true)
+        w.cure_end.result w.cure_end.ensures w.sender.result w.sender.ensures _ w.reply.ensures)
+    | goal.else-is_cured_at w ↦ rw (w.work-is, w.after-is) (curing_same _ _ _ _ _ _ _ _ _ _ l.b l.invariant.1 (sym c.is_cured_at.ensures ∙ w.if-is_cured_at.false))
   ],
 )
 

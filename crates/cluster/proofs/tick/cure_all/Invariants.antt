@@ -1,11 +1,6 @@
 -- `tick::cure_all` meets its contract. The loop's invariant: the cures of the servers before b have ended.
-use mathlib.Core.Path.{◌≡◌, sym, ◌∙◌}
-use mathlib.Core.Logic.{inl, inr}
-use Prim.Native.Nat.{◌-◌, ◌≤◌, ◌<◌}
-use native.Mathlib.Omega.{arith}
-use native.Mathlib.Numerals.{add-one}
-use borrow.Author.Rules.{rules}
-use Rattle.cluster.proofs.StageRuns.{Curing, curing_none, curing_more, curing_same, curing_all}
+use Prim.Native.Nat.{◌-◌, ◌≤◌}
+use Rattle.cluster.proofs.StageRuns.{Curing}
 use Rattle.cluster.proofs.tick.cure_all.Given as goal
 
 abbrev pub invariant-loop-b : goal.invariant-loop-b

@@ -1,6 +1,5 @@
 -- `tick::deliver` meets its contract: a faulty server loses what arrives, another one does stage 1, votes and replies.
 use mathlib.Core.Path.{sym, ◌∙◌}
-use borrow.Author.Rules.{rules}
 use native.Mathlib.Omega.{arith}
 use Rattle.cluster.proofs.ServeLaws.{reached_lost, reached_now, reached_unread}
 use Rattle.cluster.proofs.tick.deliver.Goals as goal

@@ -1,43 +1,41 @@
 -- `tick::deliver_all` meets its contract. The loop's invariant: the servers passed have what arrives, the others are as they were.
 use mathlib.Core.Path.{◌≡◌, sym, ap, ◌∙◌}
-use mathlib.Core.Logic.{inl, inr}
 use mathlib.Core.Bool.{Bool}
-use Prim.Native.Nat.{ℕ, ◌-◌, ◌≤◌, ◌<◌}
+use Prim.Native.Nat.{ℕ, ◌<◌}
 use native.Mathlib.Omega.{arith}
 use lib.ListN.{length, get_or}
 use borrow.Author.Rules.{rules}
-use Rattle.limits.specs.Limits.{most_servers}
 use Rattle.serving.specs.Stored.{absent}
 use Rattle.cluster.specs.Tick.{feed_of}
 use Rattle.cluster.proofs.RowLaws.{emptied_now, sized_after}
 use Rattle.cluster.proofs.IdleLaws.{unreached}
-use Rattle.cluster.proofs.ServeLaws.{Passed, Serving, serving_none, serving_settled, deliver_needs, served_now, served_idle, passed_idle, served_spans, served_empty, serving_turn}
+use Rattle.cluster.proofs.ServeLaws.{Passed, serving_none, serving_settled, deliver_needs, served_now, served_idle, passed_idle, served_spans, served_empty, serving_turn}
 use Rattle.cluster.proofs.tick.deliver_all.Goals.{Joined-is_reached, Start}
 use Rattle.cluster.proofs.tick.deliver_all.Goals as goal
 
---? size : (s : tie.Start invariant-loop decreases-loop) → length s.args.before ≡ 16
---? size s = s.well-formed.0.1.0.1
+size : (s : Start) → length s.args.before ≡ 16
+size s = omega arith
 
 -- the server has what arrives, or nothing reaches it
 middle : (c : Joined-is_reached) → let l = c.loop-b in
     Passed (feed_of c.args.plan.now l.work c.args.feed) c.args.ends c.args.values.now l.b l.after c.if-is_reached.after l.sets c.if-is_reached.sets c.if-is_reached.work
 middle c = let l = c.loop-b in
     elim c.if-is_reached.branch [
-      | inl y ↦ record {
-        next = y.5.result;
-        put = y.12;
-        served = rw (y.10, y.11) (served_now _ l.work c.args.feed _ _ l.b _ _ l.sets _ _ y.3.result y.4.result y.3.ensures y.4.ensures y.5.ensures);
+      | goal.then-is_reached y ↦ record {
+        next = y.deliver.result;
+        put = y.after-is;
+        served = rw (y.work-is, y.sets-is) (served_now _ l.work c.args.feed _ _ l.b _ _ l.sets _ _ y.turn_of.result y.sender.result y.turn_of.ensures y.sender.ensures y.deliver.ensures);
       }
-      | inr y ↦
+      | goal.else-is_reached y ↦
           let S = l.invariant.2 in
           let own = c.loop-b-test.true in
           let all = ap (λ (f : ℕ → Bool). f l.b) c.together-due.ensures in
-          let e = unreached _ _ _ _ _ c.is_reached.ensures y.0.left in
-          rw (y.1, y.2, y.3) (passed_idle (feed_of c.args.plan.now l.work c.args.feed) _ _ l.b l.after l.sets
+          let e = unreached _ _ _ _ _ c.is_reached.ensures y.if-is_reached.false in
+          rw (y.work-is, y.sets-is, y.after-is) (passed_idle (feed_of c.args.plan.now l.work c.args.feed) _ _ l.b l.after l.sets
           (served_idle _ _ _ l.b _ l.sets (omega (arith, own, c.requires.0.servers)) c.requires.0.pairs S.done.spans
           (rw c.row-row.ensures.0 at (sym c.high-high.ensures.0 ∙ e.0))
           (sym all ∙ (sym c.has.ensures ∙ e.1)) e.2
-          (serving_settled _ _ _ _ _ c.requires.0 l.after l.sets l.work l.b own (size) S c.requires.3)))
+          (serving_settled _ _ _ _ _ c.requires.0 l.after l.sets l.work l.b own (omega arith) S c.requires.3)))
     ]
 
 pub loop-b-init : goal.loop-b-init
@@ -81,12 +79,12 @@ loop-b-preserved c = let m = middle (goal.at.loop-b-preserved c).Joined-is_reach
       omega (arith, own),
       l.invariant.1,
       elim c.if-high-ne0.branch [
-        | inl y ↦
+        | goal.then-high-ne0 y ↦
             let spans = served_spans _ _ _ _ _ c.requires.0 l.after l.sets l.work l.b own (size (goal.at.loop-b-preserved c).Start) l.invariant.2 _ _ _ m in
-            rw y.5 (next _ (emptied_now _ _ spans _ (rw row.ensures.0 at y.2.ensures)))
-        | inr y ↦
-            let none = rw row.ensures.0 at (sym high.ensures.0 ∙ y.0.left) in
-            rw y.1 (next _ (served_empty _ _ _ _ _ c.requires.0 l.after l.sets l.work l.b own (size (goal.at.loop-b-preserved c).Start) l.invariant.2 _ _ _ m none))
+            rw y.work-is (next _ (emptied_now _ _ spans _ (rw row.ensures.0 at y.clear.ensures)))
+        | goal.else-high-ne0 y ↦
+            let none = rw row.ensures.0 at (sym high.ensures.0 ∙ y.if-high-ne0.false) in
+            rw y.work-is (next _ (served_empty _ _ _ _ _ c.requires.0 l.after l.sets l.work l.b own (size (goal.at.loop-b-preserved c).Start) l.invariant.2 _ _ _ m none))
       ],
     )
 

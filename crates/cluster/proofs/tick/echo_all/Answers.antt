@@ -1,12 +1,10 @@
 -- `tick::echo_all` meets its contract. The loop's invariant: the servers before b have echoed.
 use mathlib.Core.Path.{◌≡◌, sym, ◌∙◌}
-use mathlib.Core.Logic.{inl, inr}
-use Prim.Native.Nat.{◌-◌, ◌≤◌, ◌<◌}
+use Prim.Native.Nat.{◌<◌}
 use native.Mathlib.Omega.{arith}
 use native.Mathlib.Numerals.{add-one}
-use borrow.Author.Rules.{rules}
 use borrow.Author.Tests.{not-true, not-false}
-use Rattle.cluster.proofs.StageRuns.{Echoing, echoes_still, echoing_none, echoing_more, echoing_same}
+use Rattle.cluster.proofs.StageRuns.{echoes_still, echoing_more, echoing_same}
 use Rattle.cluster.proofs.tick.echo_all.Goals.{In-loop-b}
 use Rattle.cluster.proofs.tick.echo_all.Goals as goal
 
@@ -15,7 +13,7 @@ few c = omega (arith, c.loop-b-test.true, c.requires.servers)
 
 pub returns-then-not-feed : goal.returns-then-not-feed
 returns-then-not-feed c = let a = c.args in
-    echoes_still a.plan.now a.feed.links a.feed.rules a.feed.t a.feed.movement a.t1 _ (not-true a.feed.movement.moving c.if-not-feed.true)
+    echoes_still a.plan.now a.feed.links a.feed.rules a.feed.t a.feed.movement a.servers _ (not-true a.feed.movement.moving c.if-not-feed.true)
 
 pub echo-requires : goal.echo-requires
 echo-requires c = (
@@ -27,8 +25,8 @@ pub loop-b-preserved : goal.loop-b-preserved
 loop-b-preserved c = let l = c.loop-b in (
   omega (arith, c.loop-b-test.true),
   elim c.if-is_correct.branch [
-    | inl w ↦ rw w.7 (echoing_more _ _ _ _ _ _ _ _ l.b l.invariant.1 (not-false _ c.if-not-feed.false) (sym c.is_correct.ensures ∙ w.0.taken) w.3.result w.3.ensures _ w.4.ensures)
-    | inr w ↦ rw w.1 (echoing_same _ _ _ _ _ _ _ _ l.b l.invariant.1 (sym c.is_correct.ensures ∙ w.0.left))
+    | goal.then-is_correct w ↦ rw w.work-is (echoing_more _ _ _ _ _ _ _ _ l.b l.invariant.1 (not-false _ c.if-not-feed.false) (sym c.is_correct.ensures ∙ w.if-is_correct.true) w.sender.result w.sender.ensures _ w.echo.ensures)
+    | goal.else-is_correct w ↦ rw w.work-is (echoing_same _ _ _ _ _ _ _ _ l.b l.invariant.1 (sym c.is_correct.ensures ∙ w.if-is_correct.false))
   ],
 )
 

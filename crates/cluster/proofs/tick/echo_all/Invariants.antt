@@ -1,12 +1,6 @@
 -- `tick::echo_all` meets its contract. The loop's invariant: the servers before b have echoed.
-use mathlib.Core.Path.{◌≡◌, sym, ◌∙◌}
-use mathlib.Core.Logic.{inl, inr}
-use Prim.Native.Nat.{◌-◌, ◌≤◌, ◌<◌}
-use native.Mathlib.Omega.{arith}
-use native.Mathlib.Numerals.{add-one}
-use borrow.Author.Rules.{rules}
-use borrow.Author.Tests.{not-true, not-false}
-use Rattle.cluster.proofs.StageRuns.{Echoing, echoes_still, echoing_none, echoing_more, echoing_same}
+use Prim.Native.Nat.{◌-◌, ◌≤◌}
+use Rattle.cluster.proofs.StageRuns.{Echoing}
 use Rattle.cluster.proofs.tick.echo_all.Given as goal
 
 abbrev pub invariant-loop-b : goal.invariant-loop-b

@@ -1,7 +1,6 @@
 -- `tick::has` meets its contract.
 use native.Mathlib.Nat.{add-zero}
 use Prim.Native.Nat.{ℕ}
-use borrow.Author.Rules.{rules}
 use mathlib.Core.Path.{ap, ◌∙◌}
 use Rattle.limits.proofs.Bits.{bit_shift}
 use Rattle.limits.specs.Bits.{bit}

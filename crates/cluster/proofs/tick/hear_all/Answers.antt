@@ -1,11 +1,9 @@
 -- `tick::hear_all` meets its contract. The loop's invariant: the readers before x have noted what arrives, and their rows are empty.
 use mathlib.Core.Path.{◌≡◌, sym, ◌∙◌}
-use mathlib.Core.Logic.{inl, inr}
-use Prim.Native.Nat.{◌-◌, ◌≤◌}
 use native.Mathlib.Omega.{arith}
 use borrow.Author.Rules.{rules}
 use Rattle.limits.specs.Limits.{most_readers}
-use Rattle.cluster.proofs.HearLaws.{Hearing, hearing_none, hearing_more, hearing_same, hearing_all}
+use Rattle.cluster.proofs.HearLaws.{hearing_none, hearing_more, hearing_same, hearing_all}
 use Rattle.cluster.proofs.tick.hear_all.Goals as goal
 
 pub loop-x-init : goal.loop-x-init
@@ -30,8 +28,8 @@ loop-x-preserved c = let l = c.loop-x in
     let e = c.row-row.ensures.0 in (
       omega arith,
       elim c.if-high-ne0.branch [
-        | inl w ↦ rw (w.11, w.12) (hearing_more _ _ _ _ _ l.x h l.invariant.1 _ _ (rw (w.2.ensures.0, e) at w.4.ensures) (rw e at w.8.ensures))
-        | inr w ↦ rw (w.1, w.2) (hearing_same _ _ _ _ _ l.x h l.invariant.1 (rw e at (sym c.high.ensures.0 ∙ w.0.left)))
+        | goal.then-high-ne0 w ↦ rw (w.work-is, w.sets-is) (hearing_more _ _ _ _ _ l.x h l.invariant.1 _ _ (rw (w.of_reader.ensures.0, e) at w.join_row.ensures) (rw e at w.clear.ensures))
+        | goal.else-high-ne0 w ↦ rw (w.work-is, w.sets-is) (hearing_same _ _ _ _ _ l.x h l.invariant.1 (rw e at (sym c.high.ensures.0 ∙ w.if-high-ne0.false)))
       ],
     )
 

@@ -1,11 +1,7 @@
 -- `tick::hear_all` meets its contract. The loop's invariant: the readers before x have noted what arrives, and their rows are empty.
-use mathlib.Core.Path.{◌≡◌, sym, ◌∙◌}
-use mathlib.Core.Logic.{inl, inr}
 use Prim.Native.Nat.{◌-◌, ◌≤◌}
-use native.Mathlib.Omega.{arith}
-use borrow.Author.Rules.{rules}
 use Rattle.limits.specs.Limits.{most_readers}
-use Rattle.cluster.proofs.HearLaws.{Hearing, hearing_none, hearing_more, hearing_same, hearing_all}
+use Rattle.cluster.proofs.HearLaws.{Hearing}
 use Rattle.cluster.proofs.tick.hear_all.Given as goal
 
 abbrev pub invariant-loop-x : goal.invariant-loop-x

@@ -1,10 +1,6 @@
 -- `tick::move_all` meets its contract. The loop's invariant: the movement has met the servers before b, in their new voting period.
-use mathlib.Core.Path.{◌≡◌, ◌∙◌}
-use Prim.Native.Nat.{◌-◌, ◌≤◌, ◌<◌}
-use native.Mathlib.Omega.{arith}
-use borrow.Author.Rules.{rules}
-use borrow.Author.Tests.{not-true, not-false}
-use Rattle.cluster.proofs.StageRuns.{Moving, moving_none, moving_more, moved_still, moving_all}
+use Prim.Native.Nat.{◌-◌, ◌≤◌}
+use Rattle.cluster.proofs.StageRuns.{Moving}
 use Rattle.cluster.proofs.tick.move_all.Given as goal
 
 abbrev pub invariant-loop-b : goal.invariant-loop-b

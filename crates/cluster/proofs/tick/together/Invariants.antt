@@ -1,14 +1,10 @@
 -- `tick::together` meets its contract. The loop's invariant: the set has the servers that a request of a party passed reaches.
-use mathlib.Core.Path.{◌≡◌, fun_ext}
+use mathlib.Core.Path.{◌≡◌}
 use Prim.Native.Nat.{ℕ, ◌-◌, ◌≤◌}
-use native.Mathlib.Numerals.{add-one}
-use native.Mathlib.Omega.{arith}
 use lib.ListN.{get_or}
-use borrow.Author.Rules.{rules}
 use Rattle.register.specs.Lists.{any_up_to}
 use Rattle.limits.specs.Bits.{bit}
-use Rattle.cluster.specs.Inputs.{requesters, is_asked}
-use Rattle.cluster.proofs.Asking.{joined_none, joined_more}
+use Rattle.cluster.specs.Inputs.{requesters}
 use Rattle.cluster.proofs.tick.together.Given as goal
 
 abbrev pub invariant-loop-p : goal.invariant-loop-p

@@ -1,9 +1,7 @@
 -- `tick::turn_of` meets its contract: where no request reaches the server, no WRITE and no READ does.
 use mathlib.Core.Path.{◌≡◌, refl, sym, ◌∙◌, fun_ext}
 use mathlib.Core.Bool.{Bool}
-use mathlib.Core.Logic.{inl, inr}
 use Prim.Native.Nat.{ℕ}
-use borrow.Author.Rules.{rules}
 use Rattle.limits.specs.Bits.{bit}
 use Rattle.limits.proofs.Bits.{bit_zero}
 use Rattle.cluster.specs.Inputs.{wrote_at, asks_at}
@@ -14,11 +12,11 @@ pub returns : goal.returns
 returns c = let requests = c.args.feed.arrivals.requests in
     let number = c.args.feed.arrivals.number in
     let wrote : c.if-has.wrote ≡ wrote_at requests number c.args.b = elim c.if-has.branch [
-      | inl y ↦ y.4 ∙ y.2.ensures
-      | inr y ↦ y.1 ∙ sym (none_wrote requests c.args.b (sym c.requires.1 ∙ (sym c.has.ensures ∙ y.0.left)) number)
+      | goal.then-has y ↦ y.wrote-is ∙ y.wrote_at-wrote.ensures
+      | goal.else-has y ↦ y.wrote-is ∙ sym (none_wrote requests c.args.b (sym c.requires.1 ∙ (sym c.has.ensures ∙ y.if-has.false)) number)
     ] in
     let asks : ◌≡◌ {A = ℕ → Bool} (λ x. bit x c.if-has.asks) (asks_at requests c.args.b) = elim c.if-has.branch [
-      | inl y ↦ rw y.5 y.3.ensures
-      | inr y ↦ rw y.2 (fun_ext (λ x. bit_zero x ∙ sym (none_asks requests c.args.b (sym c.requires.1 ∙ (sym c.has.ensures ∙ y.0.left)) x)))
+      | goal.then-has y ↦ rw y.asks-is y.asks_at-asks.ensures
+      | goal.else-has y ↦ rw y.asks-is (fun_ext (λ x. bit_zero x ∙ sym (none_asks requests c.args.b (sym c.requires.1 ∙ (sym c.has.ensures ∙ y.if-has.false)) x)))
     ] in
     record { turn = rw (wrote, c.row.ensures.0) refl; asks = asks }

@@ -1,6 +1,5 @@
 -- `Server::heard` meets its contract.
 use mathlib.Core.Path.{refl, sym, ◌∙◌}
-use borrow.Author.Rules.{rules}
 use Rattle.serving.proofs.StageLaws.{written_status, written_pending, written_keys}
 use Rattle.tallies.proofs.TallyLaws.{joined_both}
 use Rattle.serving.proofs.Server.heard.Goals as goal

@@ -1,6 +1,5 @@
 -- `Server::moved` meets its contract.
 use mathlib.Core.Path.{refl, sym, ◌∙◌}
-use borrow.Author.Rules.{rules}
 use Rattle.serving.proofs.StageLaws.{seized}
 use Rattle.tallies.proofs.TallyLaws.{others_none}
 use Rattle.serving.proofs.Server.moved.Goals as goal

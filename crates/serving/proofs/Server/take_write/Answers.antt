@@ -1,7 +1,6 @@
 -- `Server::take_write` meets its contract.
 use mathlib.Core.Path.{refl, ◌∙◌}
-use borrow.Author.Tests.{lt-ltb, le-ltb}
-use borrow.Author.Rules.{rules}
+use borrow.Author.Tests.{lt-ltb}
 use Rattle.serving.proofs.Server.take_write.Goals as goal
 
 pub returns-then-at-m : goal.returns-then-at-m

@@ -1,15 +1,10 @@
 -- `Server::vote` meets its contract. The loop's invariant: the pairs before j are done.
-use mathlib.Core.Path.{◌≡◌, refl, ◌∙◌}
-use Prim.Native.Nat.{◌≤◌, ◌<◌, ◌-◌}
+use mathlib.Core.Path.{refl, ◌∙◌}
 use native.Mathlib.Omega.{arith}
-use borrow.Author.Rules.{rules}
 use lib.ListN.{get_or}
 use Rattle.calendar.specs.declared.Stamped.{Stamped}
-use Rattle.calendar.specs.Layout.{low_of, high_of}
-use Rattle.tallies.specs.Tallies.{of_server}
-use Rattle.serving.specs.Methods.{Reachable}
 use Rattle.serving.proofs.TakenLaws.{lower_first}
-use Rattle.serving.proofs.VoteLaws.{Voting, voting_none, voting_more, voting_all}
+use Rattle.serving.proofs.VoteLaws.{voting_none, voting_more, voting_all}
 use Rattle.serving.proofs.Server.vote.Goals as goal
 
 pub loop-j-init : goal.loop-j-init

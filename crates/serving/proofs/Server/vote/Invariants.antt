@@ -1,15 +1,10 @@
 -- `Server::vote` meets its contract. The loop's invariant: the pairs before j are done.
-use mathlib.Core.Path.{◌≡◌, refl, ◌∙◌}
+use mathlib.Core.Path.{◌≡◌}
 use Prim.Native.Nat.{◌≤◌, ◌<◌, ◌-◌}
-use native.Mathlib.Omega.{arith}
-use borrow.Author.Rules.{rules}
-use lib.ListN.{get_or}
-use Rattle.calendar.specs.declared.Stamped.{Stamped}
 use Rattle.calendar.specs.Layout.{low_of, high_of}
 use Rattle.tallies.specs.Tallies.{of_server}
 use Rattle.serving.specs.Methods.{Reachable}
-use Rattle.serving.proofs.TakenLaws.{lower_first}
-use Rattle.serving.proofs.VoteLaws.{Voting, voting_none, voting_more, voting_all}
+use Rattle.serving.proofs.VoteLaws.{Voting}
 use Rattle.serving.proofs.Server.vote.Given as goal
 
 abbrev pub invariant-loop-j : goal.invariant-loop-j

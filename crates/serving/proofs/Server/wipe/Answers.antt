@@ -1,5 +1,4 @@
 -- `Server::wipe` meets its contract.
-use borrow.Author.Rules.{rules}
 use Rattle.serving.proofs.StageLaws.{zero_set, blank_law}
 use Rattle.tallies.proofs.TallyLaws.{reset_others, reset_fresh, reset_recent}
 use Rattle.serving.proofs.Server.wipe.Goals as goal
