@@ -285,9 +285,9 @@ def compared(folder, number, count, seed):
 def build():
     """The library, what answers requests with it, and the program; what is built already is not built again."""
     commands = [["cargo", "build", "--quiet", "--release", "--offline", "--manifest-path", os.path.join(REQUESTS, "Cargo.toml")],
-                ["rt", "check", "simulate"]]
+                [os.path.join("tools", "build"), "program"]]
     if not os.environ.get("LIB_DIR"):
-        commands.insert(0, ["rt", "staticlib", "capi"])
+        commands.insert(0, [os.path.join("tools", "build"), "library"])
     for command in commands:
         built = subprocess.run(command, cwd=TOP, stdout=subprocess.PIPE, stderr=subprocess.STDOUT)
         if built.returncode != 0:

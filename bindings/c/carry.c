@@ -2,7 +2,7 @@
  * back.  Then it packs a plan of form two with a value that form one has no room for, plays it, and
  * prints with which number the way back is refused.
  *
- *   rt staticlib capi
+ *   tools/build library
  *   cc -std=c99 -o carry bindings/c/carry.c target/staticlib/libcapi.a
  *   ./carry < plan
  *

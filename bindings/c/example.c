@@ -1,7 +1,7 @@
 /* Reads a plan of form one on standard input and prints each read's answer, the servers after the
  * plan's last tick, and whether the answers are those of a regular register.
  *
- *   rt staticlib capi
+ *   tools/build library
  *   cc -std=c99 -o example bindings/c/example.c target/staticlib/libcapi.a
  *   ./example < plan
  *

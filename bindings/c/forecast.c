@@ -1,7 +1,7 @@
 /* Reads a plan of form one on standard input and prints what playing it takes, a line for each number.
  * The plan is not played.
  *
- *   rt staticlib capi
+ *   tools/build library
  *   cc -std=c99 -o forecast bindings/c/forecast.c target/staticlib/libcapi.a
  *   ./forecast < plan
  *

@@ -2,7 +2,7 @@
  * rehearses it: prints the length of the plan, each read's answer, and whether the answers are those of
  * a regular register.  The plan is examples/takeover.plan.
  *
- *   rt staticlib capi
+ *   tools/build library
  *   cc -std=c99 -o pack bindings/c/pack.c target/staticlib/libcapi.a
  *   ./pack
  *

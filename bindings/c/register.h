@@ -2,7 +2,7 @@
  * carrying of a plan from one form to the other, a forecast of what playing it takes, and a sheet of the
  * answers.
  *
- * Link with target/staticlib/libcapi.a, which `rt staticlib capi` writes.  docs/FORMATS.md has the
+ * Link with target/staticlib/libcapi.a, which `tools/build library` writes.  docs/FORMATS.md has the
  * bytes of plans and answers, the lists that a plan is packed from and the numbers of the refusals,
  * docs/SHEET.md the columns of a sheet, docs/RULES.md what the numbers of a forecast count.
  *

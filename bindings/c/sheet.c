@@ -1,6 +1,6 @@
 /* Reads a plan of form one on standard input, plays it, and prints the answers as a sheet to pin up.
  *
- *   rt staticlib capi
+ *   tools/build library
  *   cc -std=c99 -o sheet bindings/c/sheet.c target/staticlib/libcapi.a
  *   ./sheet < plan
  *

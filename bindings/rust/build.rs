@@ -14,7 +14,7 @@ fn main() {
     println!("cargo::rerun-if-changed={}", library.display());
     if !library.is_file() {
         println!(
-            "cargo::error=there is no {}: run `rt staticlib capi` at the top of the repository, or name a folder that has libcapi.a in LIB_DIR",
+            "cargo::error=there is no {}: run `tools/build library` at the top of the repository, or name a folder that has libcapi.a in LIB_DIR",
             library.display()
         );
         return;
