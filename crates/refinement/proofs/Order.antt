@@ -1,6 +1,6 @@
 -- Taking in depends only on the set of candidates, so the engine may take in the WRITE's pair first and then the known pairs by number.
 -- It stands on register's laws of stores.
-use mathlib.Core.Path.{◌≡◌, refl, sym, ap, ◌∙◌}
+use mathlib.Core.Path.{◌≡◌, refl, sym, ap, subst, ◌∙◌}
 use mathlib.Core.Bool.{Bool, true, false, ◌||◌, cond}
 use mathlib.Core.Logic.{inl, inr}
 use mathlib.Core.List.{List, [], ◌∷◌, ◌++◌, map}
@@ -101,7 +101,7 @@ module _ (g : ℕ → ℕ) (rising : (i j : ℕ) → i < j → g i < g j) where
         ∙ sym (taken-picked c m l h))
     | no e ↦ rw (lt-ltb w m (omega arith))
         (take_in_set store_depth ps (g w ∷ picked c g m) (map g l) d
-        (λ q i. let (j, a, y, z) = f q i in elim (or_e (eqb j w) (c j) y) [ inl x ↦ inl (z ∙ ap g (eqb→eq j w x)) | inr x ↦ inr (rw z (picked_in c g m j a x)) ])
+        (λ q i. let (j, a, y, z) = f q i in elim (or_e (eqb j w) (c j) y) [ inl x ↦ inl (z ∙ ap g (eqb→eq j w x)) | inr x ↦ inr (subst (λ (y : ℕ). In y (picked c g m)) (sym z) (picked_in c g m j a x)) ])
         (λ q i. elim i [ inl x ↦ rw x (k w (omega arith) (or_l (eqb w w) (c w) (eqb_refl w))) | inr x ↦ others q x ])
         ∙ sym (taken-picked c m (take store_depth (insert w l)) (omega (arith, length-take store_depth (insert w l)))
         ∙ ap (take_in store_depth (picked c g m)) (put-number w l) ∙ take_insert_all store_depth (picked c g m) (insert (g w) (map g l))))
