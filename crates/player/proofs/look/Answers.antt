@@ -21,11 +21,11 @@ unasked w m narrow A count n e =
 
 -- the tick looked at is one of the plan's
 few : (c : After-begin-start) → c.args.tick < 128
-few c = omega (arith, c.requires.4, (in_range _ _ c.requires.0).ticks-hi)
+few c = omega (arith, c.requires.4, (in_range _ _ c.requires.0).ticks_hi)
 
 -- the server is one of the array's
 one_of : (c : After-begin-start) → c.args.server < 16
-one_of c = omega (arith, (in_range _ _ c.requires.0).n-hi, c.requires.3)
+one_of c = omega (arith, (in_range _ _ c.requires.0).n_hi, c.requires.3)
 
 pub overflow_add-tick : goal.overflow_add-tick
 overflow_add-tick c = let h = few (goal.at.overflow_add-tick c).After-begin-start in search rules

@@ -13,7 +13,7 @@ fill-requires c = fillable c.args.header.width c.args.plan.now c.requires.0 c.ar
     c.args.links c.requires.3 c.requires.1 _ _ c.requires.4 c.requires.5
 
 pub starts-requires : goal.starts-requires
-starts-requires c = ((shape_ranged c.args.header.width c.args.plan.now c.requires.0 c.args.header c.requires.2).forgeries-hi, omega (arith, c.requires.4, c.fill.ensures.size))
+starts-requires c = ((shape_ranged c.args.header.width c.args.plan.now c.requires.0 c.args.header c.requires.2).forgeries_hi, omega (arith, c.requires.4, c.fill.ensures.size))
 
 pub returns : goal.returns
 returns c = let f = c.forgeries_at-at in

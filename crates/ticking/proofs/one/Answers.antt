@@ -51,7 +51,7 @@ pub read_on-done-requires : goal.read_on-done-requires
 read_on-done-requires c = let d = (a c).pre.0.decoded in (
   turns.can_go_on _ _ _ _ _ (a c).pre.0 (a c).pre.2 (a c).pre.1,
   linked_there _ _ d _ (a c).pre.2,
-  omega (arith, d.scripted.rules.delta, (range _ _ d).delta-hi),
+  omega (arith, d.scripted.rules.delta, (range _ _ d).delta_hi),
   (a c).pre.3,
   omega (arith, (a c).pre.0.room, (whole c).rest.size, c.write_on-written.ensures.outside.rest.size),
   (whole c).size ∙ (a c).pre.1.table,
