@@ -1,6 +1,7 @@
 -- The values of operations and forgeries as fields at equal steps, that they lie in the plan, and the forged part lent from its first byte on.
 -- It stands on the law of a forgery's value.
 use mathlib.Core.Path.{◌≡◌, ap}
+use mathlib.Core.Bool.{Bool}
 use mathlib.Core.List.{List}
 use Prim.Native.Nat.{ℕ, suc, ◌+◌, ◌*◌, ◌/◌, ◌%◌, ◌^◌, ◌≤◌, ◌<◌}
 use native.Mathlib.Nat.{mul-le-mul_left}
@@ -14,6 +15,10 @@ use Rattle.plan.specs.Header.{Header, moves, placement_at, key_bits, operation_b
 use Rattle.plan.proofs.Laws.{all_same}
 use Rattle.operations.proofs.Inside.{operation_inside}
 use Rattle.carrying.proofs.Values.{forgery_value}
+
+-- is value i of fields at equal steps below the limit
+abbrev pub below : List ℕ → ℕ → ℕ → ℕ → ℕ → ℕ → Bool
+below s at step width limit i = ltb (field_of s (at + step * i) width) limit
 
 -- the tick, the sender and the receiver of a forgery
 abbrev head_bits : ℕ → ℕ

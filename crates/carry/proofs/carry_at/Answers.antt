@@ -6,7 +6,6 @@ use Prim.Native.Nat.{ℕ, ◌≤◌}
 use native.Mathlib.Omega.{arith}
 use lib.ListN.{length}
 use borrow.Author.Tests.{not-true, not-false}
-use borrow.Author.Rules.{rules}
 use Rattle.bits.specs.Fill.{bytes_for}
 use Rattle.plan.specs.Header.{Header, header_of, bit_length}
 use Rattle.plan.specs.{Form.most_width, Playable.Playable, Shape.shape, Shape.Sized, declared.header.Shape.Shape}
@@ -31,17 +30,13 @@ fit : (c : After-all_fit) → values_fit c.args.had c.args.wanted c.args.plan.no
 fit c = ap (λ (v : ℕ). values_fit v c.args.wanted c.args.plan.now) (sym c.read-h.ensures.1) ∙ sym c.all_fit.ensures
 
 passed : (c : Else-not-all_fit) → values_fit c.args.had c.args.wanted c.args.plan.now ≡ true
-passed c =
-    let fit : values_fit c.args.had c.args.wanted c.args.plan.now ≡ c.all_fit.result = ap (λ (v : ℕ). values_fit v c.args.wanted c.args.plan.now) (sym c.read-h.ensures.1) ∙ sym c.all_fit.ensures in
-    fit ∙ not-false _ c.if-not-all_fit.false-raw
+passed c = fit (goal.at.Else-not-all_fit c).After-all_fit ∙ not-false _ c.if-not-all_fit.false-raw
 
 -- the size is that of the carried plan
 size : (c : After-bytes-size) → c.bytes-size.result ≡ length (carried_plan c.args.had c.args.wanted c.args.plan.now)
 size c =
-    let fit : values_fit c.args.had c.args.wanted c.args.plan.now ≡ c.all_fit.result = ap (λ (v : ℕ). values_fit v c.args.wanted c.args.plan.now) (sym c.read-h.ensures.1) ∙ sym c.all_fit.ensures in
-    let passed : values_fit c.args.had c.args.wanted c.args.plan.now ≡ true = fit ∙ not-false _ c.if-not-all_fit.false-raw in
     let same = c.with_width.ensures in
-    let long = carried_size c.args.had c.args.wanted c.args.plan.now (shape c.read-h.result) c.read-h.ensures.0 (passed) in
+    let long = carried_size c.args.had c.args.wanted c.args.plan.now (shape c.read-h.result) c.read-h.ensures.0 (passed (goal.at.After-bytes-size c).Else-not-all_fit) in
     c.bytes-size.ensures
     ∙ ap (λ (width : ℕ). bytes_for (bit_length width (shape c.with_width.result))) same.1
     ∙ ap (λ (h : Header). bytes_for (bit_length c.args.wanted h)) same.0

@@ -5,7 +5,6 @@ use lib.ListN.{length-drop}
 use Rattle.bits.specs.Layout.{records}
 use Rattle.register.proofs.Lists.{part_from}
 use Rattle.carry.proofs.Fields.{part_numbers}
-use borrow.Author.Rules.{rules}
 use Rattle.carry.proofs.forged.Goals as goal
 
 pub records-next-requires : goal.records-next-requires

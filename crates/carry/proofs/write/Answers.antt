@@ -5,7 +5,6 @@ use Prim.Native.Nat.{ℕ, ◌≤◌}
 use native.Mathlib.Omega.{arith}
 use lib.Dec.{leb}
 use borrow.Author.Tests.{le-leb}
-use borrow.Author.Rules.{rules}
 use Rattle.bits.specs.{Fill.fill, Layout.total}
 use Rattle.records.specs.Records.{no_wider}
 use Rattle.plan.specs.{Form.most_width, Shape.shape}
@@ -33,28 +32,16 @@ place1 c = let b = c.record-at.ensures.1 in
 place2 : (c : After-copy-at) → let a = c.args in
     (c.copy-at.result.from ≡ header.operation_at a.h.width (shape a.h) 0) × (c.copy-at.result.to ≡ header.placement_at a.width (header.moves (shape a.h)))
 place2 c =
-    let place1 : let a = c.args in (c.record-at.result.from ≡ header.placement_at a.h.width 0) × (c.record-at.result.to ≡ header.header_bits a.width) = let b = c.record-at.ensures.1 in
-    let had = ap total c.header_widths-had.ensures in
-    let wanted = ap total c.header_widths-wanted.ensures in
-    (omega (arith, b.from, had), omega (arith, b.to, wanted)) in
     let b = c.copy-at.ensures.1 in
-    let p = place1 in
+    let p = place1 (goal.at.After-copy-at c).After-record-at in
     let m = c.moves.ensures.0 in
     (omega (arith, b.from, p.0, m), omega (arith, b.to, p.1, m))
 
 place3 : (c : After-records-at) → let a = c.args in
     (c.records-at.result.from ≡ header.forgery_at a.h.width (shape a.h) 0) × (c.records-at.result.to ≡ header.operation_at a.width (shape a.h) a.h.operations)
 place3 c =
-    let place1 : let a = c.args in (c.record-at.result.from ≡ header.placement_at a.h.width 0) × (c.record-at.result.to ≡ header.header_bits a.width) = let b = c.record-at.ensures.1 in
-    let had = ap total c.header_widths-had.ensures in
-    let wanted = ap total c.header_widths-wanted.ensures in
-    (omega (arith, b.from, had), omega (arith, b.to, wanted)) in
-    let place2 : let a = c.args in (c.copy-at.result.from ≡ header.operation_at a.h.width (shape a.h) 0) × (c.copy-at.result.to ≡ header.placement_at a.width (header.moves (shape a.h))) = let b = c.copy-at.ensures.1 in
-    let p = place1 in
-    let m = c.moves.ensures.0 in
-    (omega (arith, b.from, p.0, m), omega (arith, b.to, p.1, m)) in
     let b = c.records-at.ensures.1 in
-    let p = place2 in
+    let p = place2 (goal.at.After-records-at c).After-copy-at in
     let from = rw c.widths-had.ensures at b.from in
     let to = rw c.widths-wanted.ensures at b.to in
     (omega (arith, from, p.0), omega (arith, to, p.1))
@@ -62,46 +49,15 @@ place3 c =
 place4 : (c : After-forged-at) → let a = c.args in
     (c.forged-at.result.from ≡ header.delay_at a.h.width (shape a.h) 0 0 0) × (c.forged-at.result.to ≡ header.forgery_at a.width (shape a.h) a.h.forgeries)
 place4 c =
-    let place1 : let a = c.args in (c.record-at.result.from ≡ header.placement_at a.h.width 0) × (c.record-at.result.to ≡ header.header_bits a.width) = let b = c.record-at.ensures.1 in
-    let had = ap total c.header_widths-had.ensures in
-    let wanted = ap total c.header_widths-wanted.ensures in
-    (omega (arith, b.from, had), omega (arith, b.to, wanted)) in
-    let place2 : let a = c.args in (c.copy-at.result.from ≡ header.operation_at a.h.width (shape a.h) 0) × (c.copy-at.result.to ≡ header.placement_at a.width (header.moves (shape a.h))) = let b = c.copy-at.ensures.1 in
-    let p = place1 in
-    let m = c.moves.ensures.0 in
-    (omega (arith, b.from, p.0, m), omega (arith, b.to, p.1, m)) in
-    let place3 : let a = c.args in (c.records-at.result.from ≡ header.forgery_at a.h.width (shape a.h) 0) × (c.records-at.result.to ≡ header.operation_at a.width (shape a.h) a.h.operations) = let b = c.records-at.ensures.1 in
-    let p = place2 in
-    let from = rw c.widths-had.ensures at b.from in
-    let to = rw c.widths-wanted.ensures at b.to in
-    (omega (arith, from, p.0), omega (arith, to, p.1)) in
     let b = c.forged-at.ensures.1 in
-    let p = place3 in
+    let p = place3 (goal.at.After-forged-at c).After-records-at in
     let from = rw c.widths-had-2.ensures at b.from in
     let to = rw c.widths-wanted-2.ensures at b.to in
     (omega (arith, from, p.0), omega (arith, to, p.1))
 
 place5 : (c : After-copy-at-2) → let a = c.args in c.copy-at-2.result.to ≡ header.bit_length a.width (shape a.h)
 place5 c =
-    let place1 : let a = c.args in (c.record-at.result.from ≡ header.placement_at a.h.width 0) × (c.record-at.result.to ≡ header.header_bits a.width) = let b = c.record-at.ensures.1 in
-    let had = ap total c.header_widths-had.ensures in
-    let wanted = ap total c.header_widths-wanted.ensures in
-    (omega (arith, b.from, had), omega (arith, b.to, wanted)) in
-    let place2 : let a = c.args in (c.copy-at.result.from ≡ header.operation_at a.h.width (shape a.h) 0) × (c.copy-at.result.to ≡ header.placement_at a.width (header.moves (shape a.h))) = let b = c.copy-at.ensures.1 in
-    let p = place1 in
-    let m = c.moves.ensures.0 in
-    (omega (arith, b.from, p.0, m), omega (arith, b.to, p.1, m)) in
-    let place3 : let a = c.args in (c.records-at.result.from ≡ header.forgery_at a.h.width (shape a.h) 0) × (c.records-at.result.to ≡ header.operation_at a.width (shape a.h) a.h.operations) = let b = c.records-at.ensures.1 in
-    let p = place2 in
-    let from = rw c.widths-had.ensures at b.from in
-    let to = rw c.widths-wanted.ensures at b.to in
-    (omega (arith, from, p.0), omega (arith, to, p.1)) in
-    let place4 : let a = c.args in (c.forged-at.result.from ≡ header.delay_at a.h.width (shape a.h) 0 0 0) × (c.forged-at.result.to ≡ header.forgery_at a.width (shape a.h) a.h.forgeries) = let b = c.forged-at.ensures.1 in
-    let p = place3 in
-    let from = rw c.widths-had-2.ensures at b.from in
-    let to = rw c.widths-wanted-2.ensures at b.to in
-    (omega (arith, from, p.0), omega (arith, to, p.1)) in
-    omega (arith, c.copy-at-2.ensures.1.to, (place4).1, c.delay_count.ensures.0)
+    omega (arith, c.copy-at-2.ensures.1.to, (place4 (goal.at.After-copy-at-2 c).After-forged-at).1, c.delay_count.ensures.0)
 
 pub record-at-requires : goal.record-at-requires
 unfolding no_wider
@@ -169,4 +125,4 @@ returns c = let a = c.args in
     (same_records s a.h.forgeries c.widths-had-2.ensures c.widths-wanted-2.ensures (place3 (goal.at.returns c).After-records-at) c.forged-at.ensures.0)
     (same_bits s header.delay_bits c.delay_count.ensures.0 (place4 (goal.at.returns c).After-forged-at) c.copy-at-2.ensures.0)
     (same_fill c.fill.ensures (place5 (goal.at.returns c).After-copy-at-2) c.put.ensures)
-    (λ i. omega (arith, c.type_inv.out i)) (λ i. omega (arith, c.type_inv.out i)) c.requires.4
+    (λ i. omega (arith, c.slice_known-1.given i)) (λ i. omega (arith, c.type_inv.out i)) c.requires.4

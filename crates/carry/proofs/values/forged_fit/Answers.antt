@@ -2,7 +2,6 @@
 use Prim.Native.Nat.{◌/◌}
 use native.Mathlib.Omega.{arith}
 use lib.ListN.{length-drop}
-use borrow.Author.Rules.{rules}
 use Rattle.register.proofs.Lists.{part_from}
 use Rattle.carry.proofs.Fields.{part_values}
 use Rattle.carry.proofs.values.forged_fit.Goals as goal

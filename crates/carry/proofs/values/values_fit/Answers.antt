@@ -1,14 +1,9 @@
 -- `values::values_fit` meets its contract: the first i values are below the limit.
-use mathlib.Core.Bool.{Bool, true}
-use mathlib.Core.List.{List}
-use mathlib.Core.Path.{◌≡◌, sym}
-use Prim.Native.Nat.{ℕ, ◌+◌, ◌*◌, ◌-◌, ◌≤◌}
+use mathlib.Core.Path.{sym}
 use native.Mathlib.Omega.{arith}
-use lib.Dec.{ltb}
 use borrow.Author.Tests.{lt-ltb, le-ltb}
-use Rattle.bits.specs.Field.{field_of}
-use Rattle.register.specs.Lists.{all_up_to}
 use Rattle.plan.proofs.Laws.{all_none, all_more, all_stop, all_end}
+use Rattle.carry.proofs.Fields.{below}
 use Rattle.carry.proofs.values.values_fit.Goals as goal
 
 pub loop-i-init : goal.loop-i-init
@@ -25,10 +20,10 @@ field-value-requires c = let inside = c.requires.1 c.loop-i.i (omega arith) in
     (omega arith, inside.0, inside.1)
 
 pub returns-then-limit-value : goal.returns-then-limit-value
-returns-then-limit-value c = sym (all_stop ((let a = c.args in below a.plan.now a.at a.step a.width a.limit)) c.loop-i.i c.args.count (omega arith) (rw (← c.field-value.ensures.0) (le-ltb c.field-value.result c.args.limit (omega arith))))
+returns-then-limit-value c = sym (all_stop (let a = c.args in below a.plan.now a.at a.step a.width a.limit) c.loop-i.i c.args.count (omega arith) (rw (← c.field-value.ensures.0) (le-ltb c.field-value.result c.args.limit (omega arith))))
 
 pub loop-i-preserved : goal.loop-i-preserved
-loop-i-preserved c = (omega arith, all_more ((let a = c.args in below a.plan.now a.at a.step a.width a.limit)) c.loop-i.i c.loop-i.invariant.1 (rw (← c.field-value.ensures.0) (lt-ltb c.field-value.result c.args.limit (omega arith))))
+loop-i-preserved c = (omega arith, all_more (let a = c.args in below a.plan.now a.at a.step a.width a.limit) c.loop-i.i c.loop-i.invariant.1 (rw (← c.field-value.ensures.0) (lt-ltb c.field-value.result c.args.limit (omega arith))))
 
 pub returns : goal.returns
-returns c = all_end ((let a = c.args in below a.plan.now a.at a.step a.width a.limit)) c.loop-i.i c.args.count (omega arith) (omega arith) c.loop-i.invariant.1
+returns c = all_end (let a = c.args in below a.plan.now a.at a.step a.width a.limit) c.loop-i.i c.args.count (omega arith) (omega arith) c.loop-i.invariant.1
