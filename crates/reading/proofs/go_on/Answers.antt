@@ -16,7 +16,7 @@ begin_all-ends-requires c = let e = c.first_from-began.ensures in
 
 pub ask_all-requires : goal.ask_all-requires
 ask_all-requires c = let e = c.first_from-began.ensures in
-    (c.requires.1, record { ordered = e.from; few = omega (arith, e.few, c.requires.0.table.few); each = λ i c b. c.requires.0.parties i (omega (arith, e.few)) }, c.requires.4)
+    (c.requires.1, record { ordered = e.from; few = omega (arith, e.few, c.requires.0.table.few); each = λ i x b. c.requires.0.parties i (omega (arith, e.few)) }, c.requires.4)
 
 pub returns : goal.returns
 returns c = record {
