@@ -10,4 +10,4 @@ use Rattle.script.specs.contracts.Script as S
 use Rattle.script.proofs.Script.TheLaws as S'
 
 pub values_length : (r : Script) {vs : List Val} → Is S.the_row r vs → length r.writes.known.values ≡ 65
-values_length r {vs} is = sym (length-map r.writes.known.values _) ∙ (LL.owed S.the_type S'.the_laws r vs is).1.1.1.0.1.1.0.1.1.0.1.0.1
+values_length r {vs} is = (LL.owed S.the_type S'.the_laws r vs is).1.1.1.0.1.1.0.1.1.0.1.0.1

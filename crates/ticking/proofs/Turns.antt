@@ -120,7 +120,7 @@ module _ (s work sets : List ℕ) (r : script-specs.declared.Script.Script) (p :
               valued = λ b l. valued (λ i h. L.valued i (omega (arith, same_number))) b (omega (arith, same_number));
               requested = rw (add-one p.tick) (refinement-laws.RequestLaws.requested_past (plan_of (script-specs.Script.width_in r) s) (suc p.tick) work₃ work₄ P.rest (ticking-laws.Requests.requested_after s r D p.tick below p.written L.written p.begun z.begun L.begun have-begun up
                   written work₁ work₂ work₃ (refinement-laws.RequestLaws.requested_past (plan_of (script-specs.Script.width_in r) s) p.tick work work₁ fed.rest L.requested) N W.asked));
-              written = rw (add-one p.tick) (ticking-laws.Requests.Written-next s r D p.tick below p.written L.written written work₁ work₂ N);
+              written = rw (add-one p.tick) (ticking-laws.Requests.written_next s r D p.tick below p.written L.written written work₁ work₂ N);
               begun = have-begun;
               answered = have-ended;
             };

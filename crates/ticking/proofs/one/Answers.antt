@@ -10,13 +10,15 @@ use Rattle.cluster.specs.Tick.{Ticked, Values, feed_of}
 use Rattle.cluster.proofs.RowLaws.{past_trans}
 use Rattle.cluster.proofs.TickLaws as tick-laws
 use Rattle.script.proofs.Feeding.{range, linked_there, few_ticks}
-use Rattle.ticking.proofs.Sizes.{values_length}
 use Rattle.ticking.proofs.Turns as turns
-use Rattle.ticking.proofs.one.Goals.{After-feed_of-feed}
+use Rattle.ticking.proofs.one.Goals.{After-feed_of-feed, After-echo_all}
 use Rattle.ticking.proofs.one.Goals as goal
 
 few : (c : After-feed_of-feed) → c.args.p.tick < 128
 few c = few_ticks _ _ c.requires.0.decoded c.args.p.tick c.requires.2
+
+pub feed_of-feed-requires : goal.feed_of-feed-requires
+feed_of-feed-requires c = (c.requires.0.decoded, c.requires.2, omega (arith, c.requires.0.room))
 
 pub overflow_cast-t : goal.overflow_cast-t
 overflow_cast-t c = let h = few (goal.at.overflow_cast-t c).After-feed_of-feed in search rules
@@ -25,16 +27,12 @@ pub hear_all-requires : goal.hear_all-requires
 hear_all-requires c = (omega (arith, c.requires.0.room), c.requires.1.state.calendar.spans, c.requires.1.table)
 
 pub deliver_all-delivered-requires : goal.deliver_all-delivered-requires
-deliver_all-delivered-requires c = ?  -- no step good at After-deliver_all-arg3
-
---| let h = c.before.before.before.before.before.before.before.before.before.before in
---|     let g = fed h in
---|     let a = start g in (
---|       turns.later _ _ _ _ _ a.pre.0 a.pre.2 a.pre.1 _ g.feed-of.ensures _ h.hear-all.ensures.rest h.hear-all.ensures.spans,
---|       h.hear-all.ensures.size ∙ a.pre.1.table,
---|       values_length a.args.t6 a.good.1.1.1.1.1.0,
---|       turns.heard-calm _ _ _ _ _ a.pre.0 a.pre.2 a.pre.1 _ g.feed-of.ensures _ _ h.hear-all.ensures,
---|     )
+deliver_all-delivered-requires c = (
+  turns.later _ _ _ _ _ c.requires.0 c.requires.2 c.requires.1 _ c.feed_of-feed.ensures _ c.hear_all.ensures.rest c.hear_all.ensures.spans,
+  c.hear_all.ensures.size ∙ c.requires.1.table,
+  search rules,
+  turns.heard_calm _ _ _ _ _ c.requires.0 c.requires.2 c.requires.1 _ c.feed_of-feed.ensures _ _ c.hear_all.ensures,
+)
 
 pub cure_all-cured-requires : goal.cure_all-cured-requires
 cure_all-cured-requires c = turns.later _ _ _ _ _ c.requires.0 c.requires.2 c.requires.1 _ c.feed_of-feed.ensures _ (past_trans _ _ _ c.hear_all.ensures.rest c.deliver_all-delivered.ensures.rest) c.deliver_all-delivered.ensures.spans
@@ -43,34 +41,57 @@ pub move_all-servers-requires : goal.move_all-servers-requires
 move_all-servers-requires c = let Z = turns.fed_sized _ _ _ _ _ c.requires.0 c.requires.2 c.requires.1 _ c.feed_of-feed.ensures in
     (c.deliver_all-delivered.ensures.size ∙ (c.hear_all.ensures.size ∙ c.requires.1.table), Z.servers, Z.pairs)
 
+pub echo_all-requires : goal.echo_all-requires
+echo_all-requires c = turns.later _ _ _ _ _ c.requires.0 c.requires.2 c.requires.1 _ c.feed_of-feed.ensures _
+    (past_trans _ _ _ c.hear_all.ensures.rest (past_trans _ _ _ c.deliver_all-delivered.ensures.rest c.cure_all-cured.ensures.1.rest))
+    (posted_spanned _ _ _ c.cure_all-cured.ensures.1 c.deliver_all-delivered.ensures.spans)
+
 -- stages 1 to 4 are those of the tick
+sized : (c : After-echo_all) → Tickable c.args.plan.now c.args.work.now c.feed_of-feed.result.t c.feed_of-feed.result.rules c.feed_of-feed.result.m c.feed_of-feed.result.links
+sized c = turns.fed_sized _ _ _ _ _ c.requires.0 c.requires.2 c.requires.1 _ c.feed_of-feed.ensures
+
+whole : (c : After-echo_all) → Ticked (feed_of c.args.plan.now c.args.work.now c.feed_of-feed.result) c.args.p.cluster.ends c.args.p.cluster.servers c.move_all-servers.result c.args.sets.now c.move_all-servers.new.sets c.echo_all.new.work
+    c.feed_of-feed.result.rules.n
+whole c = tick-laws.ticked _ _ _ _ _ _ _ _ _ _ _ _ _ _ _ _ _ (sized c).servers (sized c).pairs (turns.fed_heard _ _ _ _ _ c.requires.0 c.requires.2 c.requires.1 _ c.feed_of-feed.ensures _ _ c.hear_all.ensures)
+    c.deliver_all-delivered.ensures c.cure_all-cured.ensures.0 c.cure_all-cured.ensures.1 c.move_all-servers.ensures c.echo_all.ensures
+
+valued : (c : After-echo_all) → Values c.feed_of-feed.result.rules.n c.args.script.writes.known.values c.args.p.cluster.servers c.move_all-servers.result
+valued c = tick-laws.valued_all _ _ _ _ _ _ _ _ _ _ _ _ _ _ _ _ _ (sized c).servers (sized c).pairs (turns.fed_heard _ _ _ _ _ c.requires.0 c.requires.2 c.requires.1 _ c.feed_of-feed.ensures _ _ c.hear_all.ensures)
+    c.deliver_all-delivered.ensures c.cure_all-cured.ensures.0 c.cure_all-cured.ensures.1 c.move_all-servers.ensures c.echo_all.ensures
+
 pub write_on-written-requires : goal.write_on-written-requires
-write_on-written-requires c = ((a c).requires.0.decoded, (a c).requires.2, omega (arith, (a c).requires.0.room, (whole c).rest.size))
+write_on-written-requires c = (c.requires.0.decoded, c.requires.2, omega (arith, c.requires.0.room, (whole (goal.at.write_on-written-requires c).After-echo_all).rest.size))
 
 pub read_on-done-requires : goal.read_on-done-requires
-read_on-done-requires c = let d = (a c).pre.0.decoded in (
-  turns.can_go_on _ _ _ _ _ (a c).pre.0 (a c).pre.2 (a c).pre.1,
-  linked_there _ _ d _ (a c).pre.2,
-  omega (arith, d.scripted.rules.delta, (range _ _ d).delta_hi),
-  (a c).pre.3,
-  omega (arith, (a c).pre.0.room, (whole c).rest.size, c.write_on-written.ensures.outside.rest.size),
-  (whole c).size ∙ (a c).pre.1.table,
-)
+read_on-done-requires c =
+    let d = c.requires.0.decoded in
+    let w = whole (goal.at.read_on-done-requires c).After-echo_all in (
+      turns.can_go_on _ _ _ _ _ c.requires.0 c.requires.2 c.requires.1,
+      linked_there _ _ d _ c.requires.2,
+      omega (arith, d.scripted.rules.delta, (range _ _ d).delta_hi),
+      c.requires.3,
+      omega (arith, c.requires.0.room, w.rest.size, c.write_on-written.ensures.outside.rest.size),
+      w.size ∙ c.requires.1.table,
+    )
 
 pub overflow_cast-t-2 : goal.overflow_cast-t-2
-overflow_cast-t-2 c = let h = few (at c) in search rules
+overflow_cast-t-2 c = let h = few (goal.at.overflow_cast-t-2 c).After-feed_of-feed in search rules
 
 pub forge-requires : goal.forge-requires
-forge-requires c = turns.forge_ready _ _ _ _ _ (a c).pre.0 (a c).pre.2 (a c).pre.1 _ (at c).feed-of.ensures _ _ _ (whole c) (valued c) _ _ c.write_on-written.ensures _ _ _ _ _ c.read_on-done.ensures
+forge-requires c =
+    let e = (goal.at.forge-requires c).After-echo_all in
+    turns.forge_ready _ _ _ _ _ c.requires.0 c.requires.2 c.requires.1 _ c.feed_of-feed.ensures _ _ _ (whole e) (valued e) _ _ c.write_on-written.ensures _ _ _ _ _ c.read_on-done.ensures
 
 pub overflow_add-result : goal.overflow_add-result
-overflow_add-result c = let h = few (at c) in search rules
+overflow_add-result c = let h = few (goal.at.overflow_add-result c).After-feed_of-feed in search rules
 
 pub shape_of-work : goal.shape_of-work
-shape_of-work c = c.forge.ensures.rest.size ∙ (c.read_on-done.ensures.asked.outside.rest.size ∙ (c.write_on-written.ensures.outside.rest.size ∙ (whole c).rest.size))
+shape_of-work c = c.forge.ensures.rest.size ∙ (c.read_on-done.ensures.asked.outside.rest.size ∙ (c.write_on-written.ensures.outside.rest.size ∙ (whole (goal.at.shape_of-work c).After-echo_all).rest.size))
 
 pub shape_of-sets : goal.shape_of-sets
-shape_of-sets c = c.read_on-done.ensures.table.size ∙ (whole c).size
+shape_of-sets c = c.read_on-done.ensures.table.size ∙ (whole (goal.at.shape_of-sets c).After-echo_all).size
 
 pub returns : goal.returns
-returns c = (turns.went _ _ _ _ _ (a c).pre.0 (a c).pre.2 (a c).pre.1 _ (at c).feed-of.ensures _ _ _ (whole c) (valued c) _ _ c.write_on-written.ensures _ _ _ _ _ c.read_on-done.ensures _ c.forge.ensures, add-one _)
+returns c =
+    let e = (goal.at.returns c).After-echo_all in
+    (turns.went _ _ _ _ _ c.requires.0 c.requires.2 c.requires.1 _ c.feed_of-feed.ensures _ _ _ (whole e) (valued e) _ _ c.write_on-written.ensures _ _ _ _ _ c.read_on-done.ensures _ c.forge.ensures, add-one _)
