@@ -1,7 +1,6 @@
 -- `put_first` meets its contract: the word, then the number.
 use native.Mathlib.Omega.{arith}
 use Rattle.decimal.proofs.Stores.{stored_then}
-use borrow.Author.Rules.{rules}
 use Rattle.lines.proofs.put_first.Goals as goal
 
 pub returns : goal.returns

@@ -1,7 +1,6 @@
 -- `put_number` meets its contract: the digits, then the byte.
 use native.Mathlib.Omega.{arith}
 use Rattle.decimal.proofs.Stores.{stored_then}
-use borrow.Author.Rules.{rules}
 use Rattle.lines.proofs.put_number.Goals as goal
 
 pub returns : goal.returns
