@@ -12,11 +12,9 @@ use Rattle.plan.proofs.Chain.{Left, goes, stops, ends, met, missed, rest_left}
 use Rattle.checks.proofs.rest.Goals.{After-both, Else-not-all_stand, Else-not-all_stand-2, Else-not-all_stand-3, Else-not-both, Else-plan-bytes}
 use Rattle.checks.proofs.rest.Goals as goal
 
--- so many tests have passed
-abbrev Passed : ℕ → tie.Start → Type 0
-Passed k s =
-    let h = header s in
-    Left (check_rest h.width (plan s) (shape h)) (behind k (rest_tests h.width (plan s) (shape h))) (result (length (plan_of h.width (plan s)).reads))
+-- so many tests of the plan bs with the header h have passed
+abbrev Passed : ℕ → Shape → List ℕ → Type 0
+Passed k h bs = Left (check_rest h.width bs (shape h)) (behind k (rest_tests h.width bs (shape h))) (result (length (plan_of h.width bs).reads))
 
 -- test 8 is of the delays and of the final bits
 both-are : {a b x y : Bool} → a ≡ x → b ≡ y → a && b ≡ x && y
@@ -29,46 +27,20 @@ sized c = let p = c.requires in
 delays : (c : After-both) → let h = c.args.h in c.both.result ≡ delays_stand h.width c.args.plan.now (shape h) && final_bits_zero h.width c.args.plan.now (shape h)
 delays c = c.both.ensures ∙ both-are c.all_stand-4.ensures c.are_final_bits_zero.ensures
 
-passed1 : (c : Else-plan-bytes) → Passed 1 c
-passed1 c =
-    let sized : Sized c.args.h.width c.args.plan.now (shape c.args.h) = let p = c.requires in
-    sizes _ _ _ p.0 p.1 (rw (← c.bytes.ensures) c.if-plan-bytes.false) in
-    goes (rest_left _ _ _) (eq-eqb _ _ (sized).size)
+passed1 : (c : Else-plan-bytes) → Passed 1 c.args.h c.args.plan.now
+passed1 c = goes (rest_left _ _ _) (eq-eqb _ _ (sized c).size)
 
-passed2 : (c : Else-not-all_stand) → Passed 2 c
-passed2 c =
-    let sized : Sized c.args.h.width c.args.plan.now (shape c.args.h) = let p = c.requires in
-    sizes _ _ _ p.0 p.1 (rw (← c.bytes.ensures) c.if-plan-bytes.false) in
-    let passed1 : Passed 1 c = goes (rest_left _ _ _) (eq-eqb _ _ (sized).size) in
-    goes (passed1) (met c.all_stand.ensures c.if-not-all_stand.false-raw)
+passed2 : (c : Else-not-all_stand) → Passed 2 c.args.h c.args.plan.now
+passed2 c = goes (passed1 (goal.at.Else-not-all_stand c).Else-plan-bytes) (met c.all_stand.ensures c.if-not-all_stand.false-raw)
 
-passed3 : (c : Else-not-all_stand-2) → Passed 3 c
-passed3 c =
-    let sized : Sized c.args.h.width c.args.plan.now (shape c.args.h) = let p = c.requires in
-    sizes _ _ _ p.0 p.1 (rw (← c.bytes.ensures) c.if-plan-bytes.false) in
-    let passed1 : Passed 1 c = goes (rest_left _ _ _) (eq-eqb _ _ (sized).size) in
-    let passed2 : Passed 2 c = goes (passed1) (met c.all_stand.ensures c.if-not-all_stand.false-raw) in
-    goes (passed2) (met c.all_stand-2.ensures c.if-not-all_stand-2.false-raw)
+passed3 : (c : Else-not-all_stand-2) → Passed 3 c.args.h c.args.plan.now
+passed3 c = goes (passed2 (goal.at.Else-not-all_stand-2 c).Else-not-all_stand) (met c.all_stand-2.ensures c.if-not-all_stand-2.false-raw)
 
-passed4 : (c : Else-not-all_stand-3) → Passed 4 c
-passed4 c =
-    let sized : Sized c.args.h.width c.args.plan.now (shape c.args.h) = let p = c.requires in
-    sizes _ _ _ p.0 p.1 (rw (← c.bytes.ensures) c.if-plan-bytes.false) in
-    let passed1 : Passed 1 c = goes (rest_left _ _ _) (eq-eqb _ _ (sized).size) in
-    let passed2 : Passed 2 c = goes (passed1) (met c.all_stand.ensures c.if-not-all_stand.false-raw) in
-    let passed3 : Passed 3 c = goes (passed2) (met c.all_stand-2.ensures c.if-not-all_stand-2.false-raw) in
-    goes (passed3) (met c.all_stand-3.ensures c.if-not-all_stand-3.false-raw)
+passed4 : (c : Else-not-all_stand-3) → Passed 4 c.args.h c.args.plan.now
+passed4 c = goes (passed3 (goal.at.Else-not-all_stand-3 c).Else-not-all_stand-2) (met c.all_stand-3.ensures c.if-not-all_stand-3.false-raw)
 
-passed5 : (c : Else-not-both) → Passed 5 c
-passed5 c =
-    let delays : let h = c.args.h in c.both.result ≡ delays_stand h.width c.args.plan.now (shape h) && final_bits_zero h.width c.args.plan.now (shape h) = c.both.ensures ∙ both-are c.all_stand-4.ensures c.are_final_bits_zero.ensures in
-    let sized : Sized c.args.h.width c.args.plan.now (shape c.args.h) = let p = c.requires in
-    sizes _ _ _ p.0 p.1 (rw (← c.bytes.ensures) c.if-plan-bytes.false) in
-    let passed1 : Passed 1 c = goes (rest_left _ _ _) (eq-eqb _ _ (sized).size) in
-    let passed2 : Passed 2 c = goes (passed1) (met c.all_stand.ensures c.if-not-all_stand.false-raw) in
-    let passed3 : Passed 3 c = goes (passed2) (met c.all_stand-2.ensures c.if-not-all_stand-2.false-raw) in
-    let passed4 : Passed 4 c = goes (passed3) (met c.all_stand-3.ensures c.if-not-all_stand-3.false-raw) in
-    goes (passed4) (met (delays) c.if-not-both.false-raw)
+passed5 : (c : Else-not-both) → Passed 5 c.args.h c.args.plan.now
+passed5 c = goes (passed4 (goal.at.Else-not-both c).Else-not-all_stand-3) (met (delays (goal.at.Else-not-both c).After-both) c.if-not-both.false-raw)
 
 pub bytes-requires : goal.bytes-requires
 bytes-requires c = let p = c.requires in (p.0, p.1)

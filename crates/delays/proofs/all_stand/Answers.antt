@@ -1,24 +1,23 @@
 -- `all_stand` meets its contract: the loop has passed the ticks below t.
-use mathlib.Core.List.{List}
-use mathlib.Core.Bool.{Bool, true}
+use mathlib.Core.Bool.{Bool}
 use mathlib.Core.Path.{◌≡◌, sym, ◌∙◌}
-use Prim.Native.Nat.{◌/◌, ℕ, ◌*◌, ◌-◌, ◌≤◌}
+use Prim.Native.Nat.{◌/◌, ℕ, ◌*◌, ◌≤◌}
 use native.Mathlib.Omega.{arith}
-use borrow.Author.Rules.{rules}
 use borrow.Author.Tests.{not-true, not-false}
 use Rattle.delays.specs.Steps.{Needed, tick_stands}
-use Rattle.register.specs.Lists.{all_up_to}
 use Rattle.plan.specs.Shape.{shape}
 use Rattle.plan.specs.Header as Header
 use Rattle.delays.proofs.Rows.{tick_at, ticks_stand}
 use Rattle.plan.proofs.Laws.{all_none, all_more, all_stop, all_end, row_inside, square_few, table_few}
-use Rattle.delays.proofs.all_stand.Goals.{In-loop-t}
+use Rattle.delays.proofs.all_stand.Goals.{After-tick_stands, In-loop-t}
 use Rattle.delays.proofs.all_stand.Goals as goal
 
---? tested : (c : tie.After-tick-stands invariant-loop decreases-loop) → tick c.before.before.before c.before.before.before.loop.t ≡ c.tick-stands.result
---? tested c =
---?     let d = c.before.before.before.before.before.before in
---?     rw (← d.delays-at.ensures.0, ← d.before.parties.ensures) (sym c.tick-stands.ensures)
+-- the test of tick t
+abbrev tick : In-loop-t → ℕ → Bool
+tick c t = tick_stands c.args.plan.now (shape c.args.h) (tick_at c.args.h.width c.args.plan.now (shape c.args.h) t)
+
+tested : (c : After-tick_stands) → tick_stands c.args.plan.now (shape c.args.h) (tick_at c.args.h.width c.args.plan.now (shape c.args.h) c.loop-t.t) ≡ c.tick_stands.result
+tested c = rw (← c.delays_at-first.ensures.0, ← c.parties-parties.ensures) (sym c.tick_stands.ensures)
 
 inside : (c : In-loop-t) → (c.loop-t.t * (c.parties-parties.result * c.parties-parties.result) ≤ 56448) × (c.parties-parties.result * c.parties-parties.result ≤ 441)
 inside c = let p = c.parties-parties.result in (table_few c.loop-t.t p (omega arith) (omega arith), square_few p (omega arith))
@@ -59,18 +58,18 @@ tick_stands-requires c = let h = (shape c.args.h) in
     (omega (arith, r), omega (arith, m), square_few p (omega arith), omega (arith, n.0), f)
 
 pub returns-then-not-tick_stands : goal.returns-then-not-tick_stands
-returns-then-not-tick_stands c = ?  -- 'NoneType' object has no attribute 'group'
-
---| let l = c.before.before.before.before in
---|     rw (← ticks_stand (width l) (bytes l) (header l)) (sym (all_stop (tick l) l.loop.t (header l).ticks (omega arith) (tested c.before ∙ not-true _ c.if1.true)))
+returns-then-not-tick_stands c = let a = c.args in
+    rw (← ticks_stand a.h.width a.plan.now (shape a.h))
+    (sym (all_stop (tick (goal.at.returns-then-not-tick_stands c).In-loop-t) c.loop-t.t (shape a.h).ticks (omega arith)
+    (tested (goal.at.returns-then-not-tick_stands c).After-tick_stands ∙ not-true _ c.if-not-tick_stands.true-raw)))
 
 pub loop-t-preserved : goal.loop-t-preserved
-loop-t-preserved c = ?  -- 'NoneType' object has no attribute 'group'
-
---| (omega arith, all_more (tick c.before.before.before.before) _ c.before.before.before.before.loop.invariant.1 (tested c.before ∙ not-false _ c.if1.false))
+loop-t-preserved c = (
+  omega arith,
+  all_more (tick (goal.at.loop-t-preserved c).In-loop-t) _ c.loop-t.invariant.1 (tested (goal.at.loop-t-preserved c).After-tick_stands ∙ not-false _ c.if-not-tick_stands.false-raw),
+)
 
 pub returns : goal.returns
-returns c = ?  -- 'NoneType' object has no attribute 'group'
-
---| let l = c.before in
---|     rw (← ticks_stand (width l) (bytes l) (header l)) (all_end (tick l) l.loop.t (header l).ticks (omega arith) (omega arith) l.loop.invariant.1)
+returns c = let a = c.args in
+    rw (← ticks_stand a.h.width a.plan.now (shape a.h))
+    (all_end (λ t. tick_stands a.plan.now (shape a.h) (tick_at a.h.width a.plan.now (shape a.h) t)) c.loop-t.t (shape a.h).ticks (omega arith) (omega arith) c.loop-t.invariant.1)

@@ -1,5 +1,4 @@
 -- `are_final_bits_zero` meets its contract.
-use native.Mathlib.Omega.{arith}
 use Rattle.plan.specs.Check.{final_bits_zero}
 use Rattle.delays.proofs.are_final_bits_zero.Goals as goal
 

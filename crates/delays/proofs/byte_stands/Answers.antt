@@ -1,6 +1,5 @@
 -- `byte_stands` meets its contract.
 use native.Mathlib.Omega.{arith}
-use borrow.Author.Rules.{rules}
 use Rattle.delays.proofs.Pairs.{byte_stands}
 use Rattle.delays.proofs.byte_stands.Goals as goal
 

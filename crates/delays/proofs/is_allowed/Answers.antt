@@ -1,6 +1,5 @@
 -- `is_allowed` meets its contract.
 use mathlib.Core.Path.{sym, ◌∙◌}
-use native.Mathlib.Omega.{arith}
 use Rattle.delays.proofs.is_allowed.Goals as goal
 
 pub returns-then-is_link : goal.returns-then-is_link

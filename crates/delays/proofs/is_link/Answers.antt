@@ -1,5 +1,4 @@
 -- `is_link` meets its contract.
-use native.Mathlib.Omega.{arith}
 use borrow.Author.Tests.{lt-ltb, le-ltb}
 use Rattle.plan.specs.Parts.{is_link}
 use Rattle.delays.proofs.is_link.Goals as goal

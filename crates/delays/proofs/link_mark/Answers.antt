@@ -1,7 +1,6 @@
 -- `link_mark` meets its contract.
 use mathlib.Core.Path.{refl, sym, ◌∙◌}
 use native.Mathlib.Omega.{arith}
-use borrow.Author.Rules.{rules}
 use Rattle.delays.specs.Steps.{link_mark}
 use Rattle.delays.proofs.link_mark.Goals as goal
 

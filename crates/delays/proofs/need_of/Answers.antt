@@ -1,6 +1,5 @@
 -- `need_of` meets its contract.
 use mathlib.Core.Path.{refl}
-use borrow.Author.Rules.{rules}
 use Rattle.delays.specs.Steps.{need_of}
 use Rattle.delays.proofs.need_of.Goals as goal
 

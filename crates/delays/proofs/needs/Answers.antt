@@ -1,10 +1,8 @@
 -- `needs` meets its contract: the loop has filled the entries below k.
-use mathlib.Core.Path.{◌≡◌, refl}
-use Prim.Native.Nat.{◌-◌, ◌≤◌}
+use mathlib.Core.Path.{refl}
 use native.Mathlib.Nat.{not-suc-le-zero}
 use native.Mathlib.Omega.{arith}
-use lib.ListN.{length-set, length}
-use Rattle.delays.specs.Steps.{most_pairs, Needed}
+use lib.ListN.{length-set}
 use Rattle.delays.proofs.Pairs.{needed_more}
 use Rattle.delays.proofs.needs.Goals as goal
 

@@ -1,11 +1,8 @@
 -- `needs` meets its contract: the loop has filled the entries below k.
-use mathlib.Core.Path.{◌≡◌, refl}
+use mathlib.Core.Path.{◌≡◌}
 use Prim.Native.Nat.{◌-◌, ◌≤◌}
-use native.Mathlib.Nat.{not-suc-le-zero}
-use native.Mathlib.Omega.{arith}
-use lib.ListN.{length-set, length}
+use lib.ListN.{length}
 use Rattle.delays.specs.Steps.{most_pairs, Needed}
-use Rattle.delays.proofs.Pairs.{needed_more}
 use Rattle.delays.proofs.needs.Given as goal
 
 abbrev pub invariant-loop-k : goal.invariant-loop-k

@@ -1,11 +1,8 @@
 -- `pairs_stand` meets its contract: the loop has tested the pairs below k.
-use mathlib.Core.Path.{◌≡◌, sym, ◌∙◌}
-use Prim.Native.Nat.{◌/◌, ◌+◌, ◌*◌, ◌-◌, ◌≤◌}
-use native.Mathlib.Omega.{arith}
-use lib.ListN.{get_or}
+use mathlib.Core.Path.{◌≡◌}
+use Prim.Native.Nat.{◌*◌, ◌-◌, ◌≤◌}
 use Rattle.delays.specs.Steps.{first_stand}
 use Rattle.plan.specs.Shape.{shape}
-use Rattle.delays.proofs.Pairs.{first_none, pair_more, byte_at, byte_pair, need_high, need_low, link_mark_few}
 use Rattle.delays.proofs.pairs_stand.Given as goal
 
 abbrev pub invariant-loop-k : goal.invariant-loop-k

@@ -1,8 +1,6 @@
 -- `rest_stand` meets its contract: the loop has tested the delays below q.
 use mathlib.Core.Path.{◌≡◌, sym}
-use Prim.Native.Nat.{◌-◌, ◌≤◌}
 use native.Mathlib.Omega.{arith}
-use Rattle.delays.specs.Steps.{first_stand}
 use Rattle.plan.specs.Shape.{shape}
 use Rattle.delays.proofs.Pairs.{first_more}
 use Rattle.delays.proofs.rest_stand.Goals as goal

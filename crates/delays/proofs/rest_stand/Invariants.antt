@@ -1,10 +1,8 @@
 -- `rest_stand` meets its contract: the loop has tested the delays below q.
-use mathlib.Core.Path.{◌≡◌, sym}
+use mathlib.Core.Path.{◌≡◌}
 use Prim.Native.Nat.{◌-◌, ◌≤◌}
-use native.Mathlib.Omega.{arith}
 use Rattle.delays.specs.Steps.{first_stand}
 use Rattle.plan.specs.Shape.{shape}
-use Rattle.delays.proofs.Pairs.{first_more}
 use Rattle.delays.proofs.rest_stand.Given as goal
 
 abbrev pub invariant-loop-q : goal.invariant-loop-q

@@ -1,6 +1,5 @@
 -- `shifted` meets its contract.
 use mathlib.Core.Path.{refl}
-use borrow.Author.Rules.{rules}
 use Rattle.delays.proofs.shifted.Goals as goal
 
 pub returns : goal.returns

@@ -1,17 +1,13 @@
 -- `forgeries::all_in` meets its contract: the loop has passed the first i forgeries, and knows the least that may follow.
 use mathlib.Core.Bool.{false, true, ◌&&◌}
-use mathlib.Core.List.{List}
 use mathlib.Core.Path.{◌≡◌, sym, ◌∙◌}
-use Prim.Native.Nat.{ℕ, ◌-◌, ◌≤◌}
 use native.Mathlib.Nat.{lt_of_lt_of_le}
 use native.Mathlib.Omega.{arith}
 use lib.Pow.{pow_mono}
 use lib.Dec.{leb}
 use borrow.Author.Tests.{not-true, not-false, lt-leb, le-leb}
-use borrow.Author.Rules.{rules}
 use Rattle.bits.specs.Field.{field_of}
-use Rattle.register.specs.Lists.{all_up_to}
-use Rattle.plan.specs.Header.{Header, forgery_bits, forgery_at}
+use Rattle.plan.specs.Header.{forgery_bits, forgery_at}
 use Rattle.plan.specs as plan-specs
 use Rattle.forgeries.specs.Steps.{forged_alone}
 use Rattle.plan.specs.Check.{forgery_stands, forgeries_stand}
@@ -39,7 +35,7 @@ tested c =
     forgeries-laws.Forging.forgery_as c.args.h.width c.args.plan.now ((plan-specs.Shape.shape c.args.h)) c.loop-i.i c.field-all.result c.loop-i.next c.of.result (forged) c.of.ensures c.loop-i.invariant.2
 
 pub loop-i-init : goal.loop-i-init
-loop-i-init c = (omega arith, plan-laws.Laws.All-none _, plan-laws.Waiting.follows_none _)
+loop-i-init c = (omega arith, plan-laws.Laws.all_none _, plan-laws.Waiting.follows_none _)
 
 pub overflow_mul-bits : goal.overflow_mul-bits
 overflow_mul-bits c = omega (arith, plan-laws.Sizes.forgeries_few c.forgery_bits-bits.result c.loop-i.i (omega arith) (omega arith))
@@ -70,8 +66,8 @@ pub loop-i-preserved : goal.loop-i-preserved
 loop-i-preserved c = let alone = sym c.stands_alone.ensures ∙ not-false _ c.if-not-stands_alone.false-raw in
     let t : forgery_stands c.args.h.width c.args.plan.now ((plan-specs.Shape.shape c.args.h)) c.loop-i.i ≡ true = rw (tested (goal.at.loop-i-preserved c).After-of, alone, le-leb _ _ c.if-all-next.false) in
     let more = plan-laws.Waiting.follows_more (λ j. field_of c.args.plan.now (forgery_at c.args.h.width ((plan-specs.Shape.shape c.args.h)) j) (forgery_bits c.args.h.width)) c.loop-i.i in
-    (omega arith, plan-laws.Laws.All-more _ _ c.loop-i.invariant.1 t, rw (forged (goal.at.loop-i-preserved c).After-field-all) more)
+    (omega arith, plan-laws.Laws.all_more _ _ c.loop-i.invariant.1 t, rw (forged (goal.at.loop-i-preserved c).After-field-all) more)
 
 pub returns : goal.returns
 unfolding forgeries_stand
-returns c = plan-laws.Laws.all_End (forgery_stands c.args.h.width c.args.plan.now ((plan-specs.Shape.shape c.args.h))) c.loop-i.i ((plan-specs.Shape.shape c.args.h)).forgeries (omega arith) (omega arith) c.loop-i.invariant.1
+returns c = plan-laws.Laws.all_end (forgery_stands c.args.h.width c.args.plan.now ((plan-specs.Shape.shape c.args.h))) c.loop-i.i ((plan-specs.Shape.shape c.args.h)).forgeries (omega arith) (omega arith) c.loop-i.invariant.1

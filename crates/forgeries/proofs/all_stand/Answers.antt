@@ -1,7 +1,5 @@
 -- `forgeries::all_stand` meets its contract: the part of the plan is handed on with its offset.
 use Prim.Native.Nat.{◌/◌}
-use native.Mathlib.Omega.{arith}
-use borrow.Author.Rules.{rules}
 use Rattle.register.proofs.Lists.{part_from}
 use Rattle.forgeries.proofs.all_stand.Goals as goal
 

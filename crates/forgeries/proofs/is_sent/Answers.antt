@@ -1,15 +1,14 @@
 -- `forgeries::is_sent` meets its contract: the tick says which placement.
 use mathlib.Core.Bool.{◌&&◌}
 use mathlib.Core.Path.{◌≡◌}
-use mathlib.Core.List.{List}
-use Prim.Native.Nat.{ℕ, ◌/◌}
+use Prim.Native.Nat.{◌/◌}
 use native.Mathlib.Nat.{div-le_self}
 use native.Mathlib.Omega.{arith}
 use lib.Dec.{ltb}
 use borrow.Author.Tests.{lt-ltb, le-ltb}
 use Rattle.plan.specs.Parts.{in_placement}
 use Rattle.plan.specs.Packed.{plan_of}
-use Rattle.plan.specs.Header.{Header, moves}
+use Rattle.plan.specs.Header.{moves}
 use Rattle.plan.specs.Shape.{shape}
 use Rattle.plan.proofs.Ranges.{movement_of}
 use Rattle.forgeries.proofs.Forging.{placed_is}

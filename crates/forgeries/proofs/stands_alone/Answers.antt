@@ -1,6 +1,4 @@
 -- `forgeries::stands_alone` meets its contract: the table stands for the reads of the plan.
-use native.Mathlib.Omega.{arith}
-use borrow.Author.Rules.{rules}
 use Rattle.plan.specs.Steps.{forgery}
 use Rattle.plan.specs.Shape.{shape}
 use Rattle.forgeries.proofs.Forging.{received}
