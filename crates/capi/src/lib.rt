@@ -18,29 +18,21 @@ use plan::form;
 use plan::header::Shape;
 
 // The number of reads.
-#[unsafe(no_mangle)]
-pub extern "C" fn register_check(form: usize, plan: &[u8]) -> usize
+pub fn register_check(form: usize, plan: &[u8]) -> usize
     ensures { result ≡ code_of (check_in form plan.now) }
 {
     codes::of_outcome(checks::check(form, plan))
 }
 
 // The number of reads; an answer's bytes for each of them.
-#[unsafe(no_mangle)]
-pub extern "C" fn register_play(
-    form: usize,
-    plan: &[u8],
-    answers: &mut [u8],
-    workspace: &mut [u8],
-) -> usize
+pub fn register_play(form: usize, plan: &[u8], answers: &mut [u8], workspace: &mut [u8]) -> usize
     ensures { record { code = result; answers = answers.new; workspace = workspace.new } ≡ play_exported form plan.now answers.old workspace.old }
 {
     codes::of_outcome(play::play(form, plan, answers, workspace))
 }
 
 // A server's condition and 4 for each pair that it keeps. As many whole pairs as fit stand at the start of `pairs`, four bytes each.
-#[unsafe(no_mangle)]
-pub extern "C" fn register_look(
+pub fn register_look(
     form: usize,
     plan: &[u8],
     workspace: &mut [u8],
@@ -54,16 +46,14 @@ pub extern "C" fn register_look(
 }
 
 // 1 for yes, 0 for no.
-#[unsafe(no_mangle)]
-pub extern "C" fn register_judge(form: usize, plan: &[u8], answers: &[u8]) -> usize
+pub fn register_judge(form: usize, plan: &[u8], answers: &[u8]) -> usize
     ensures { result ≡ verdict_code (judge_in form plan.now answers.now) }
 {
     codes::of_judge(judge::judge(form, plan, answers))
 }
 
 // The number of bytes of the sheet of the answers, at the start of `page`.
-#[unsafe(no_mangle)]
-pub extern "C" fn register_sheet(form: usize, plan: &[u8], answers: &[u8], page: &mut [u8]) -> usize
+pub fn register_sheet(form: usize, plan: &[u8], answers: &[u8], page: &mut [u8]) -> usize
     ensures { record { code = result; out = page.new } ≡ written_by (sheet_in form plan.now answers.now page.old) }
 {
     codes::of_outcome(sheet::sheet(form, plan, answers, page))
@@ -71,16 +61,14 @@ pub extern "C" fn register_sheet(form: usize, plan: &[u8], answers: &[u8], page:
 
 // How many numbers there are. As many of them as fit stand at the start of `numbers`: 0 bytes of answers, 1 movements, 2 WRITEs and 3 READs sent, 4 votes sent on
 // receipt of a WRITE, 5 the most forged messages that arrive in one tick.
-#[unsafe(no_mangle)]
-pub extern "C" fn register_forecast(form: usize, plan: &[u8], numbers: &mut [u32]) -> usize
+pub fn register_forecast(form: usize, plan: &[u8], numbers: &mut [u32]) -> usize
     ensures { record { code = result; numbers = numbers.new } ≡ forecast_coded form plan.now numbers.old }
 {
     capi_forecast::forecast(form, plan, numbers)
 }
 
 // The number of bytes of the plan that is packed from the lists, at the start of `out`.
-#[unsafe(no_mangle)]
-pub extern "C" fn register_pack(
+pub fn register_pack(
     form: usize,
     header: &[u32],
     placements: &[u32],
@@ -96,24 +84,21 @@ pub extern "C" fn register_pack(
 }
 
 // The number of bytes of the plan of form one carried to form two, at the start of `out`.
-#[unsafe(no_mangle)]
-pub extern "C" fn register_carry(plan: &[u8], out: &mut [u8]) -> usize
+pub fn register_carry(plan: &[u8], out: &mut [u8]) -> usize
     ensures { record { code = result; out = out.new } ≡ written_by (carry_of (width_of form_one) (width_of form_two) plan.now out.old) }
 {
     codes::of_outcome(carry::carry(plan, out))
 }
 
 // The same on the way back, from form two to form one.
-#[unsafe(no_mangle)]
-pub extern "C" fn register_carry_back(plan: &[u8], out: &mut [u8]) -> usize
+pub fn register_carry_back(plan: &[u8], out: &mut [u8]) -> usize
     ensures { record { code = result; out = out.new } ≡ written_by (carry_of (width_of form_two) (width_of form_one) plan.now out.old) }
 {
     codes::of_outcome(carry::carry_back(plan, out))
 }
 
 // A field of answer i: 0 begin, 1 reader, 2 value, 3 number, 4 count. 0 where there is no such form, answer or field.
-#[unsafe(no_mangle)]
-pub extern "C" fn register_answer(form: usize, answers: &[u8], i: usize, field: usize) -> usize
+pub fn register_answer(form: usize, answers: &[u8], i: usize, field: usize) -> usize
     ensures { result ≡ answer_field form answers.now i field }
 {
     capi_fields::of_answer(form, answers, i, field)
@@ -121,32 +106,28 @@ pub extern "C" fn register_answer(form: usize, answers: &[u8], i: usize, field: 
 
 // A field of a plan's header: 0 n, 1 f, 2 delta, 3 period, 4 readers, 5 ticks, 6 initial value, 7 operations, 8 forgeries. 0 where there is no such form,
 // header or field.
-#[unsafe(no_mangle)]
-pub extern "C" fn register_header(form: usize, plan: &[u8], field: usize) -> usize
+pub fn register_header(form: usize, plan: &[u8], field: usize) -> usize
     ensures { result ≡ header_field form plan.now field }
 {
     capi_fields::of_header(form, plan, field)
 }
 
 // The bytes of the longest plan that Check accepts in a form.
-#[unsafe(no_mangle)]
-pub extern "C" fn register_most_bytes(form: usize) -> usize
+pub fn register_most_bytes(form: usize) -> usize
     ensures { result ≡ most_bytes form }
 {
     Shape::most_bytes(form)
 }
 
 // The most reads of a plan that Check accepts.
-#[unsafe(no_mangle)]
-pub extern "C" fn register_most_reads() -> usize
+pub fn register_most_reads() -> usize
     ensures { result ≡ most_reads }
 {
     Shape::MOST_READS
 }
 
 // The bytes of an answer in a form; 0 where there is no such form.
-#[unsafe(no_mangle)]
-pub extern "C" fn register_answer_bytes(form: usize) -> usize
+pub fn register_answer_bytes(form: usize) -> usize
     ensures { result ≡ answer_bytes_in form }
 {
     if !form::is_known(form) {
@@ -156,8 +137,7 @@ pub extern "C" fn register_answer_bytes(form: usize) -> usize
 }
 
 // The bytes of workspace that Play and Look ask for.
-#[unsafe(no_mangle)]
-pub extern "C" fn register_workspace_bytes() -> usize
+pub fn register_workspace_bytes() -> usize
     ensures { result ≡ workspace_size }
 {
     Shape::WORKSPACE_BYTES
