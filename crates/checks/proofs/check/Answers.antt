@@ -1,5 +1,4 @@
 -- `check` meets its contract: in a form that there is, it is Check at the form's width.
-use borrow.Author.Rules.{rules}
 use borrow.Author.Tests.{not-true, not-false}
 use mathlib.Core.Path.{sym, ◌∙◌}
 use Rattle.plan.specs.Check.{check_in}

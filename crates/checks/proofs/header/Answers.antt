@@ -1,11 +1,9 @@
 -- `header` meets its contract: test 1, then test 2 of the header that is read.
 use mathlib.Core.Path.{◌≡◌, sym, ap, ◌∙◌}
 use mathlib.Core.Bool.{true}
-use native.Mathlib.Omega.{arith}
 use lib.Dec.{leb}
 use lib.ListN.{length}
 use borrow.Author.Tests.{lt-leb, le-leb, not-true, not-false}
-use borrow.Author.Rules.{rules}
 use Rattle.bits.specs.Fill.{bytes_for}
 use Rattle.plan.specs.{Header.header_bits, Check.header_in_range, Check.result, CheckParts.run, CheckParts.check_header}
 use Rattle.plan.proofs.Chain.{found}
