@@ -1,12 +1,9 @@
 -- `store::insert` meets its contract. The loop's invariant: every place before i is higher than the pair's.
 use mathlib.Core.Path.{◌≡◌}
-use Prim.Native.Nat.{◌≤◌, ◌<◌, ◌-◌}
+use Prim.Native.Nat.{◌<◌}
 use native.Mathlib.Omega.{arith}
-use lib.ListN.{length}
-use borrow.Author.Rules.{rules}
 use Rattle.plan.specs.Packed.{store_depth}
-use Rattle.stores.specs.Stores.{place_of}
-use Rattle.stores.proofs.StoreLaws.{Above, above_more, no_empty, put_lower, put_same, put_none, put_valued}
+use Rattle.stores.proofs.StoreLaws.{above_more, no_empty, put_lower, put_same, put_none, put_valued}
 use Rattle.stores.proofs.insert.Goals as goal
 
 pub returns-then-here-mine : goal.returns-then-here-mine

@@ -1,12 +1,10 @@
 -- `store::insert` meets its contract. The loop's invariant: every place before i is higher than the pair's.
 use mathlib.Core.Path.{◌≡◌}
-use Prim.Native.Nat.{◌≤◌, ◌<◌, ◌-◌}
-use native.Mathlib.Omega.{arith}
+use Prim.Native.Nat.{◌≤◌, ◌-◌}
 use lib.ListN.{length}
-use borrow.Author.Rules.{rules}
 use Rattle.plan.specs.Packed.{store_depth}
 use Rattle.stores.specs.Stores.{place_of}
-use Rattle.stores.proofs.StoreLaws.{Above, above_more, no_empty, put_lower, put_same, put_none, put_valued}
+use Rattle.stores.proofs.StoreLaws.{Above}
 use Rattle.stores.proofs.insert.Given as goal
 
 abbrev pub invariant-loop-i : goal.invariant-loop-i

@@ -1,11 +1,9 @@
 -- `store::is_same` meets its contract. The loop's invariant: the stores are the same if they are from place i on.
-use mathlib.Core.Path.{◌≡◌, refl, sym, ◌∙◌}
+use mathlib.Core.Path.{◌≡◌}
 use Prim.Native.Nat.{◌≤◌, ◌-◌}
-use native.Mathlib.Omega.{arith}
 use lib.ListN.{length}
-use borrow.Author.Rules.{rules}
 use Rattle.plan.specs.Packed.{store_depth}
-use Rattle.stores.proofs.StoreLaws.{same_from, same_past, same_no, same_end, same_on}
+use Rattle.stores.proofs.StoreLaws.{same_from}
 use Rattle.stores.proofs.is_same.Given as goal
 
 abbrev pub invariant-loop-i : goal.invariant-loop-i

@@ -1,12 +1,8 @@
 -- `store::put_at` meets its contract. The loop's invariant: with what is carried put before place q the places are what they have to be.
-use mathlib.Core.Path.{◌≡◌, refl, ◌∙◌}
-use Prim.Native.Nat.{◌≤◌, ◌-◌}
+use mathlib.Core.Path.{◌∙◌}
 use native.Mathlib.Omega.{arith}
-use lib.ListN.{length, length-set}
-use borrow.Author.Rules.{rules}
-use Rattle.plan.specs.Packed.{store_depth}
-use Rattle.stores.specs.Stores.{put_at}
-use Rattle.stores.proofs.StoreLaws.{carried_on, dropped}
+use lib.ListN.{length-set}
+use Rattle.stores.proofs.StoreLaws.{carried_on}
 use Rattle.stores.proofs.put_at.Goals as goal
 
 pub loop-q-preserved : goal.loop-q-preserved

@@ -1,12 +1,9 @@
 -- `store::put_at` meets its contract. The loop's invariant: with what is carried put before place q the places are what they have to be.
-use mathlib.Core.Path.{◌≡◌, refl, ◌∙◌}
+use mathlib.Core.Path.{◌≡◌}
 use Prim.Native.Nat.{◌≤◌, ◌-◌}
-use native.Mathlib.Omega.{arith}
-use lib.ListN.{length, length-set}
-use borrow.Author.Rules.{rules}
+use lib.ListN.{length}
 use Rattle.plan.specs.Packed.{store_depth}
 use Rattle.stores.specs.Stores.{put_at}
-use Rattle.stores.proofs.StoreLaws.{carried_on, dropped}
 use Rattle.stores.proofs.put_at.Given as goal
 
 abbrev pub invariant-loop-q : goal.invariant-loop-q
