@@ -1,14 +1,10 @@
 -- `tallies::empty` meets its contract. The loop's invariant: the row's cells before c are 0, the others are as they were.
-use mathlib.Core.Path.{◌≡◌, refl}
+use mathlib.Core.Path.{◌≡◌}
 use Prim.Native.Nat.{◌+◌, ◌≤◌, ◌-◌}
-use native.Mathlib.Omega.{arith}
-use lib.ListN.{length, length-set}
-use borrow.Author.Rules.{rules}
+use lib.ListN.{length}
 use Rattle.limits.specs.Limits.{places}
 use Rattle.calendar.specs.View.{Zeroed}
-use Rattle.calendar.proofs.Laws.{zeroed_none, zeroed_more}
 use Rattle.tallies.specs.Tallies.{table_size}
-use Rattle.tallies.proofs.TallyLaws.{emptied}
 use Rattle.tallies.proofs.empty.Given as goal
 
 abbrev pub invariant-loop-c : goal.invariant-loop-c

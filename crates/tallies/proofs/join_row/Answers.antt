@@ -1,15 +1,11 @@
 -- `tallies::join_row` meets its contract. The loop's invariant: what arrives for the pairs before j has joined.
-use mathlib.Core.Path.{◌≡◌, refl, sym, ◌∙◌}
+use mathlib.Core.Path.{refl, sym, ◌∙◌}
 use mathlib.Core.Logic.{inl, inr}
-use Prim.Native.Nat.{ℕ, ◌+◌, ◌≤◌, ◌<◌, ◌-◌}
+use Prim.Native.Nat.{◌+◌}
 use native.Mathlib.Omega.{arith}
-use lib.ListN.{length, length-set, get_or}
+use lib.ListN.{length-set}
 use lib.Seq.{get_or-set_other}
-use borrow.Author.Rules.{rules}
-use Rattle.limits.specs.Limits.{places}
-use Rattle.calendar.specs.Layout.{rows, calendar_size, sender, high_of}
-use Rattle.tallies.specs.Tallies.{table_size, Outside}
-use Rattle.tallies.proofs.TallyLaws.{Part, part_none, part_more, part_all, none_below, none_beyond}
+use Rattle.tallies.proofs.TallyLaws.{part_none, part_more, part_all, none_below, none_beyond}
 use Rattle.tallies.proofs.join_row.Goals as goal
 
 pub loop-j-init : goal.loop-j-init

@@ -1,15 +1,11 @@
 -- `tallies::join_row` meets its contract. The loop's invariant: what arrives for the pairs before j has joined.
-use mathlib.Core.Path.{◌≡◌, refl, sym, ◌∙◌}
-use mathlib.Core.Logic.{inl, inr}
+use mathlib.Core.Path.{◌≡◌}
 use Prim.Native.Nat.{ℕ, ◌+◌, ◌≤◌, ◌<◌, ◌-◌}
-use native.Mathlib.Omega.{arith}
-use lib.ListN.{length, length-set, get_or}
-use lib.Seq.{get_or-set_other}
-use borrow.Author.Rules.{rules}
+use lib.ListN.{length, get_or}
 use Rattle.limits.specs.Limits.{places}
 use Rattle.calendar.specs.Layout.{rows, calendar_size, sender, high_of}
 use Rattle.tallies.specs.Tallies.{table_size, Outside}
-use Rattle.tallies.proofs.TallyLaws.{Part, part_none, part_more, part_all, none_below, none_beyond}
+use Rattle.tallies.proofs.TallyLaws.{Part}
 use Rattle.tallies.proofs.join_row.Given as goal
 
 abbrev pub invariant-loop-j : goal.invariant-loop-j

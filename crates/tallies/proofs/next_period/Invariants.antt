@@ -1,12 +1,8 @@
 -- `tallies::next_period` meets its contract. The loop's invariant: the new period has begun in the cells before c.
 use mathlib.Core.Path.{◌≡◌}
-use mathlib.Core.Logic.{inl, inr}
-use Prim.Native.Nat.{◌≤◌, ◌<◌, ◌-◌}
-use native.Mathlib.Omega.{arith}
-use lib.ListN.{length, length-set}
-use borrow.Author.Rules.{rules}
+use Prim.Native.Nat.{◌≤◌, ◌-◌}
+use lib.ListN.{length}
 use Rattle.tallies.specs.Tallies.{table_size, recent_at, Aged}
-use Rattle.tallies.proofs.TallyLaws.{aged_none, aged_size, aged_more}
 use Rattle.tallies.proofs.next_period.Given as goal
 
 abbrev pub invariant-loop-c : goal.invariant-loop-c
