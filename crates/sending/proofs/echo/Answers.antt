@@ -1,5 +1,4 @@
 -- `sending::echo` meets its contract: a vote for each pair kept, to every other server.
-use borrow.Author.Rules.{rules}
 use Rattle.sending.proofs.SendLaws.{echo_sent}
 use Rattle.sending.proofs.echo.Goals as goal
 

@@ -1,15 +1,11 @@
 -- `sending::reply` meets its contract. The loop's invariant: the replies to the readers below y are posted.
-use borrow.Author.Rules.{rules}
 use native.Mathlib.Omega.{arith}
 use mathlib.Core.Path.{◌≡◌}
-use mathlib.Core.Logic.{inl, inr}
-use Prim.Native.Nat.{◌-◌, ◌≤◌}
-use Rattle.calendar.specs.View.{Posted}
-use Rattle.sending.proofs.SendLaws.{replies_below, replies_first, replies_unasked, replies_absent, replies_late, replies_sent, replies_last}
+use Rattle.sending.proofs.SendLaws.{replies_first, replies_unasked, replies_absent, replies_late, replies_sent, replies_last}
 use Rattle.sending.proofs.reply.Goals as goal
 
 pub loop-y-init : goal.loop-y-init
-loop-y-init c = let a = c.args in (omega arith, omega arith, replies_first _ a.from a.t6 a.readers a.kept _)
+loop-y-init c = let a = c.args in (omega arith, omega arith, replies_first _ a.from a.ends a.readers a.kept _)
 
 pub delay-requires : goal.delay-requires
 delay-requires c = let R = c.requires.1 in
@@ -27,16 +23,16 @@ loop-y-preserved c = let a = c.args in
       omega (arith, l.invariant.0),
       omega (arith, g),
       elim c.if-readers-y-eq1.branch [
-        | inl w ↦ rw w.11
-            (replies_sent _ a.from a.t6 a.readers a.kept _ _ l.y l.invariant.0 l.invariant.2 _ g w.0.taken w.2.taken (rw w.3.ensures.0 at w.5.taken)
-            (rw (w.7.ensures.0, w.3.ensures.0) at w.8.ensures))
-        | inr (inl w) ↦ rw w.6 (replies_late _ a.from a.t6 a.readers a.kept _ _ l.y l.invariant.0 l.invariant.2 (rw w.3.ensures.0 at w.5.left))
-        | inr (inr (inl w)) ↦ rw w.3 (replies_absent _ a.from a.t6 a.readers a.kept _ _ l.y l.invariant.0 l.invariant.2 w.2.left)
-        | inr (inr (inr w)) ↦ rw w.1 (replies_unasked _ a.from a.t6 a.readers a.kept _ _ l.y l.invariant.0 l.invariant.2 w.0.left)
+        | goal.then-readers-y-eq1+then-n-y+then-at-ends w ↦ rw w.work-is
+            (replies_sent _ a.from a.ends a.readers a.kept _ _ l.y l.invariant.0 l.invariant.2 _ g w.if-readers-y-eq1.true w.if-n-y.true (rw w.delay.ensures.0 at w.if-at-ends.true)
+            (rw (w.row.ensures.0, w.delay.ensures.0) at w.post_kept.ensures))
+        | goal.then-readers-y-eq1+then-n-y+else-at-ends w ↦ rw w.work-is (replies_late _ a.from a.ends a.readers a.kept _ _ l.y l.invariant.0 l.invariant.2 (rw w.delay.ensures.0 at w.if-at-ends.false))
+        | goal.then-readers-y-eq1+else-n-y w ↦ rw w.work-is (replies_absent _ a.from a.ends a.readers a.kept _ _ l.y l.invariant.0 l.invariant.2 w.if-n-y.false)
+        | goal.else-readers-y-eq1 w ↦ rw w.work-is (replies_unasked _ a.from a.ends a.readers a.kept _ _ l.y l.invariant.0 l.invariant.2 w.if-readers-y-eq1.false)
       ],
     )
 
 pub returns : goal.returns
 returns c = let a = c.args in
     let e : c.loop-y.y ≡ 5 = omega (arith, c.loop-y.invariant.1, c.loop-y-test.false) in
-    replies_last _ a.from a.t6 a.readers a.kept _ _ (rw e at c.loop-y.invariant.2)
+    replies_last _ a.from a.ends a.readers a.kept _ _ (rw e at c.loop-y.invariant.2)

@@ -1,5 +1,4 @@
 -- `sending::to_servers` meets its contract: the delays to the servers lie in the plan.
-use borrow.Author.Rules.{rules}
 use native.Mathlib.Omega.{arith}
 use Rattle.tables.proofs.LinkLaws.{link_small, link_inside}
 use Rattle.sending.proofs.to_servers.Goals as goal

@@ -1,5 +1,4 @@
 -- `sending::vote` meets its contract: no vote for a pair that is not known, and else one to every other server.
-use borrow.Author.Rules.{rules}
 use Rattle.sending.proofs.SendLaws.{votes_nobody, votes_sent_lem}
 use Rattle.sending.proofs.vote.Goals as goal
 
