@@ -1,6 +1,7 @@
 -- Where the program says what is wrong.
-use Rattle.std.specs.Prelude.{ℤ, pos}
+use Rattle.console.specs.declared.Stream.{Stream}
+use Rattle.console.specs.declared.Stream.TheVariants.{Errors}
 
 -- standard error, where everything goes that is no answer
-abbrev pub error_stream : ℤ
-error_stream = pos 2
+abbrev pub error_stream : Stream
+error_stream = Errors

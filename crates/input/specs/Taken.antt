@@ -1,18 +1,27 @@
 -- What was read lies within the buffer, and what comes after each read.
-use Rattle.std.specs.Prelude.{List, ℕ, zero, suc, ◌+◌, ℤ, pos, negsuc}
-use Rattle.io.specs.Counts.{IsPrefixLen}
+use Rattle.std.specs.Prelude.{◌≡◌, List, ℕ, zero, suc, ◌+◌, ◌≤◌, length, take, Result, Ok, Err}
+use Rattle.std.specs.declared.io.Error.{Error}
 use Rattle.input.specs.declared.Taken.{Taken}
 use Rattle.input.specs.declared.Taken.TheVariants.{Bytes, Failed}
 use Rattle.input.specs.declared.Next.{Next}
 use Rattle.input.specs.declared.Next.TheVariants.{Stop, More}
 
+-- `&bytes[..n]` is in bounds and has n bytes.
+abbrev pub IsPrefixLen : ℕ → List ℕ → Type 0
+IsPrefixLen n bytes = (n ≤ length bytes) × (n ≡ length (take n bytes))
+
 abbrev pub Within : Taken → List ℕ → Type 0
 Within (Bytes n) bytes = IsPrefixLen n bytes
-Within Failed bytes = Unit {0}
+Within (Failed e) bytes = Unit {0}
 
--- After a read that answered so much, so many bytes being there before it: below 0 it failed, 0 is the input's end, and every other number counts
+-- What a read that is handed so many bytes may answer: that it failed, or how many bytes it moved, no more than those.
+abbrev pub Moved : ℕ → Result ℕ Error → Type 0
+Moved n (Ok k) = k ≤ n
+Moved n (Err e) = Unit {0}
+
+-- After a read that answered so much, so many bytes being there before it: it failed, 0 is the input's end, and every other number counts
 -- more bytes.
-abbrev pub next_of : ℤ → ℕ → Next
-next_of (negsuc k) done = Stop Failed
-next_of (pos zero) done = Stop (Bytes done)
-next_of (pos (suc k)) done = More (done + suc k)
+abbrev pub next_of : Result ℕ Error → ℕ → Next
+next_of (Err e) done = Stop (Failed e)
+next_of (Ok zero) done = Stop (Bytes done)
+next_of (Ok (suc k)) done = More (done + suc k)

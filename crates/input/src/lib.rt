@@ -1,14 +1,16 @@
 #![tactic(auto)]
 // A plan's bytes from a file or from standard input.
 ghost use Rattle.std.specs.Prelude.{◌≡◌, ◌-◌, ◌≤◌};
-ghost use Rattle.libc.specs.Io.{Moved};
-ghost use Rattle.input.specs.Taken.{Within, next_of};
+ghost use Rattle.input.specs.Taken.{Moved, Within, next_of};
 
-// What reading gave: so many bytes at the start of the buffer, or a read that failed.
+use std::io;
+use std::io::Read;
+
+// What reading gave: so many bytes at the start of the buffer, or a read that failed, with the system's reason.
 #[derive(Clone, Copy)]
 pub enum Taken {
     Bytes(usize),
-    Failed,
+    Failed(io::Error),
 }
 
 // What comes after a read: reading stops with what it gave, or so many bytes are there by now and it goes on.
@@ -19,14 +21,16 @@ pub enum Next {
 }
 
 // After a read that answered `got`, with `done` bytes of the buffer's `room` taken before it.
-fn after(got: isize, done: usize, room: usize) -> Next
+fn after(got: io::Result<usize>, done: usize, room: usize) -> Next
     requires { (done ≤ room) × Moved (room - done) got }
     ensures { result ≡ next_of got done }
 {
-    if got < 0 {
-        return Next::Stop(Taken::Failed);
-    }
-    let more = got as usize;
+    let more = match got {
+        Ok(more) => more,
+        Err(error) => {
+            return Next::Stop(Taken::Failed(error));
+        }
+    };
     if more == 0 {
         return Next::Stop(Taken::Bytes(done));
     }
@@ -35,12 +39,12 @@ fn after(got: isize, done: usize, room: usize) -> Next
 }
 
 // Reads until the input ends, the buffer is full or a read fails.
-pub fn take(input: i32, bytes: &mut [u8]) -> Taken
+pub fn take<R: Read>(input: &mut R, bytes: &mut [u8]) -> Taken
     ensures { Within result bytes.new }
 {
     let mut done: usize = 0;
     while done < bytes.len() {
-        let got = libc::read(input, &mut bytes[done..]);
+        let got = input.read(&mut bytes[done..]);
         let next = after(got, done, bytes.len());
         match next {
             Next::Stop(taken) => {

@@ -1,6 +1,6 @@
 // The file's numbers, and the lists of a case among them.
 ghost use Rattle.std.specs.Prelude.{◌+◌, ◌*◌, ◌^◌, ◌≤◌, ◌<◌, length};
-ghost use Rattle.io.specs.Counts.{IsPrefixLen};
+ghost use Rattle.input.specs.Taken.{IsPrefixLen};
 
 // The most bytes of a file.
 pub const MOST_BYTES: usize = 650000;

@@ -5,10 +5,14 @@ ghost use Rattle.std.specs.Prelude.{◌≤◌, length};
 
 mod cases;
 
+use input::{Taken, take};
 use report::lent;
+use std::fs::File;
+use std::io::{BufWriter, Write};
+use std::{env, io};
 
 // Packs the lists of a case, in its form.
-fn run(case: &[u32])
+fn run<W: Write>(to: &mut W, case: &[u32]) -> io::Result<()>
     requires { 7 ≤ length case.now }
 {
     let room = cases::head(case, cases::ROOM);
@@ -22,40 +26,44 @@ fn run(case: &[u32])
         cases::list(case, 4),
         lent::first_mut(&mut out, room),
     );
-    report::written(codes::of_outcome(packed), &out);
-    report::word(b"\n");
+    report::written(to, codes::of_outcome(packed), &out)?;
+    report::word(to, b"\n")
 }
 
-fn every(numbers: &[u32]) {
+fn every<W: Write>(to: &mut W, numbers: &[u32]) -> io::Result<()> {
     let mut at: usize = 0;
     while at + cases::HEAD <= numbers.len() {
         let case = &numbers[at..];
-        run(case);
+        run(to, case)?;
         at += cases::begin(case, cases::LISTS);
     }
+    Ok(())
 }
 
 // Every case of a file.
-fn all(file: &[u8]) {
+fn all<W: Write>(to: &mut W, file: &[u8]) -> io::Result<()> {
     let mut numbers = [0u32; cases::MOST_BYTES];
     let count = cases::decode(file, &mut numbers);
-    every(&numbers[..count]);
+    every(to, &numbers[..count])
 }
 
-fn main() {
-    let mut path = io::buffer();
-    let length = os::arg(1, &mut path);
-    if os::errno() != 0 {
-        os::fail(b"argument");
-        return;
-    }
-    let fd = os::open_read(&path[..length]);
-    if fd < 0 {
-        os::fail(&path[..length]);
-        return;
-    }
+fn main(rt: HostRuntime) -> io::Result<()> {
+    let Some(path) = env::args(&rt)?.nth(1) else {
+        return rt.eprintln("argument: there is none");
+    };
+    let mut file = match File::open(&rt, &path) {
+        Ok(file) => file,
+        Err(error) => {
+            return eprintln!(rt; "{path}: {error}");
+        }
+    };
     let mut bytes = [0u8; cases::MOST_BYTES];
-    let size = io::read_full(fd, &mut bytes);
-    libc::close(fd);
-    all(&bytes[..size]);
+    match take(&mut file, &mut bytes) {
+        Taken::Bytes(size) => {
+            let mut to = BufWriter::new(rt.alloc(), rt.stdout())?;
+            all(&mut to, &bytes[..size])?;
+            to.flush()
+        }
+        Taken::Failed(error) => Err(error),
+    }
 }

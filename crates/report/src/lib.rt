@@ -5,7 +5,8 @@ pub mod lent;
 ghost use Rattle.std.specs.Prelude.{◌≡◌, ◌<◌};
 ghost use Rattle.report.specs.Lent.{sum_with, sum_from};
 
-use libc::STDOUT_FILENO;
+use std::io;
+use std::io::Write;
 
 // The bytes of a plan that is printed byte by byte, at most; of a longer one a check sum is.
 const MOST_SHOWN: usize = 300;
@@ -15,43 +16,42 @@ const BASE: u64 = 257;
 
 const PRIME: u64 = 2147483647;
 
-pub fn word(text: &[u8]) {
-    io::write_all(STDOUT_FILENO, text);
+pub fn word<W: Write>(to: &mut W, text: &[u8]) -> io::Result<()> {
+    to.write_all(text)
 }
 
 // A number, then the text after it.
-pub fn number(n: u64, after: &[u8]) {
-    io::print_decimal(STDOUT_FILENO, n);
-    word(after);
+pub fn number<W: Write>(to: &mut W, n: u64, after: &[u8]) -> io::Result<()> {
+    write!(to, "{n}")?;
+    word(to, after)
 }
 
-pub fn refusal(code: usize) {
-    word(b"refused ");
+pub fn refusal<W: Write>(to: &mut W, code: usize) -> io::Result<()> {
+    word(to, b"refused ")?;
     if codes::REFUSED <= code {
-        number((code - codes::REFUSED) as u64, b"");
+        number(to, (code - codes::REFUSED) as u64, b"")?;
     }
+    Ok(())
 }
 
 // Whether lent bytes are as they were.
-pub fn kept(bytes: &[u8]) {
+pub fn kept<W: Write>(to: &mut W, bytes: &[u8]) -> io::Result<()> {
     if lent::is_kept(bytes) {
-        word(b" kept");
-        return;
+        return word(to, b" kept");
     }
-    word(b" changed");
+    word(to, b" changed")
 }
 
-fn digits(byte: u8) {
-    io::print_hex(STDOUT_FILENO, byte as u64, 2);
+fn digits<W: Write>(to: &mut W, byte: u8) -> io::Result<()> {
+    write!(to, "{byte:02x}")
 }
 
 // Two hexadecimal digits for each byte.
-fn hexadecimal(bytes: &[u8]) {
-    let mut i: usize = 0;
-    while i < bytes.len() {
-        digits(bytes[i]);
-        i += 1;
+fn hexadecimal<W: Write>(to: &mut W, bytes: &[u8]) -> io::Result<()> {
+    for byte in bytes {
+        digits(to, *byte)?;
     }
+    Ok(())
 }
 
 // The check sum with one byte more.
@@ -75,34 +75,32 @@ fn checksum(bytes: &[u8]) -> u64
 }
 
 // A plan's bytes, or their check sum.
-fn bytes(plan: &[u8]) {
+fn bytes<W: Write>(to: &mut W, plan: &[u8]) -> io::Result<()> {
     if plan.len() <= MOST_SHOWN {
-        hexadecimal(plan);
-        return;
+        return hexadecimal(to, plan);
     }
-    word(b"sum ");
-    number(checksum(plan), b"");
+    word(to, b"sum ")?;
+    number(to, checksum(plan), b"")
 }
 
 // A plan at the start of the buffer.
-fn plan(length: usize, out: &[u8]) {
+fn plan<W: Write>(to: &mut W, length: usize, out: &[u8]) -> io::Result<()> {
     if out.len() < length {
-        return;
+        return Ok(());
     }
     let written = &out[..length];
-    number(length as u64, b"");
-    kept(&out[length..]);
-    word(b" ");
-    bytes(written);
+    number(to, length as u64, b"")?;
+    kept(to, &out[length..])?;
+    word(to, b" ")?;
+    bytes(to, written)
 }
 
 // What an operation that writes a plan returned, and what it left of the buffer.
-pub fn written(code: usize, out: &[u8]) {
+pub fn written<W: Write>(to: &mut W, code: usize, out: &[u8]) -> io::Result<()> {
     if codes::REFUSED <= code {
-        refusal(code);
-        kept(out);
-        return;
+        refusal(to, code)?;
+        return kept(to, out);
     }
-    word(b"bytes ");
-    plan(code, out);
+    word(to, b"bytes ")?;
+    plan(to, code, out)
 }

@@ -5,10 +5,14 @@ mod requests;
 mod shown;
 mod sizes;
 
-use libc::STDOUT_FILENO;
+use console::Streams;
+use input::{Taken, take};
 use plan::form;
 use plan::header::Shape;
 use report::{lent, number, word};
+use std::fs::File;
+use std::io::{BufWriter, Read, Write};
+use std::{env, io};
 
 // The most bytes of an input in the file.
 const MOST_BYTES: usize = 100000;
@@ -29,133 +33,169 @@ const COUNT_BITS: usize = 16;
 const HEAD_BYTES: usize = 12;
 
 // Every server after every tick, if they are not too many.
-fn looks(form: usize, plan: &[u8]) {
+fn looks<W: Write>(to: &mut W, form: usize, plan: &[u8]) -> io::Result<()> {
     let width = form::width(form);
     if plan.len() < Shape::header_bytes(width) {
-        return;
+        return Ok(());
     }
     let shape = Shape::read(plan, width);
     let n = shape.n as usize;
     let ticks = shape.ticks as usize;
     if n == 0 {
-        return;
+        return Ok(());
     }
     let all = n * ticks;
     if MOST_LOOKS < all {
-        return;
+        return Ok(());
     }
-    let mut i: usize = 0;
-    while i < all {
-        look(form, plan, i / n, i % n);
-        i += 1;
+    for i in 0..all {
+        look(to, form, plan, i / n, i % n)?;
     }
+    Ok(())
 }
 
-fn look(form: usize, plan: &[u8], tick: usize, server: usize) {
+fn look<W: Write>(
+    to: &mut W,
+    form: usize,
+    plan: &[u8],
+    tick: usize,
+    server: usize,
+) -> io::Result<()> {
     let mut pairs = [0u8; sizes::PAIRS];
     let mut work = [0u8; sizes::WORKSPACE];
     let code = capi_look::look(form, plan, &mut work, server, tick, &mut pairs);
-    word(b"look ");
-    number(tick as u64, b" ");
-    number(server as u64, b" ");
-    shown::seen(code, &pairs);
-    word(b"\n");
+    word(to, b"look ")?;
+    number(to, tick as u64, b" ")?;
+    number(to, server as u64, b" ")?;
+    shown::seen(to, code, &pairs)?;
+    word(to, b"\n")
 }
 
 // What Check says of a plan, and Forecast; in form one also the program's text.
-fn check(form: usize, plan: &[u8]) {
-    word(b"check ");
-    shown::outcome(codes::of_outcome(checks::check(form, plan)));
+fn check<O: Write, E: Write>(to: &mut Streams<O, E>, form: usize, plan: &[u8]) -> io::Result<()> {
+    word(&mut to.output, b"check ")?;
+    shown::outcome(&mut to.output, codes::of_outcome(checks::check(form, plan)))?;
     let mut numbers = [0u32; capi_forecast::FIGURES];
     let code = capi_forecast::forecast(form, plan, &mut numbers);
-    word(b"\nforecast");
-    shown::forecast(code, &numbers);
-    word(b"\n");
+    word(&mut to.output, b"\nforecast")?;
+    shown::forecast(&mut to.output, code, &numbers)?;
+    word(&mut to.output, b"\n")?;
     if form == form::ONE {
-        console::print_text(STDOUT_FILENO, plan);
+        console::print_text(to, plan);
     }
+    Ok(())
 }
 
 // Check, Forecast, Play's answers and Look of a plan; what Play answered.
-fn run(form: usize, plan: &[u8], index: u64) -> [u8; sizes::ANSWERS] {
-    word(b"plan ");
-    number(index, b" in form ");
-    number(form as u64, b"\n");
-    check(form, plan);
+fn run<O: Write, E: Write>(
+    to: &mut Streams<O, E>,
+    form: usize,
+    plan: &[u8],
+    index: u64,
+) -> io::Result<[u8; sizes::ANSWERS]> {
+    word(&mut to.output, b"plan ")?;
+    number(&mut to.output, index, b" in form ")?;
+    number(&mut to.output, form as u64, b"\n")?;
+    check(to, form, plan)?;
     let mut answers = [0u8; sizes::ANSWERS];
     let mut work = [0u8; sizes::WORKSPACE];
     let code = codes::of_outcome(play::play(form, plan, &mut answers, &mut work));
     if codes::REFUSED <= code {
-        return answers;
+        return Ok(answers);
     }
-    word(b"answers");
-    shown::answers(form, &answers, code);
-    word(b"\n");
-    looks(form, plan);
-    answers
+    word(&mut to.output, b"answers")?;
+    shown::answers(&mut to.output, form, &answers, code)?;
+    word(&mut to.output, b"\n")?;
+    looks(&mut to.output, form, plan)?;
+    Ok(answers)
+}
+
+// Fills the bytes from the file. False: it ends before.
+fn fill<R: Read>(file: &mut R, bytes: &mut [u8]) -> io::Result<bool> {
+    match take(file, bytes) {
+        Taken::Bytes(size) => Ok(size == bytes.len()),
+        Taken::Failed(error) => Err(error),
+    }
 }
 
 // The next request. False: it is not there.
-fn ask(fd: i32, form: usize, plan: &[u8], answers: [u8; sizes::ANSWERS]) -> bool {
+fn ask<R: Read, W: Write>(
+    file: &mut R,
+    to: &mut W,
+    form: usize,
+    plan: &[u8],
+    answers: [u8; sizes::ANSWERS],
+) -> io::Result<bool> {
     let mut request = [0u8; requests::BYTES];
-    if io::read_full(fd, &mut request) < requests::BYTES {
-        return false;
+    if !fill(file, &mut request)? {
+        return Ok(false);
     }
-    requests::run(form, plan, answers, request);
-    true
+    requests::run(to, form, plan, answers, request)?;
+    Ok(true)
 }
 
-fn ask_all(fd: i32, form: usize, plan: &[u8], answers: [u8; sizes::ANSWERS], count: usize) {
-    let mut i: usize = 0;
-    while i < count {
-        if !ask(fd, form, plan, answers) {
-            return;
+fn ask_all<R: Read, W: Write>(
+    file: &mut R,
+    to: &mut W,
+    form: usize,
+    plan: &[u8],
+    answers: [u8; sizes::ANSWERS],
+    count: usize,
+) -> io::Result<()> {
+    for _ in 0..count {
+        if !ask(file, to, form, plan, answers)? {
+            return Ok(());
         }
-        i += 1;
     }
+    Ok(())
 }
 
 // Runs the next plan and its requests. False: there is none.
-fn next(fd: i32, index: u64) -> bool {
+fn next<R: Read, O: Write, E: Write>(
+    file: &mut R,
+    to: &mut Streams<O, E>,
+    index: u64,
+) -> io::Result<bool> {
     let mut head = [0u8; HEAD_BYTES];
-    if io::read_full(fd, &mut head) < HEAD_BYTES {
-        return false;
+    if !fill(file, &mut head)? {
+        return Ok(false);
     }
     let form = bits::field(&head, 0, FORM_BITS) as usize;
     let length = bits::field(&head, FORM_BITS, LENGTH_BITS) as usize;
     let count = bits::field(&head, FORM_BITS + LENGTH_BITS, COUNT_BITS) as usize;
     let mut bytes = [0u8; MOST_BYTES];
-    if io::read_full(fd, lent::first_mut(&mut bytes, length)) < length {
-        return false;
+    if MOST_BYTES < length || !fill(file, lent::first_mut(&mut bytes, length))? {
+        return Ok(false);
     }
     let plan = lent::first(&bytes, length);
-    let answers = run(form, plan, index);
-    ask_all(fd, form, plan, answers, count);
-    true
+    let answers = run(to, form, plan, index)?;
+    ask_all(file, &mut to.output, form, plan, answers, count)?;
+    Ok(true)
 }
 
-fn every(fd: i32) {
-    let mut index: u64 = 0;
-    while index < MOST_INPUTS {
-        if !next(fd, index) {
-            return;
+fn every<R: Read, O: Write, E: Write>(file: &mut R, to: &mut Streams<O, E>) -> io::Result<()> {
+    for index in 0..MOST_INPUTS {
+        if !next(file, to, index)? {
+            return Ok(());
         }
-        index += 1;
     }
+    Ok(())
 }
 
-fn main() {
-    let mut path = io::buffer();
-    let length = os::arg(1, &mut path);
-    if os::errno() != 0 {
-        os::fail(b"argument");
-        return;
-    }
-    let fd = os::open_read(&path[..length]);
-    if fd < 0 {
-        os::fail(&path[..length]);
-        return;
-    }
-    every(fd);
-    libc::close(fd);
+fn main(rt: HostRuntime) -> io::Result<()> {
+    let Some(path) = env::args(&rt)?.nth(1) else {
+        return rt.eprintln("argument: there is none");
+    };
+    let mut file = match File::open(&rt, &path) {
+        Ok(file) => file,
+        Err(error) => {
+            return eprintln!(rt; "{path}: {error}");
+        }
+    };
+    let mut to = Streams {
+        output: BufWriter::new(rt.alloc(), rt.stdout())?,
+        errors: rt.stderr(),
+    };
+    every(&mut file, &mut to)?;
+    to.output.flush()
 }

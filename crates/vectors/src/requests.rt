@@ -2,6 +2,8 @@
 use super::{shown, sizes};
 use plan::form;
 use report::{kept, lent, word};
+use std::io;
+use std::io::Write;
 
 // A letter and twelve bytes of numbers.
 pub const BYTES: usize = 13;
@@ -22,7 +24,13 @@ const INDEX_BITS: usize = 16;
 const REPLACED_AT: usize = 7;
 
 // Play: the lengths of the answer buffer and of the workspace.
-fn play(form: usize, plan: &[u8], room: usize, space: usize) {
+fn play<W: Write>(
+    to: &mut W,
+    form: usize,
+    plan: &[u8],
+    room: usize,
+    space: usize,
+) -> io::Result<()> {
     let mut answers = [lent::FILLER; sizes::ANSWERS];
     let mut work = [lent::FILLER; sizes::WORKSPACE];
     let played = play::play(
@@ -31,14 +39,21 @@ fn play(form: usize, plan: &[u8], room: usize, space: usize) {
         lent::first_mut(&mut answers, room),
         lent::first_mut(&mut work, space),
     );
-    word(b"play ");
-    shown::outcome(codes::of_outcome(played));
-    kept(&answers);
-    kept(&work);
+    word(to, b"play ")?;
+    shown::outcome(to, codes::of_outcome(played))?;
+    kept(to, &answers)?;
+    kept(to, &work)
 }
 
 // Look: the length of the workspace, the server and the tick.
-fn look(form: usize, plan: &[u8], space: usize, server: usize, tick: usize) {
+fn look<W: Write>(
+    to: &mut W,
+    form: usize,
+    plan: &[u8],
+    space: usize,
+    server: usize,
+    tick: usize,
+) -> io::Result<()> {
     let mut pairs = [lent::FILLER; sizes::PAIRS];
     let mut work = [lent::FILLER; sizes::WORKSPACE];
     let code = capi_look::look(
@@ -49,10 +64,10 @@ fn look(form: usize, plan: &[u8], space: usize, server: usize, tick: usize) {
         tick,
         &mut pairs,
     );
-    word(b"look ");
-    shown::seen(code, &pairs);
-    kept(&work);
-    kept(&pairs);
+    word(to, b"look ")?;
+    shown::seen(to, code, &pairs)?;
+    kept(to, &work)?;
+    kept(to, &pairs)
 }
 
 // The answers, one of them replaced: which, and its bytes.
@@ -69,16 +84,28 @@ fn altered(
 }
 
 // Judge: how many bytes of the answers, and what is replaced in them.
-fn judge(form: usize, plan: &[u8], answers: [u8; sizes::ANSWERS], request: [u8; BYTES]) {
+fn judge<W: Write>(
+    to: &mut W,
+    form: usize,
+    plan: &[u8],
+    answers: [u8; sizes::ANSWERS],
+    request: [u8; BYTES],
+) -> io::Result<()> {
     let length = bits::field(&request, LETTER_BITS, NUMBER_BITS) as usize;
     let given = altered(form, answers, request);
     let judged = judge::judge(form, plan, lent::first(&given, length));
-    word(b"judge ");
-    shown::verdict(codes::of_judge(judged));
+    word(to, b"judge ")?;
+    shown::verdict(to, codes::of_judge(judged))
 }
 
 // Sheet: the length of the page, how many bytes of the answers, and what is replaced in them.
-fn sheet(form: usize, plan: &[u8], answers: [u8; sizes::ANSWERS], request: [u8; BYTES]) {
+fn sheet<W: Write>(
+    to: &mut W,
+    form: usize,
+    plan: &[u8],
+    answers: [u8; sizes::ANSWERS],
+    request: [u8; BYTES],
+) -> io::Result<()> {
     let room = bits::field(&request, LETTER_BITS, SHORT_BITS) as usize;
     let length = bits::field(&request, LETTER_BITS + SHORT_BITS, SHORT_BITS) as usize;
     let given = altered(form, answers, request);
@@ -89,8 +116,8 @@ fn sheet(form: usize, plan: &[u8], answers: [u8; sizes::ANSWERS], request: [u8; 
         lent::first(&given, length),
         lent::first_mut(&mut page, room),
     );
-    word(b"sheet ");
-    shown::page(codes::of_outcome(written), &page);
+    word(to, b"sheet ")?;
+    shown::page(to, codes::of_outcome(written), &page)
 }
 
 // From the plan's form to the other one.
@@ -102,33 +129,39 @@ fn carried(form: usize, plan: &[u8], out: &mut [u8]) -> usize {
 }
 
 // Carry: the length of the buffer.
-fn carry(form: usize, plan: &[u8], room: usize) {
+fn carry<W: Write>(to: &mut W, form: usize, plan: &[u8], room: usize) -> io::Result<()> {
     let mut out = [lent::FILLER; lent::PLAN];
     let code = carried(form, plan, lent::first_mut(&mut out, room));
-    word(b"carry ");
-    report::written(code, &out);
+    word(to, b"carry ")?;
+    report::written(to, code, &out)
 }
 
 // One request about a plan and Play's answers to it.
-pub fn run(form: usize, plan: &[u8], answers: [u8; sizes::ANSWERS], request: [u8; BYTES]) {
+pub fn run<W: Write>(
+    to: &mut W,
+    form: usize,
+    plan: &[u8],
+    answers: [u8; sizes::ANSWERS],
+    request: [u8; BYTES],
+) -> io::Result<()> {
     let letter = request[0];
     let a = bits::field(&request, LETTER_BITS, NUMBER_BITS) as usize;
     let b = bits::field(&request, LETTER_BITS + NUMBER_BITS, NUMBER_BITS) as usize;
     let c = bits::field(&request, LETTER_BITS + 2 * NUMBER_BITS, NUMBER_BITS) as usize;
     if letter == b'p' {
-        play(form, plan, a, b);
+        play(to, form, plan, a, b)?;
     }
     if letter == b'l' {
-        look(form, plan, a, b, c);
+        look(to, form, plan, a, b, c)?;
     }
     if letter == b'j' {
-        judge(form, plan, answers, request);
+        judge(to, form, plan, answers, request)?;
     }
     if letter == b's' {
-        sheet(form, plan, answers, request);
+        sheet(to, form, plan, answers, request)?;
     }
     if letter == b'c' {
-        carry(form, plan, a);
+        carry(to, form, plan, a)?;
     }
-    word(b"\n");
+    word(to, b"\n")
 }

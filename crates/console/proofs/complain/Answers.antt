@@ -7,11 +7,11 @@ use borrow.Author.Rules.{rules}
 use Rattle.console.proofs.complain.Goals as goal
 
 pub slice_bounds-line-end : goal.slice_bounds-line-end
-slice_bounds-line-end c = omega (arith, c.put_fault_line-size.ensures.next_is, fault_fits c.args.fault c.args.word.now)
+slice_bounds-line-end g c = omega (arith, c.put_fault_line-size.ensures.next_is, fault_fits c.args.fault c.args.word.now)
 
 pub slice_bounds-tell-end : goal.slice_bounds-tell-end
-slice_bounds-tell-end c = sym (length-take-le _ _ (omega (arith, c.put_fault_line-size.ensures.next_is, c.put_fault_line-size.auto.0, fault_fits c.args.fault c.args.word.now)))
+slice_bounds-tell-end g c = sym (length-take-le _ _ (omega (arith, c.put_fault_line-size.ensures.next_is, c.put_fault_line-size.auto.out, fault_fits c.args.fault c.args.word.now)))
 
 pub tell-requires : goal.tell-requires
-tell-requires c = let w = whole_line (omega (arith, fault_fits c.args.fault c.args.word.now)) c.put_fault_line-size.ensures in
+tell-requires g c = let w = whole_line (omega (arith, fault_fits c.args.fault c.args.word.now)) c.put_fault_line-size.ensures in
     (refl, w)

@@ -10,7 +10,7 @@ use borrow.Author.Rules.{rules}
 use Rattle.console.proofs.print_text.Goals as goal
 
 pub slice_bounds-print_whole-end : goal.slice_bounds-print_whole-end
-slice_bounds-print_whole-end c = sym (length-take-le _ _ (search rules))
+slice_bounds-print_whole-end g c = sym (length-take-le _ _ (search rules))
 
 pub print_whole-requires : goal.print_whole-requires
-print_whole-requires c = whole_text c.args.plan.now (replicate most_text 0) c.write-size.ensures.0 (omega (arith, length-replicate {A = ℕ} most_text 0))
+print_whole-requires g c = whole_text c.args.plan.now (replicate most_text 0) c.write-size.ensures.out_after (omega (arith, length-replicate {A = ℕ} most_text 0))

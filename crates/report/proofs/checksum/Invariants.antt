@@ -1,12 +1,8 @@
 -- `checksum` meets its contract: after i turns the sum is that of the first i bytes, and it stays below the prime.
-use mathlib.Core.Path.{◌≡◌, ◌∙◌, sym, ap}
-use Prim.Native.Nat.{ℕ, ◌-◌, ◌≤◌, ◌<◌}
-use native.Mathlib.Omega.{arith}
-use lib.ListN.{length, get_or, take}
-use lib.Seq.{take_all}
-use Rattle.report.specs.Lent.{sum_with, sum_from}
-use Rattle.report.proofs.Sums.{sum_none, sum_more}
-use borrow.Author.Rules.{rules}
+use mathlib.Core.Path.{◌≡◌}
+use Prim.Native.Nat.{◌-◌, ◌≤◌, ◌<◌}
+use lib.ListN.{length, take}
+use Rattle.report.specs.Lent.{sum_from}
 use Rattle.report.proofs.checksum.Given as goal
 
 abbrev pub invariant-loop-i : goal.invariant-loop-i

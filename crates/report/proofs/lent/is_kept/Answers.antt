@@ -1,17 +1,20 @@
 -- `is_kept` meets its contract: the first i bytes are kept.
-use mathlib.Core.Bool.{Bool, true}
+use mathlib.Core.Bool.{Bool}
 use mathlib.Core.List.{List}
-use mathlib.Core.Path.{◌≡◌, sym}
-use Prim.Native.Nat.{ℕ, ◌-◌, ◌≤◌}
+use mathlib.Core.Path.{sym}
+use Prim.Native.Nat.{ℕ}
 use native.Mathlib.Omega.{arith}
 use lib.Dec.{eqb}
 use lib.ListN.{length, get_or}
 use borrow.Author.Tests.{eq-eqb, ne_eqb}
-use Rattle.register.specs.Lists.{all_up_to}
 use Rattle.plan.proofs.Laws.{all_none, all_more, all_stop, all_end}
 use Rattle.report.specs.Lent.{filler, are_kept}
 use borrow.Author.Rules.{rules}
 use Rattle.report.proofs.lent.is_kept.Goals as goal
+
+-- is byte i kept
+abbrev kept : List ℕ → ℕ → Bool
+kept bytes i = eqb (get_or bytes i 0) filler
 
 pub loop-i-init : goal.loop-i-init
 loop-i-init c = (search rules, all_none _)

@@ -1,16 +1,12 @@
 -- `is_kept` meets its contract: the first i bytes are kept.
 use mathlib.Core.Bool.{Bool, true}
 use mathlib.Core.List.{List}
-use mathlib.Core.Path.{◌≡◌, sym}
+use mathlib.Core.Path.{◌≡◌}
 use Prim.Native.Nat.{ℕ, ◌-◌, ◌≤◌}
-use native.Mathlib.Omega.{arith}
 use lib.Dec.{eqb}
 use lib.ListN.{length, get_or}
-use borrow.Author.Tests.{eq-eqb, ne_eqb}
 use Rattle.register.specs.Lists.{all_up_to}
-use Rattle.plan.proofs.Laws.{all_none, all_more, all_stop, all_end}
-use Rattle.report.specs.Lent.{filler, are_kept}
-use borrow.Author.Rules.{rules}
+use Rattle.report.specs.Lent.{filler}
 use Rattle.report.proofs.lent.is_kept.Given as goal
 
 -- is byte i kept
