@@ -28,11 +28,11 @@ overflow_mul-size c = omega (arith, answers_few c.width-width.result _ _ c.width
 
 pub returns-then-answers-size : goal.returns-then-answers-size
 returns-then-answers-size c = let e = play_nine _ _ _ _ _ (accepted (goal.at.returns-then-answers-size c).After-size) _ (sized (goal.at.returns-then-answers-size c).After-size) c.if-answers-size.true in
-    (e, promised _ _ _ _ _ e)
+    record { work_after = e; promised = promised _ _ _ _ _ e }
 
 pub returns-then-work-lt-WORKSPACE_BYTES : goal.returns-then-work-lt-WORKSPACE_BYTES
 returns-then-work-lt-WORKSPACE_BYTES c = let e = play_ten _ _ _ _ _ (accepted (goal.at.returns-then-work-lt-WORKSPACE_BYTES c).After-size) _ (sized (goal.at.returns-then-work-lt-WORKSPACE_BYTES c).After-size) c.if-answers-size.false c.if-work-lt-WORKSPACE_BYTES.true in
-    (e, promised _ _ _ _ _ e)
+    record { work_after = e; promised = promised _ _ _ _ _ e }
 
 pub play-requires : goal.play-requires
 play-requires c = let e = checked-at (goal.at.play-requires c).After-size in
@@ -40,10 +40,10 @@ play-requires c = let e = checked-at (goal.at.play-requires c).After-size in
 
 pub returns-in-Refused : goal.returns-in-Refused
 returns-in-Refused c = let e = play_checked _ _ _ _ _ (sym c.check-checked.ensures ∙ ap numbered c.in-Refused.is) in
-    (e, promised _ _ _ _ _ e)
+    record { work_after = e; promised = promised _ _ _ _ _ e }
 
 pub returns-else-work-lt-WORKSPACE_BYTES : goal.returns-else-work-lt-WORKSPACE_BYTES
 returns-else-work-lt-WORKSPACE_BYTES c = let d = c.play.ensures in
     let a = rw (← reads_counted _ _ _ (checked-at (goal.at.returns-else-work-lt-WORKSPACE_BYTES c).After-size), ← c.size.ensures, c.width-width.ensures.0) at d.answers in
     let e = play_done _ _ _ _ _ (accepted (goal.at.returns-else-work-lt-WORKSPACE_BYTES c).After-size) _ (sized (goal.at.returns-else-work-lt-WORKSPACE_BYTES c).After-size) c.if-answers-size.false c.if-work-lt-WORKSPACE_BYTES.false _ _ a d.workspace in
-    (e, promised _ _ _ _ _ e)
+    record { work_after = e; promised = promised _ _ _ _ _ e }
