@@ -5,4 +5,4 @@ use borrow.Author.Rules.{rules}
 use Rattle.capi.proofs.register_play.Goals as goal
 
 pub returns : goal.returns
-returns c = rw c.of_outcome.ensures (ap handed_by c.play.ensures.0)
+returns c = rw c.of_outcome.ensures (ap handed_by c.play.ensures.work_after)
