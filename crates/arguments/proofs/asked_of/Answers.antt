@@ -3,7 +3,6 @@ use Rattle.arguments.specs.Arguments.{help_word, version_word, asked_of}
 use Rattle.arguments.proofs.Laws.{same_word}
 use mathlib.Core.Path.{◌≡◌}
 use Rattle.register.specs.Lists.{same_list}
-use borrow.Author.Rules.{rules}
 use Rattle.arguments.proofs.asked_of.Goals.{After-same, After-same-2}
 use Rattle.arguments.proofs.asked_of.Goals as goal
 

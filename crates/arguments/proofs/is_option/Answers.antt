@@ -1,6 +1,5 @@
 -- `is_option` meets its contract.
 use Rattle.arguments.proofs.Laws.{option_none, option_first}
-use borrow.Author.Rules.{rules}
 use Rattle.arguments.proofs.is_option.Goals as goal
 
 pub returns-then-word-eq0 : goal.returns-then-word-eq0

@@ -1,7 +1,6 @@
 -- `put_failure` meets its contract.
 use Rattle.decimal.proofs.Stores.{stored_then}
 use Rattle.arguments.specs.Arguments.{failure_line}
-use borrow.Author.Rules.{rules}
 use Rattle.arguments.proofs.put_failure.Goals as goal
 
 pub returns : goal.returns

@@ -3,7 +3,6 @@ use mathlib.Core.Path.{sym, ap}
 use Rattle.decimal.proofs.Stores.{stored_then, stored_as}
 use Rattle.arguments.specs.declared.Fault.{Fault}
 use Rattle.arguments.specs.Arguments.{fault_of}
-use borrow.Author.Rules.{rules}
 use Rattle.arguments.proofs.put_fault.Goals as goal
 
 pub returns-in-UnknownOption : goal.returns-in-UnknownOption

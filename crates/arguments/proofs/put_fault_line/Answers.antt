@@ -3,7 +3,6 @@ use native.Mathlib.Omega.{arith}
 use Rattle.decimal.proofs.Stores.{stored_then}
 use Rattle.arguments.specs.Arguments.{fault_line}
 use Rattle.arguments.proofs.Laws.{fault_short}
-use borrow.Author.Rules.{rules}
 use Rattle.arguments.proofs.put_fault_line.Goals as goal
 
 pub put_all-requires : goal.put_all-requires

@@ -1,12 +1,7 @@
 -- `put_shown` meets its contract: after i turns the first i bytes are shown.
-use Prim.Native.Nat.{◌+◌, ◌-◌, ◌≤◌}
-use mathlib.Core.Path.{◌≡◌, refl, ◌∙◌}
-use mathlib.Core.List.{map}
+use mathlib.Core.Path.{refl, ◌∙◌}
 use native.Mathlib.Omega.{arith}
-use lib.ListN.{length, take}
-use Rattle.decimal.specs.Stored.{Stored}
 use Rattle.decimal.proofs.Stores.{stored_none}
-use Rattle.arguments.specs.Arguments.{shown_byte, most_name}
 use Rattle.arguments.proofs.Laws.{shown_more, shown_cut, shown_all}
 use borrow.Author.Rules.{rules}
 use Rattle.arguments.proofs.put_shown.Goals as goal

@@ -4,7 +4,6 @@ use native.Mathlib.Omega.{arith}
 use lib.Pow.{pow_pos, shl_exact}
 use Rattle.bits.proofs.Laws.{one_shl}
 use Rattle.bits.proofs.Written.{behind_lt}
-use borrow.Author.Rules.{rules}
 use Rattle.bits.proofs.behind.Goals as goal
 
 pub nonzero_rem-result : goal.nonzero_rem-result

@@ -2,7 +2,6 @@
 use mathlib.Core.Path.{sym}
 use Rattle.bits.specs.Field.{bit_of}
 use Rattle.bits.proofs.Laws.{field_one}
-use borrow.Author.Rules.{rules}
 use Rattle.bits.proofs.bit.Goals as goal
 
 pub returns : goal.returns

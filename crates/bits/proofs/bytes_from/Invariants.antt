@@ -1,9 +1,6 @@
 use mathlib.Core.Path.{◌≡◌}
-use Prim.Native.Nat.{◌+◌, ◌-◌, ◌*◌, ◌≤◌}
-use borrow.Author.Rules.{rules}
-use native.Mathlib.Omega.{arith}
+use Prim.Native.Nat.{◌-◌, ◌*◌, ◌≤◌}
 use Rattle.bits.specs.Field.{field_of}
-use Rattle.bits.proofs.Laws.{bytes_more, field_below}
 use Rattle.bits.proofs.bytes_from.Given as goal
 
 abbrev pub invariant-loop-k : goal.invariant-loop-k

@@ -3,7 +3,6 @@ use mathlib.Core.Path.{◌≡◌}
 use Prim.Native.Nat.{◌+◌, ◌*◌}
 use native.Mathlib.Omega.{arith}
 use Rattle.bits.proofs.Laws.{field_lt, field_split}
-use borrow.Author.Rules.{rules}
 use Rattle.bits.proofs.eight_from.Goals as goal
 
 pub overflow_mul-result : goal.overflow_mul-result

@@ -1,7 +1,6 @@
 use Rattle.bits.proofs.Laws.{nibble_one, nibble_two}
 use native.Mathlib.Omega.{arith}
 use Prim.Native.Nat.{◌+◌, ◌/◌}
-use borrow.Author.Rules.{rules}
 use Rattle.bits.proofs.nibble.Goals as goal
 
 pub returns-then-off-le4 : goal.returns-then-off-le4

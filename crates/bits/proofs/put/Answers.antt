@@ -1,7 +1,6 @@
 -- `put` meets its contract: no bits, or a field in as many bytes as hold it, or in eight.
 use Rattle.bits.proofs.Bits.{bits_zero}
 use Rattle.bits.proofs.Written.{wrote_nothing}
-use borrow.Author.Rules.{rules}
 use Rattle.bits.proofs.put.Goals as goal
 
 pub returns-then-width-eq0 : goal.returns-then-width-eq0

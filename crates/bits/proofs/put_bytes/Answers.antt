@@ -1,12 +1,10 @@
 use mathlib.Core.Path.{◌≡◌}
-use Prim.Native.Nat.{◌+◌, ◌-◌, ◌*◌, ◌/◌, ◌^◌, ◌≤◌}
+use Prim.Native.Nat.{◌+◌, ◌-◌, ◌*◌, ◌/◌, ◌^◌}
 use borrow.Author.Rules.{rules}
 use native.Mathlib.Omega.{arith}
 use lib.Pow.{shr-shr}
 use native.Mathlib.Nat.{pow-zero, div-one}
 use Rattle.bits.proofs.Bits.{bits_zero}
-use Rattle.bits.specs.Layout.{bits_of}
-use Rattle.bits.specs.Writing.{Wrote}
 use Rattle.bits.proofs.Written.{wrote_nothing, wrote_more}
 use Rattle.bits.proofs.put_bytes.Goals as goal
 

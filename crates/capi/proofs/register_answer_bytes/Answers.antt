@@ -3,7 +3,6 @@ use mathlib.Core.Path.{◌≡◌, sym, ap, ◌∙◌}
 use mathlib.Core.Bool.{true, false}
 use Prim.Native.Nat.{ℕ}
 use borrow.Author.Tests.{not-true, not-false}
-use borrow.Author.Rules.{rules}
 use Rattle.plan.specs.Form.{is_form, width_of}
 use Rattle.answers.specs.Answers.{answer_size}
 use Rattle.capi.specs.Exported.{answer_bytes_in}

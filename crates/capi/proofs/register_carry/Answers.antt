@@ -1,7 +1,6 @@
 -- `register_carry` meets its contract: the code of what carrying returns, and the bytes that it leaves.
 use mathlib.Core.Path.{ap}
 use Rattle.capi.specs.Exported.{written_by}
-use borrow.Author.Rules.{rules}
 use Rattle.capi.proofs.register_carry.Goals as goal
 
 pub returns : goal.returns

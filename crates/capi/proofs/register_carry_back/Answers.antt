@@ -1,7 +1,6 @@
 -- `register_carry_back` meets its contract: the code of what carrying back returns, and the bytes that it leaves.
 use mathlib.Core.Path.{ap}
 use Rattle.capi.specs.Exported.{written_by}
-use borrow.Author.Rules.{rules}
 use Rattle.capi.proofs.register_carry_back.Goals as goal
 
 pub returns : goal.returns

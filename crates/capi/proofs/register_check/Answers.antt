@@ -1,7 +1,6 @@
 -- `register_check` meets its contract: the code of what Check returns.
 use mathlib.Core.Path.{ap, ◌∙◌}
 use Rattle.codes.specs.Codes.{code_of}
-use borrow.Author.Rules.{rules}
 use Rattle.capi.proofs.register_check.Goals as goal
 
 pub returns : goal.returns

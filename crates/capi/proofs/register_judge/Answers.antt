@@ -1,7 +1,6 @@
 -- `register_judge` meets its contract: the code of what Judge returns.
 use mathlib.Core.Path.{ap, ◌∙◌}
 use Rattle.codes.specs.Codes.{verdict_code}
-use borrow.Author.Rules.{rules}
 use Rattle.capi.proofs.register_judge.Goals as goal
 
 pub returns : goal.returns

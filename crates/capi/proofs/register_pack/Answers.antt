@@ -1,7 +1,6 @@
 -- `register_pack` meets its contract: the code of what Pack returns, and the bytes that it leaves.
 use mathlib.Core.Path.{ap}
 use Rattle.capi.specs.Exported.{written_by}
-use borrow.Author.Rules.{rules}
 use Rattle.capi.proofs.register_pack.Goals as goal
 
 pub returns : goal.returns

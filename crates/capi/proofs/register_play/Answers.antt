@@ -1,7 +1,6 @@
 -- `register_play` meets its contract: the code of what Play returns, and the bytes that it leaves.
 use mathlib.Core.Path.{ap}
 use Rattle.capi.specs.Exported.{handed_by}
-use borrow.Author.Rules.{rules}
 use Rattle.capi.proofs.register_play.Goals as goal
 
 pub returns : goal.returns

@@ -1,7 +1,6 @@
 -- `register_sheet` meets its contract: the code of what the sheet returns, and the page that it leaves.
 use mathlib.Core.Path.{ap}
 use Rattle.capi.specs.Exported.{written_by}
-use borrow.Author.Rules.{rules}
 use Rattle.capi.proofs.register_sheet.Goals as goal
 
 pub returns : goal.returns

@@ -10,7 +10,6 @@ use borrow.Author.Tests.{not-true, not-false}
 use Rattle.plan.specs.Form.{is_form}
 use Rattle.answers.specs.Answers.{answer_size, answer_numbers}
 use Rattle.capi_fields.proofs.Laws.{no_field, answer_of_part, answer_there, part_there, answer_unknown, answer_none, answer_field_lem}
-use borrow.Author.Rules.{rules}
 use Rattle.capi_fields.proofs.of_answer.Goals.{Else-field-ge-ZERO, Else-not-is_known}
 use Rattle.capi_fields.proofs.of_answer.Goals as goal
 

@@ -9,7 +9,6 @@ use Rattle.records.specs.Records.{no_wider}
 use Rattle.plan.specs.Form.{is_form}
 use Rattle.plan.specs.Widths.{header_widths}
 use Rattle.capi_fields.proofs.Laws.{no_field, header_unknown, header_none, header_field_lem}
-use borrow.Author.Rules.{rules}
 use Rattle.capi_fields.proofs.of_header.Goals.{Else-not-is_known}
 use Rattle.capi_fields.proofs.of_header.Goals as goal
 

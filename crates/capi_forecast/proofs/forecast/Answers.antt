@@ -1,6 +1,5 @@
 -- `forecast` meets its definition for all inputs: a refusal with the list as it was, or the figures over it.
 use Rattle.capi_forecast.proofs.Over.{none_over}
-use borrow.Author.Rules.{rules}
 use Rattle.capi_forecast.proofs.forecast.Goals as goal
 
 pub returns-in-Refused : goal.returns-in-Refused

@@ -3,7 +3,6 @@ use mathlib.Core.Path.{ap}
 use Rattle.results.specs.Look.{Looked}
 use Rattle.codes.specs.Codes.{coded_in}
 use Rattle.codes.proofs.ThreeBytes.{look_three}
-use borrow.Author.Rules.{rules}
 use Rattle.capi_look.proofs.look.Goals as goal
 
 pub of_look-requires : goal.of_look-requires

@@ -3,7 +3,6 @@ use native.Mathlib.Omega.{arith}
 use Rattle.results.specs.Numbered.{shown_in}
 use Rattle.capi_look.proofs.Coded.{refusal_code_lem, condition_code_lem}
 use Rattle.codes.proofs.PairLaws.{over_none}
-use borrow.Author.Rules.{rules}
 use Rattle.capi_look.proofs.of_look.Goals as goal
 
 pub returns-then-code-ge-REFUSED : goal.returns-then-code-ge-REFUSED

@@ -1,5 +1,4 @@
 -- `of_outcome` meets its contract: a refusal has its code.
-use borrow.Author.Rules.{rules}
 use Rattle.codes.proofs.of_outcome.Goals as goal
 
 pub returns-in-Refused : goal.returns-in-Refused

@@ -1,5 +1,4 @@
 -- `of_seen` meets its contract: a refusal has its code.
-use borrow.Author.Rules.{rules}
 use Rattle.codes.proofs.of_seen.Goals as goal
 
 pub returns-in-Refused : goal.returns-in-Refused

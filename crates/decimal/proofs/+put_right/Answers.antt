@@ -1,6 +1,5 @@
 -- `put_right` meets its contract: the digits of a tenth, if there are any, end one place before the last one. The measure is the number.
 use native.Mathlib.Omega.{arith}
-use borrow.Author.Rules.{rules}
 use Rattle.decimal.proofs.Aligning.{one_more_digit, some_digit, right_one, right_more}
 use Rattle.decimal.proofs.+put_right.Goals.{then-n-ge10, else-n-ge10}
 use Rattle.decimal.proofs.+put_right.Goals as goal

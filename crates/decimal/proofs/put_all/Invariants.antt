@@ -1,12 +1,8 @@
 -- `put_all` meets its contract: after i turns the first i bytes are stored.
 use Prim.Native.Nat.{◌+◌, ◌-◌, ◌≤◌}
-use mathlib.Core.Path.{◌≡◌, refl, ◌∙◌}
-use native.Mathlib.Omega.{arith}
+use mathlib.Core.Path.{◌≡◌}
 use lib.ListN.{length, take}
-use lib.Seq.{take_all}
-use borrow.Author.Rules.{rules}
 use Rattle.decimal.specs.Stored.{Stored}
-use Rattle.decimal.proofs.Stores.{stored_none, stored_more}
 use Rattle.decimal.proofs.put_all.Given as goal
 
 abbrev pub invariant-loop-i : goal.invariant-loop-i

@@ -1,9 +1,6 @@
 -- `put_byte` meets its contract: past the end a store changes nothing.
 use mathlib.Core.Path.{refl, sym, ◌∙◌}
-use lib.ListN.{length-set}
 use lib.Seq.{set_out}
-use native.Mathlib.Omega.{arith}
-use borrow.Author.Rules.{rules}
 use Rattle.decimal.proofs.put_byte.Goals.{then-at-out, else-at-out}
 use Rattle.decimal.proofs.put_byte.Goals as goal
 

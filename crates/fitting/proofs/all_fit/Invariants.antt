@@ -1,16 +1,10 @@
 -- `all_fit` tests every answer's read. The invariant: all answers passed fit.
-use mathlib.Core.Path.{◌≡◌, sym, ◌∙◌}
+use mathlib.Core.Path.{◌≡◌}
 use mathlib.Core.Bool.{Bool, true}
 use mathlib.Core.List.{List}
 use Prim.Native.Nat.{ℕ, ◌-◌, ◌≤◌}
-use native.Mathlib.Omega.{arith}
-use borrow.Author.Rules.{rules}
-use borrow.Author.Tests.{not-true, not-false}
 use lib.ListN.{get_or}
 use Rattle.register.specs.Lists.{all_up_to}
-use Rattle.plan.proofs.Laws.{all_none, all_more, all_stop, all_end}
-use Rattle.bits.proofs.Records.{record_inside}
-use Rattle.answers.specs.Answers.{answer_size}
 use Rattle.fitting.specs.Fitting.{fits_read}
 use Rattle.fitting.proofs.all_fit.Given as goal
 

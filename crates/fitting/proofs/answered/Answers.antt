@@ -1,6 +1,5 @@
 -- `answered` meets its definition for all inputs: Check's refusals, or what the answers to an accepted plan get.
 use mathlib.Core.Path.{sym, ap, ◌∙◌}
-use borrow.Author.Rules.{rules}
 use Rattle.plan.specs.Numbered.{numbered}
 use Rattle.plan.proofs.Forms.{form_passed}
 use Rattle.fitting.specs.Answered.{answered_after, answered_in}

@@ -5,7 +5,6 @@ use Prim.Native.Nat.{◌*◌, ◌≤◌}
 use native.Mathlib.Nat.{mul-le-mul}
 use native.Mathlib.Omega.{arith}
 use lib.ListN.{length}
-use borrow.Author.Rules.{rules}
 use borrow.Author.Tests.{ne_eqb, eq-eqb, not-true, not-false}
 use Rattle.register.specs.Lists.{all_up_to}
 use Rattle.plan.specs.{Header.placement_at, Header.moves, Shape.shape, Playable.Playable}

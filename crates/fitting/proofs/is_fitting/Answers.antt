@@ -1,7 +1,6 @@
 -- `is_fitting` compares three fields of an answer with its read, in the definition's order.
 use borrow.Author.Tests.{ne_eqb, eq-eqb}
 use Rattle.fitting.specs.Fitting.{fits_read}
-use borrow.Author.Rules.{rules}
 use Rattle.fitting.proofs.is_fitting.Goals as goal
 
 pub returns-then-answer-begun : goal.returns-then-answer-begun

@@ -11,7 +11,6 @@ use Rattle.answers.proofs.Lengths.{answer_few}
 use Rattle.tables.proofs.Forging.{shape_ranged}
 use Rattle.forecast.specs.Steps.{most_receipts}
 use Rattle.forecast.proofs.Counted.{operations_are, found}
-use borrow.Author.Rules.{rules}
 use Rattle.forecast.proofs.counts_of.Goals.{After-read-h, After-size, Start}
 use Rattle.forecast.proofs.counts_of.Goals as goal
 

@@ -3,7 +3,6 @@ use mathlib.Core.Path.{sym, ap, ◌∙◌}
 use Rattle.plan.specs.Numbered.{numbered}
 use Rattle.plan.proofs.Forms.{form_passed}
 use Rattle.forecast.specs.Forecast.{forecast_after, forecast_in}
-use borrow.Author.Rules.{rules}
 use Rattle.forecast.proofs.forecast.Goals as goal
 
 pub counts_of-requires : goal.counts_of-requires

@@ -1,18 +1,14 @@
 -- `all_allowed` tests every answer's pair. The invariant: all answers passed are allowed, in every plan that the tables say.
 use mathlib.Core.Path.{◌≡◌, sym, ◌∙◌}
-use mathlib.Core.Bool.{Bool, true}
-use mathlib.Core.List.{List}
-use Prim.Native.Nat.{ℕ, ◌+◌, ◌*◌, ◌-◌, ◌≤◌, ◌<◌}
+use Prim.Native.Nat.{◌+◌, ◌*◌, ◌≤◌}
 use native.Mathlib.Omega.{arith}
 use borrow.Author.Rules.{rules}
 use borrow.Author.Tests.{not-true, not-false}
 use lib.ListN.{length}
-use Rattle.register.specs.Lists.{all_up_to}
 use Rattle.register.specs.Plan.{Plan}
-use Rattle.register.specs.Regular.{allowed}
 use Rattle.plan.proofs.Laws.{all_none, all_more, all_stop, all_end}
 use Rattle.bits.proofs.Records.{record_inside}
-use Rattle.answers.specs.Answers.{answer_size, begin_in, pair_in}
+use Rattle.answers.specs.Answers.{answer_size}
 use Rattle.results.specs.Judge.{read_of}
 use Rattle.regular.specs.Tables.{Tables}
 use Rattle.judge.proofs.all_allowed.Invariants.{allowed_at, Begun}

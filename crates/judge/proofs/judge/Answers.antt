@@ -1,6 +1,5 @@
 -- `judge` meets the definition of Judge for all inputs: the refusals of answers that are not to their reads, or the verdict.
 use mathlib.Core.Path.{sym, ap, ◌∙◌}
-use borrow.Author.Rules.{rules}
 use Rattle.plan.specs.Numbered.{numbered}
 use Rattle.fitting.proofs.Passed.{form_answered}
 use Rattle.judge.proofs.Laws.{form_verdict}

@@ -4,7 +4,6 @@ use native.Mathlib.Omega.{arith}
 use Rattle.plan.specs.{Form.width_of, Header.Header, Header.header_of, Check.result, Check.check_of, Check.check_in, Shape.shape, Numbered.numbered}
 use Rattle.plan.proofs.{Accept.playable, Accept.header_there, Forms.form_passed}
 use Rattle.look.proofs.LookCases.{look_checked, look_ten, look_server, look_tick, look_done, shown}
-use borrow.Author.Rules.{rules}
 use Rattle.look.proofs.look.Goals.{After-read-shape, After-width-width, In-Number}
 use Rattle.look.proofs.look.Goals as goal
 

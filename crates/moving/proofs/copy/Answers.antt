@@ -1,6 +1,5 @@
 -- `copy` meets its contract: three copies, each behind the one before it.
 use native.Mathlib.Omega.{arith}
-use borrow.Author.Rules.{rules}
 use Rattle.moving.proofs.Moving.{three_copied}
 use Rattle.moving.proofs.copy.Goals as goal
 

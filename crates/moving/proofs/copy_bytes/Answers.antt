@@ -1,9 +1,9 @@
 -- `copy_bytes` meets its contract: byte behind byte, the first bits are there.
-use Prim.Native.Nat.{◌+◌, ◌*◌, ◌-◌, ◌/◌, ◌<◌}
+use Prim.Native.Nat.{◌+◌, ◌/◌, ◌<◌}
 use native.Mathlib.Omega.{arith}
 use lib.ListN.{get_or}
 use borrow.Author.Rules.{rules}
-use Rattle.moving.proofs.Moving.{Copying, copy_none, byte_more, copy_all}
+use Rattle.moving.proofs.Moving.{copy_none, byte_more, copy_all}
 use Rattle.moving.proofs.copy_bytes.Goals.{After-shared_slice_known-1, After-shared_slice_known-in-loop-k-1}
 use Rattle.moving.proofs.copy_bytes.Goals as goal
 

@@ -1,9 +1,6 @@
 -- `copy_bytes` meets its contract: byte behind byte, the first bits are there.
-use Prim.Native.Nat.{◌+◌, ◌*◌, ◌-◌, ◌/◌, ◌<◌}
-use native.Mathlib.Omega.{arith}
-use lib.ListN.{get_or}
-use borrow.Author.Rules.{rules}
-use Rattle.moving.proofs.Moving.{Copying, copy_none, byte_more, copy_all}
+use Prim.Native.Nat.{◌*◌, ◌-◌}
+use Rattle.moving.proofs.Moving.{Copying}
 use Rattle.moving.proofs.copy_bytes.Given as goal
 
 abbrev pub invariant-loop-k : goal.invariant-loop-k

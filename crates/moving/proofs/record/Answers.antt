@@ -1,12 +1,9 @@
 -- `record` meets its contract: field behind field, the first numbers are there.
-use Prim.Native.Nat.{◌-◌}
 use native.Mathlib.Omega.{arith}
 use native.Mathlib.Numerals.{add-one}
-use lib.ListN.{length}
-use borrow.Author.Rules.{rules}
 use Rattle.packing.proofs.Turns.{narrow_at}
 use Rattle.packing.proofs.Writing.{total_inside}
-use Rattle.moving.proofs.Moving.{Moving, move_none, move_more, move_all}
+use Rattle.moving.proofs.Moving.{move_none, move_more, move_all}
 use Rattle.moving.proofs.record.Goals as goal
 
 pub loop-j-init : goal.loop-j-init

@@ -1,12 +1,7 @@
 -- `record` meets its contract: field behind field, the first numbers are there.
 use Prim.Native.Nat.{◌-◌}
-use native.Mathlib.Omega.{arith}
-use native.Mathlib.Numerals.{add-one}
 use lib.ListN.{length}
-use borrow.Author.Rules.{rules}
-use Rattle.packing.proofs.Turns.{narrow_at}
-use Rattle.packing.proofs.Writing.{total_inside}
-use Rattle.moving.proofs.Moving.{Moving, move_none, move_more, move_all}
+use Rattle.moving.proofs.Moving.{Moving}
 use Rattle.moving.proofs.record.Given as goal
 
 abbrev pub invariant-loop-j : goal.invariant-loop-j

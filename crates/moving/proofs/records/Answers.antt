@@ -1,11 +1,9 @@
 -- `records` meets its contract: record behind record, the first are there.
-use Prim.Native.Nat.{◌-◌}
 use native.Mathlib.Numerals.{add-one}
 use native.Mathlib.Omega.{arith}
-use borrow.Author.Rules.{rules}
 use Rattle.bits.specs.Layout.{total}
 use Rattle.bits.proofs.Records.{record_inside}
-use Rattle.moving.proofs.Moving.{Following, follow_none, follow_more, follow_all}
+use Rattle.moving.proofs.Moving.{follow_none, follow_more, follow_all}
 use Rattle.moving.proofs.records.Goals as goal
 
 pub loop-i-init : goal.loop-i-init

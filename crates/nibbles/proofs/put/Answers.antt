@@ -1,6 +1,5 @@
 -- `put` meets its contract.
 use native.Mathlib.Omega.{arith}
-use borrow.Author.Rules.{rules}
 use Rattle.nibbles.proofs.Parts.{part_then, part_all}
 use Rattle.nibbles.proofs.Numbers.{bits_length}
 use Rattle.nibbles.proofs.put.Goals as goal

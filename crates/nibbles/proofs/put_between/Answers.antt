@@ -1,10 +1,10 @@
 -- `put_between` meets its contract: the loop has written the bytes before byte k, and pair k - 1 is at hand.
 use mathlib.Core.Path.{◌≡◌}
-use Prim.Native.Nat.{◌+◌, ◌*◌, ◌-◌, ◌/◌, ◌%◌, ◌^◌, ◌≤◌}
+use Prim.Native.Nat.{◌+◌, ◌*◌, ◌-◌, ◌/◌, ◌%◌, ◌^◌}
 use native.Mathlib.Omega.{arith}
 use borrow.Author.Rules.{rules}
 use Rattle.bits.proofs.Written.{wrote_byte}
-use Rattle.nibbles.specs.Nibbles.{pair_limit, all_bits, pair_of, Part}
+use Rattle.nibbles.specs.Nibbles.{pair_limit, pair_of}
 use Rattle.nibbles.proofs.Parts.{part_of, part_then}
 use Rattle.nibbles.proofs.Numbers.{between_at}
 use Rattle.nibbles.proofs.put_between.Goals as goal

@@ -1,12 +1,7 @@
 -- `put_between` meets its contract: the loop has written the bytes before byte k, and pair k - 1 is at hand.
 use mathlib.Core.Path.{◌≡◌}
-use Prim.Native.Nat.{◌+◌, ◌*◌, ◌-◌, ◌/◌, ◌%◌, ◌^◌, ◌≤◌}
-use native.Mathlib.Omega.{arith}
-use borrow.Author.Rules.{rules}
-use Rattle.bits.proofs.Written.{wrote_byte}
-use Rattle.nibbles.specs.Nibbles.{pair_limit, all_bits, pair_of, Part}
-use Rattle.nibbles.proofs.Parts.{part_of, part_then}
-use Rattle.nibbles.proofs.Numbers.{between_at}
+use Prim.Native.Nat.{◌*◌, ◌-◌, ◌%◌, ◌≤◌}
+use Rattle.nibbles.specs.Nibbles.{all_bits, pair_of, Part}
 use Rattle.nibbles.proofs.put_between.Given as goal
 
 abbrev pub invariant-loop-k : goal.invariant-loop-k

@@ -3,7 +3,6 @@ use mathlib.Core.Path.{◌≡◌}
 use Prim.Native.Nat.{◌*◌, ◌-◌, ◌/◌}
 use native.Mathlib.Omega.{arith}
 use lib.ListN.{length, get_or}
-use borrow.Author.Rules.{rules}
 use Rattle.nibbles.specs.Nibbles.{width, pair_width}
 use Rattle.nibbles.proofs.Parts.{part_of}
 use Rattle.nibbles.proofs.Numbers.{number_at}

@@ -1,6 +1,5 @@
 -- `put_pair` meets its contract.
 use native.Mathlib.Omega.{arith}
-use borrow.Author.Rules.{rules}
 use Rattle.nibbles.specs.Nibbles.{pair_width, pair_of}
 use Rattle.nibbles.proofs.Parts.{part_of}
 use Rattle.nibbles.proofs.Numbers.{pair_at_lem}

@@ -1,13 +1,12 @@
 -- `fits_all` meets its contract: what is left fits as the whole does.
 use mathlib.Core.Path.{◌≡◌, ◌∙◌, sym}
-use Prim.Native.Nat.{◌-◌, ◌*◌, ◌≤◌}
+use Prim.Native.Nat.{◌*◌}
 use native.Mathlib.Nat.{sub-zero}
 use native.Mathlib.Numerals.{add-one}
 use native.Mathlib.Omega.{arith}
-use lib.ListN.{length, drop}
+use lib.ListN.{length}
 use borrow.Author.Rules.{rules}
 use borrow.Author.Tests.{not-true, not-false}
-use Rattle.bits.specs.Layout.{records, fits}
 use Rattle.register.proofs.Lists.{part_from}
 use Rattle.bits.proofs.Records.{record_inside}
 use Rattle.packing.proofs.Turns.{numbers_there}

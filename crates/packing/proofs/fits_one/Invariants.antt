@@ -1,15 +1,8 @@
 -- `fits_one` meets its contract: what is left fits as the whole does.
-use mathlib.Core.Path.{◌≡◌, ◌∙◌, sym}
+use mathlib.Core.Path.{◌≡◌}
 use Prim.Native.Nat.{◌-◌, ◌≤◌}
-use native.Mathlib.Nat.{sub-zero}
-use native.Mathlib.Numerals.{add-one}
-use native.Mathlib.Omega.{arith}
 use lib.ListN.{length, take, drop}
-use borrow.Author.Rules.{rules}
-use borrow.Author.Tests.{not-true, not-false}
 use Rattle.bits.specs.Layout.{fits}
-use Rattle.packing.proofs.Turns.{narrow_at}
-use Rattle.packing.proofs.Fitting as fitting
 use Rattle.packing.proofs.fits_one.Given as goal
 
 abbrev pub invariant-loop-j : goal.invariant-loop-j

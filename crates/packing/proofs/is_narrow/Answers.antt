@@ -1,6 +1,5 @@
 -- `is_narrow` meets its contract.
 use native.Mathlib.Omega.{arith}
-use borrow.Author.Rules.{rules}
 use Rattle.bits.proofs.Laws.{one_shl}
 use Rattle.packing.proofs.is_narrow.Goals as goal
 

@@ -1,13 +1,8 @@
 -- `total` meets its contract.
 use mathlib.Core.Path.{◌≡◌}
 use Prim.Native.Nat.{◌-◌, ◌≤◌}
-use native.Mathlib.Numerals.{add-one}
-use native.Mathlib.Omega.{arith}
 use lib.ListN.{length, take}
-use lib.Seq.{take_all}
-use borrow.Author.Rules.{rules}
 use Rattle.bits.specs.Layout.{total}
-use Rattle.packing.proofs.Writing.{total_next, total_inside}
 use Rattle.packing.proofs.total.Given as goal
 
 abbrev pub invariant-loop-j : goal.invariant-loop-j

@@ -1,6 +1,5 @@
 -- `heading` meets its contract: the seven titles.
 use Rattle.page.specs.Page.{heading}
-use borrow.Author.Rules.{rules}
 use Rattle.page.proofs.heading.Goals as goal
 
 pub returns : goal.returns

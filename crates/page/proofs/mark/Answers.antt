@@ -1,5 +1,4 @@
 -- `mark` meets its contract: a star or a space.
-use borrow.Author.Rules.{rules}
 use Rattle.page.proofs.mark.Goals as goal
 
 pub returns-else-marked : goal.returns-else-marked

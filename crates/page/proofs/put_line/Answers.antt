@@ -1,6 +1,5 @@
 -- `put_line` meets its contract: the characters, then the line feed.
 use Rattle.decimal.proofs.Stores.{stored_then}
-use borrow.Author.Rules.{rules}
 use Rattle.page.proofs.put_line.Goals as goal
 
 pub returns : goal.returns

@@ -1,5 +1,5 @@
 -- `rule` meets its contract: as many dashes as each field has columns.
-use mathlib.Core.Path.{sym, ◌∙◌}
+use mathlib.Core.Path.{◌∙◌}
 use Prim.Native.Nat.{◌≤◌}
 use native.Mathlib.Omega.{arith}
 use lib.Dec.{lit≤}
@@ -7,7 +7,6 @@ use lib.ListN.{replicate}
 use lib.Seq.{length-take-le}
 use Rattle.page.specs.Page.{dash, rule}
 use Rattle.page.proofs.Rows.{few_columns, dashes_are}
-use borrow.Author.Rules.{rules}
 use Rattle.page.proofs.rule.Goals as goal
 
 pub slice_bounds-dashes-end : goal.slice_bounds-dashes-end

@@ -1,5 +1,4 @@
 -- `value_columns` meets its contract: a value of form one, or a wider one.
-use borrow.Author.Rules.{rules}
 use borrow.Author.Tests.{le-leb, lt-leb}
 use Rattle.plan.specs.Form.{form_one, width_of}
 use Rattle.page.proofs.value_columns.Goals as goal

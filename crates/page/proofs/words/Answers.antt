@@ -3,7 +3,6 @@ use mathlib.Core.Path.{refl}
 use native.Mathlib.Omega.{arith}
 use lib.Dec.{lit≤}
 use Rattle.page.proofs.Cells.{none_yet, one_more, all_filled}
-use borrow.Author.Rules.{rules}
 use Rattle.page.proofs.words.Goals as goal
 
 pub put_word-requires-6 : goal.put_word-requires-6

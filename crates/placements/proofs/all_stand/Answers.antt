@@ -1,10 +1,7 @@
 -- `placements::all_stand` meets its contract: the loop has passed the first i placements.
-use mathlib.Core.Bool.{true}
-use mathlib.Core.Path.{◌≡◌, ◌∙◌, sym}
-use Prim.Native.Nat.{◌-◌, ◌≤◌}
+use mathlib.Core.Path.{◌∙◌, sym}
 use native.Mathlib.Omega.{arith}
 use borrow.Author.Tests.{not-true, not-false}
-use Rattle.register.specs.Lists.{all_up_to}
 use Rattle.plan.specs.Header.{moves}
 use Rattle.plan.specs.Shape.{shape}
 use Rattle.plan.specs.Check.{placement_stands, placements_stand}

@@ -1,14 +1,10 @@
 -- `placements::all_stand` meets its contract: the loop has passed the first i placements.
 use mathlib.Core.Bool.{true}
-use mathlib.Core.Path.{◌≡◌, ◌∙◌, sym}
+use mathlib.Core.Path.{◌≡◌}
 use Prim.Native.Nat.{◌-◌, ◌≤◌}
-use native.Mathlib.Omega.{arith}
-use borrow.Author.Tests.{not-true, not-false}
 use Rattle.register.specs.Lists.{all_up_to}
-use Rattle.plan.specs.Header.{moves}
 use Rattle.plan.specs.Shape.{shape}
-use Rattle.plan.specs.Check.{placement_stands, placements_stand}
-use Rattle.plan.proofs.Laws.{all_end, all_none, all_more, all_stop}
+use Rattle.plan.specs.Check.{placement_stands}
 use Rattle.placements.proofs.all_stand.Given as goal
 
 abbrev pub invariant-loop-i : goal.invariant-loop-i

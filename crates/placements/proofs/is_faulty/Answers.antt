@@ -1,5 +1,4 @@
 -- `placements::is_faulty` meets its contract.
-use native.Mathlib.Omega.{arith}
 use Rattle.plan.specs.Parts.{in_placement}
 use Rattle.placements.proofs.is_faulty.Goals as goal
 

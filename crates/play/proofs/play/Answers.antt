@@ -6,7 +6,6 @@ use Rattle.plan.proofs.{Accept.playable, Accept.reads_counted, Forms.form_passed
 use Rattle.answers.{specs.Answers.answer_size, proofs.Lengths.answers_few}
 use Rattle.results.proofs.Promised.{reads_few, promised}
 use Rattle.play.proofs.PlayCases.{play_checked, play_nine, play_ten, play_done}
-use borrow.Author.Rules.{rules}
 use Rattle.play.proofs.play.Goals.{After-size}
 use Rattle.play.proofs.play.Goals as goal
 

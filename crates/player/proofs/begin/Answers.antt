@@ -1,6 +1,5 @@
 -- `begin` meets its contract.
 use mathlib.Core.Path.{refl}
-use borrow.Author.Rules.{rules}
 use Rattle.requests.proofs.Requesting.{behind_trans, past_behind, outside_empty}
 use Rattle.player.proofs.begin.Goals as goal
 

@@ -1,5 +1,4 @@
 -- `play` meets its contract: the ticks, in which the answers are written.
-use borrow.Author.Rules.{rules}
 use native.Mathlib.Omega.{arith}
 use mathlib.Core.Path.{refl}
 use Rattle.tallies.specs.Tallies.{table_size}

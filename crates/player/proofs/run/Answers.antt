@@ -1,12 +1,7 @@
 -- `run::run` meets its contract. The loop's invariant: the ticks before p's are played.
 use borrow.Author.Rules.{rules}
 use native.Mathlib.Omega.{arith}
-use mathlib.Core.Path.{◌≡◌, refl, sym, ◌∙◌}
-use Prim.Native.Nat.{◌*◌, ◌-◌, ◌≤◌}
-use lib.ListN.{length}
-use Rattle.answers.specs.Answers.{answer_size}
-use Rattle.script.specs.Script.{width_in}
-use Rattle.ticking.specs.Ticked.{Ready, Went}
+use mathlib.Core.Path.{refl}
 use Rattle.player.proofs.Whole.{ready_kept, went_none, went_on}
 use Rattle.player.proofs.run.Goals as goal
 

@@ -1,13 +1,10 @@
 -- `run::run` meets its contract. The loop's invariant: the ticks before p's are played.
-use borrow.Author.Rules.{rules}
-use native.Mathlib.Omega.{arith}
-use mathlib.Core.Path.{◌≡◌, refl, sym, ◌∙◌}
+use mathlib.Core.Path.{◌≡◌}
 use Prim.Native.Nat.{◌*◌, ◌-◌, ◌≤◌}
 use lib.ListN.{length}
 use Rattle.answers.specs.Answers.{answer_size}
 use Rattle.script.specs.Script.{width_in}
 use Rattle.ticking.specs.Ticked.{Ready, Went}
-use Rattle.player.proofs.Whole.{ready_kept, went_none, went_on}
 use Rattle.player.proofs.run.Given as goal
 
 abbrev pub invariant-loop-p : goal.invariant-loop-p

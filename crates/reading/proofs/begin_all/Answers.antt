@@ -2,10 +2,8 @@
 use borrow.Author.Rules.{rules}
 use native.Mathlib.Omega.{arith}
 use mathlib.Core.Path.{◌≡◌, ◌∙◌}
-use Prim.Native.Nat.{◌-◌, ◌≤◌, ◌<◌}
-use lib.ListN.{length, length-set}
-use Rattle.tallies.specs.Tallies.{table_size}
-use Rattle.reading.specs.Reading.{begun_by, SetUp, There}
+use Prim.Native.Nat.{◌≤◌, ◌<◌}
+use lib.ListN.{length-set}
 use Rattle.reading.proofs.Cursors.{begun_none, begun_more, set_up_none, set_up_more}
 use Rattle.reading.proofs.begin_all.Goals.{After-size_of-x, In-loop-i}
 use Rattle.reading.proofs.begin_all.Goals as goal

@@ -1,12 +1,9 @@
 -- `reading::begin_all` meets its contract. The loop's invariant: the readers of the reads passed are set up.
-use borrow.Author.Rules.{rules}
-use native.Mathlib.Omega.{arith}
-use mathlib.Core.Path.{◌≡◌, ◌∙◌}
-use Prim.Native.Nat.{◌-◌, ◌≤◌, ◌<◌}
-use lib.ListN.{length, length-set}
+use mathlib.Core.Path.{◌≡◌}
+use Prim.Native.Nat.{◌-◌, ◌≤◌}
+use lib.ListN.{length}
 use Rattle.tallies.specs.Tallies.{table_size}
 use Rattle.reading.specs.Reading.{begun_by, SetUp, There}
-use Rattle.reading.proofs.Cursors.{begun_none, begun_more, set_up_none, set_up_more}
 use Rattle.reading.proofs.begin_all.Given as goal
 
 abbrev pub invariant-loop-i : goal.invariant-loop-i

@@ -2,10 +2,8 @@
 use borrow.Author.Rules.{rules}
 use native.Mathlib.Omega.{arith}
 use mathlib.Core.Path.{◌≡◌, refl}
-use Prim.Native.Nat.{◌+◌, ◌*◌, ◌-◌, ◌≤◌, ◌<◌}
+use Prim.Native.Nat.{◌+◌, ◌*◌, ◌≤◌, ◌<◌}
 use lib.ListN.{length, length-drop}
-use Rattle.answers.specs.Answers.{answer_size}
-use Rattle.reading.specs.Reading.{placed, chosen_bytes, There}
 use Rattle.register.proofs.Lists.{part_from}
 use Rattle.reading.proofs.Cursors.{part_back, placed_none, placed_more, answer_room}
 use Rattle.reading.proofs.end_all.Goals.{In-loop-i}

@@ -1,13 +1,9 @@
 -- `reading::end_all` meets its contract. The loop's invariant: the answers of the reads passed are placed.
-use borrow.Author.Rules.{rules}
-use native.Mathlib.Omega.{arith}
-use mathlib.Core.Path.{◌≡◌, refl}
-use Prim.Native.Nat.{◌+◌, ◌*◌, ◌-◌, ◌≤◌, ◌<◌}
-use lib.ListN.{length, length-drop}
+use mathlib.Core.Path.{◌≡◌}
+use Prim.Native.Nat.{◌*◌, ◌-◌, ◌≤◌}
+use lib.ListN.{length}
 use Rattle.answers.specs.Answers.{answer_size}
 use Rattle.reading.specs.Reading.{placed, chosen_bytes, There}
-use Rattle.register.proofs.Lists.{part_from}
-use Rattle.reading.proofs.Cursors.{part_back, placed_none, placed_more, answer_room}
 use Rattle.reading.proofs.end_all.Given as goal
 
 abbrev pub invariant-loop-i : goal.invariant-loop-i

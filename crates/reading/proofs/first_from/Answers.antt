@@ -1,8 +1,7 @@
 -- `reading::first_from` meets its contract. The loop's invariant: the reads passed begin before the tick.
 use borrow.Author.Rules.{rules}
 use native.Mathlib.Omega.{arith}
-use Prim.Native.Nat.{ℕ, ◌-◌, ◌≤◌, ◌<◌}
-use lib.ListN.{get_or}
+use Prim.Native.Nat.{◌<◌}
 use Rattle.reading.proofs.Cursors.{until_found, until_passed, until_last}
 use Rattle.reading.proofs.first_from.Goals as goal
 

@@ -1,5 +1,4 @@
 -- `reading::go_on` meets its contract: reads end, then begin.
-use borrow.Author.Rules.{rules}
 use native.Mathlib.Omega.{arith}
 use Rattle.answers.specs.Answers.{answer_size}
 use Rattle.script.specs.Script.{width_in}

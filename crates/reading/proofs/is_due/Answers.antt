@@ -1,6 +1,5 @@
 -- `reading::is_due` meets its contract: one test after the other.
 use mathlib.Core.Path.{sym, ◌∙◌}
-use borrow.Author.Rules.{rules}
 use Rattle.reading.proofs.is_due.Goals as goal
 
 pub returns : goal.returns

@@ -8,7 +8,6 @@ use lib.Seq.{length-take-le}
 use Rattle.plan.specs.{Form.width_of, Check.result, Numbered.numbered}
 use Rattle.answers.specs.Answers.{answer_size}
 use Rattle.rehearse.proofs.RehearseCases.{is_yes, not_no, is_no, play_room, rehearse_refused, rehearse_yes, judge_at}
-use borrow.Author.Rules.{rules}
 use Rattle.rehearse.proofs.rehearse.Goals.{After-size}
 use Rattle.rehearse.proofs.rehearse.Goals as goal
 

@@ -1,6 +1,5 @@
 -- `script::enter` meets its contract. The forged part of an accepted plan: the part's start and the entries' room follow from its length; the rest is Forging.
 use native.Mathlib.Omega.{arith}
-use borrow.Author.Rules.{rules}
 use Rattle.tables.proofs.Forging.{shape_ranged, part_starts}
 use Rattle.script.proofs.Forging.{fillable, forged}
 use Rattle.script.proofs.enter.Goals as goal

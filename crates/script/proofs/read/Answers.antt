@@ -1,6 +1,5 @@
 -- `script::read` meets its contract. An accepted plan is decoded: each part is read from where it stands, and the width of its values is the header's.
 use mathlib.Core.Path.{ap}
-use borrow.Author.Rules.{rules}
 use Rattle.plan.specs.Header.{Header}
 use Rattle.plan.proofs.Accept.{header_there}
 use Rattle.tables.proofs.Standing.{operations_room, initial_narrow, writes_same, reads_same}

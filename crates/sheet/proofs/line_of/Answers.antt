@@ -6,7 +6,6 @@ use Rattle.plan.specs.Packed.{plan_of}
 use Rattle.results.specs.Judge.{read_of}
 use Rattle.page.specs.Page.{is_marked}
 use Rattle.sheet.proofs.Rows.{reader_low, count_low, begun_is, line_is}
-use borrow.Author.Rules.{rules}
 use Rattle.sheet.proofs.line_of.Goals as goal
 
 pub read_line-requires : goal.read_line-requires

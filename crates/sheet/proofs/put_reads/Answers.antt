@@ -1,11 +1,9 @@
 -- `put_reads` meets its contract: after i turns the lines of the first i reads stand.
 use mathlib.Core.Path.{◌≡◌, refl, ◌∙◌}
-use Prim.Native.Nat.{◌-◌, ◌≤◌, ◌<◌}
+use Prim.Native.Nat.{◌<◌}
 use native.Mathlib.Numerals.{add-one}
 use native.Mathlib.Omega.{arith}
-use lib.ListN.{length}
 use borrow.Author.Rules.{rules}
-use Rattle.decimal.specs.Stored.{Stored}
 use Rattle.decimal.proofs.Stores.{stored_none, stored_then}
 use Rattle.plan.proofs.Accept.{playable}
 use Rattle.bits.proofs.Records.{record_inside}

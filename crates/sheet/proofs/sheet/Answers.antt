@@ -3,7 +3,6 @@ use mathlib.Core.Path.{sym, ap, ◌∙◌}
 use Rattle.plan.specs.{Numbered.numbered, Buffer.into_buffer}
 use Rattle.fitting.proofs.Passed.{form_answered}
 use Rattle.sheet.specs.Sheet.{sheet_after, sheet_in}
-use borrow.Author.Rules.{rules}
 use Rattle.sheet.proofs.sheet.Goals as goal
 
 pub sheet_at-requires : goal.sheet_at-requires

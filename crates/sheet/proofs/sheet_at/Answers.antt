@@ -3,7 +3,6 @@ use Prim.Native.Nat.{◌≤◌}
 use native.Mathlib.Omega.{arith}
 use Rattle.fitting.proofs.Decoded.{few_answers}
 use Rattle.sheet.proofs.Pages.{too_short, has_room}
-use borrow.Author.Rules.{rules}
 use Rattle.sheet.proofs.sheet_at.Goals.{Start}
 use Rattle.sheet.proofs.sheet_at.Goals as goal
 

@@ -9,7 +9,6 @@ use Rattle.page.specs.Page.{line_columns}
 use Rattle.page.proofs.Rows.{heading_length, rule_length}
 use Rattle.page.proofs.Lines.{lines_length}
 use Rattle.sheet.proofs.Pages.{line_next, page_is}
-use borrow.Author.Rules.{rules}
 use Rattle.sheet.proofs.write.Goals.{After-heading-heading, After-rule-rule}
 use Rattle.sheet.proofs.write.Goals as goal
 

@@ -2,8 +2,7 @@
 use borrow.Author.Rules.{rules}
 use native.Mathlib.{Omega.arith, Numerals.add-one}
 use mathlib.Core.Path.{◌∙◌}
-use Prim.Native.Nat.{ℕ, ◌<◌}
-use mathlib.Core.List.{List}
+use Prim.Native.Nat.{◌<◌}
 use Rattle.calendar.proofs.Spans.{posted_spanned}
 use Rattle.cluster.specs.Inputs.{Tickable}
 use Rattle.cluster.specs.Tick.{Ticked, Values, feed_of}

@@ -1,5 +1,4 @@
 -- `tick::read_on` meets its contract: in most ticks no read ends or begins.
-use borrow.Author.Rules.{rules}
 use mathlib.Core.Path.{sym, ◌∙◌}
 use borrow.Author.Tests.{not-true}
 use Rattle.ticking.proofs.Turns.{none_due}

@@ -1,5 +1,4 @@
 -- `write_on` meets its contract.
-use borrow.Author.Rules.{rules}
 use Rattle.script.proofs.Feeding.{linked_there}
 use Rattle.ticking.proofs.write_on.Goals as goal
 

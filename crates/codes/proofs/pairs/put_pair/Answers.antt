@@ -6,7 +6,6 @@ use lib.ListN.{length-set}
 use borrow.Author.Tests.{lt-ltb, le-ltb}
 use Rattle.codes.specs.Codes.{pair_size, pair_bytes}
 use Rattle.codes.proofs.PairLaws.{stored}
-use borrow.Author.Rules.{rules}
 use Rattle.codes.proofs.pairs.put_pair.Goals as goal
 
 pub returns-then-out-at : goal.returns-then-out-at

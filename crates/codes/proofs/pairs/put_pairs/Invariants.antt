@@ -1,14 +1,10 @@
 -- `put_pairs` meets its contract. The loop's invariant: the pairs of the places passed stand over the buffer, as far as they fit.
-use mathlib.Core.Path.{◌≡◌, sym, ◌∙◌}
-use Prim.Native.Nat.{◌-◌, ◌≤◌, ◌<◌}
-use native.Mathlib.Omega.{arith}
+use mathlib.Core.Path.{◌≡◌}
+use Prim.Native.Nat.{◌-◌, ◌≤◌}
 use lib.ListN.{length}
-use borrow.Author.Rules.{rules}
-use borrow.Author.Tests.{not-true, not-false}
 use Rattle.plan.specs.Packed.{store_depth}
-use Rattle.results.proofs.ShownPlaces.{Passed, passed, none_passed, one_more, at_empty, at_end}
+use Rattle.results.proofs.ShownPlaces.{Passed, passed}
 use Rattle.codes.specs.Codes.{pairs_over}
-use Rattle.codes.proofs.PairLaws.{over_none, put_more}
 use Rattle.codes.proofs.pairs.put_pairs.Given as goal
 
 abbrev pub invariant-loop-i : goal.invariant-loop-i

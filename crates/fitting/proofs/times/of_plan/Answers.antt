@@ -1,7 +1,6 @@
 -- `of_plan` meets its contract: the tables are those of the plan's writes.
 -- It stands on what is decoded of a plan that can be played.
 use mathlib.Core.Path.{◌≡◌}
-use borrow.Author.Rules.{rules}
 use Rattle.plan.specs.{Header.placement_at, Header.moves, Shape.shape}
 use Rattle.plan.proofs.Accept.{header_there}
 use Rattle.tables.proofs.Standing.{operations_room, initial_narrow}

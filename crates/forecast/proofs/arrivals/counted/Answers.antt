@@ -1,6 +1,6 @@
 -- `counted` meets its contract: after e turns the table has the arrivals of the first e messages.
 use mathlib.Core.Path.{◌≡◌, ap}
-use Prim.Native.Nat.{ℕ, ◌+◌, ◌-◌, ◌≤◌, ◌<◌}
+use Prim.Native.Nat.{ℕ, ◌+◌, ◌<◌}
 use native.Mathlib.Omega.{arith}
 use borrow.Author.Rules.{rules}
 use Rattle.register.specs.Plan.{Forgery}
@@ -8,7 +8,7 @@ use Rattle.plan.specs.{Header.forgery_bits, Steps.forgery}
 use Rattle.plan.proofs.Sizes.{forgeries_few}
 use Rattle.bits.proofs.Records.{record_inside}
 use Rattle.tables.specs.Forged.{forged_at}
-use Rattle.forecast.specs.Steps.{most_arrivals, arrival_at, Arrived}
+use Rattle.forecast.specs.Steps.{most_arrivals}
 use Rattle.forecast.proofs.Tables.{arrived_none, arrived_few, arrived_more}
 use Rattle.forecast.proofs.arrivals.counted.Goals.{After-delay_of, After-message_at-g}
 use Rattle.forecast.proofs.arrivals.counted.Goals as goal

@@ -1,11 +1,7 @@
 -- `highest` meets its contract: after t turns it has the largest of the first t numbers.
-use mathlib.Core.Path.{◌≡◌, refl, ◌∙◌}
-use mathlib.Core.Logic.{⊎_elim}
+use mathlib.Core.Path.{◌≡◌}
 use Prim.Native.Nat.{◌-◌, ◌≤◌}
-use native.Mathlib.Numerals.{add-one}
-use native.Mathlib.Omega.{arith}
 use lib.ListN.{get_or}
-use borrow.Author.Rules.{rules}
 use Rattle.traffic.specs.Traffic.{largest}
 use Rattle.forecast.proofs.arrivals.highest.Given as goal
 

@@ -2,7 +2,6 @@
 use mathlib.Core.Path.{◌∙◌}
 use Rattle.tables.proofs.Forging.{shape_ranged, part_starts, legible}
 use Rattle.forecast.proofs.Arriving.{most_arriving}
-use borrow.Author.Rules.{rules}
 use Rattle.forecast.proofs.arrivals.most.Goals as goal
 
 pub forgeries_at-at-requires : goal.forgeries_at-at-requires

@@ -1,14 +1,12 @@
 -- `of_writes` meets its contract: after j turns the receipts of the first j writes are counted.
 use mathlib.Core.Path.{◌≡◌, refl, ap, subst, ◌∙◌}
-use Prim.Native.Nat.{◌+◌, ◌*◌, ◌-◌, ◌≤◌, ◌<◌}
+use Prim.Native.Nat.{◌+◌, ◌-◌, ◌<◌}
 use native.Mathlib.Numerals.{add-one}
 use native.Mathlib.Omega.{arith}
-use lib.ListN.{get_or}
 use borrow.Author.Rules.{rules}
 use Rattle.traffic.specs.Traffic.{sum}
 use Rattle.plan.specs.Header.{Header, header_of}
 use Rattle.plan.proofs.Sizes.{playable_sizes}
-use Rattle.limits.specs.Limits.{most_servers}
 use Rattle.tables.specs.Sending.{Sent}
 use Rattle.tables.proofs.Sendings.{sent_sendable}
 use Rattle.tables.specs.Links.{link_bit, Linked}

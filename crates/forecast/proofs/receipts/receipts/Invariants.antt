@@ -1,12 +1,9 @@
 -- `receipts` meets its contract: after b turns the first b servers are counted.
-use mathlib.Core.Path.{◌≡◌, refl}
+use mathlib.Core.Path.{◌≡◌}
 use mathlib.Core.Bool.{Bool, not}
 use mathlib.Core.List.{List}
 use Prim.Native.Nat.{ℕ, ◌-◌, ◌≤◌}
-use native.Mathlib.Numerals.{add-one}
-use native.Mathlib.Omega.{arith}
 use lib.ListN.{get_or}
-use borrow.Author.Rules.{rules}
 use Rattle.register.specs.Lists.{count}
 use Rattle.tables.specs.declared.sending.Sending.{Sending}
 use Rattle.limits.specs.Limits.{most_servers}

@@ -1,14 +1,13 @@
 -- `shown::shown_places` meets its contract. The loop's invariant: the places passed have pairs, and the array has these and no other.
-use mathlib.Core.Path.{◌≡◌, ap, ◌∙◌}
-use mathlib.Core.List.{map}
-use Prim.Native.Nat.{◌-◌, ◌≤◌, ◌<◌}
+use mathlib.Core.Path.{ap, ◌∙◌}
+use Prim.Native.Nat.{◌<◌}
 use native.Mathlib.Omega.{arith}
 use lib.ListN.{length}
 use borrow.Author.Rules.{rules}
 use Rattle.plan.specs.Packed.{store_depth}
 use Rattle.results.specs.Look.{places_of}
-use Rattle.look.proofs.StoredPlaces.{place_in, store_more, store_placed, store_empty, store_end}
-use Rattle.results.proofs.ShownPlaces.{Passed, passed, none_passed}
+use Rattle.look.proofs.StoredPlaces.{store_more, store_placed, store_empty, store_end}
+use Rattle.results.proofs.ShownPlaces.{none_passed}
 use Rattle.look.proofs.shown.shown_places.Goals as goal
 
 pub loop-i-init : goal.loop-i-init

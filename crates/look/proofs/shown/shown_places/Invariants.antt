@@ -1,14 +1,12 @@
 -- `shown::shown_places` meets its contract. The loop's invariant: the places passed have pairs, and the array has these and no other.
-use mathlib.Core.Path.{◌≡◌, ap, ◌∙◌}
+use mathlib.Core.Path.{◌≡◌}
 use mathlib.Core.List.{map}
-use Prim.Native.Nat.{◌-◌, ◌≤◌, ◌<◌}
-use native.Mathlib.Omega.{arith}
+use Prim.Native.Nat.{◌-◌, ◌≤◌}
 use lib.ListN.{length}
-use borrow.Author.Rules.{rules}
 use Rattle.plan.specs.Packed.{store_depth}
 use Rattle.results.specs.Look.{places_of}
-use Rattle.look.proofs.StoredPlaces.{place_in, store_more, store_placed, store_empty, store_end}
-use Rattle.results.proofs.ShownPlaces.{Passed, passed, none_passed}
+use Rattle.look.proofs.StoredPlaces.{place_in}
+use Rattle.results.proofs.ShownPlaces.{Passed, passed}
 use Rattle.look.proofs.shown.shown_places.Given as goal
 
 abbrev pub invariant-loop-i : goal.invariant-loop-i

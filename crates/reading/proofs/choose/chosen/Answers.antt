@@ -1,13 +1,11 @@
 -- `choose::chosen` meets its contract. The loop's invariant: no pair from j on has a quorum.
-use borrow.Author.Rules.{rules}
 use native.Mathlib.Omega.{arith}
 use mathlib.Core.Path.{◌≡◌, refl, sym, ap, ◌∙◌}
 use mathlib.Core.Bool.{Bool}
-use Prim.Native.Nat.{ℕ, suc, ◌≤◌, ◌<◌, ◌+◌, ◌-◌, ◌^◌}
-use lib.ListN.{length, get_or}
+use Prim.Native.Nat.{ℕ, suc, ◌<◌, ◌+◌, ◌-◌, ◌^◌}
+use lib.ListN.{get_or}
 use lib.Count.{ones}
 use Rattle.register.specs.Lists.{count}
-use Rattle.limits.specs.Limits.{places}
 use Rattle.tallies.specs.Tallies.{holds}
 use Rattle.limits.proofs.Bits.{ones_count}
 use Rattle.reading.specs.Choosing.{highest_of}

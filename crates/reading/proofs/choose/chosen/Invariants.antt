@@ -1,17 +1,10 @@
 -- `choose::chosen` meets its contract. The loop's invariant: no pair from j on has a quorum.
-use borrow.Author.Rules.{rules}
-use native.Mathlib.Omega.{arith}
-use mathlib.Core.Path.{◌≡◌, refl, sym, ap, ◌∙◌}
-use mathlib.Core.Bool.{Bool}
-use Prim.Native.Nat.{ℕ, suc, ◌≤◌, ◌+◌, ◌-◌}
-use lib.ListN.{length, get_or}
-use lib.Count.{ones}
-use Rattle.register.specs.Lists.{count}
+use mathlib.Core.Path.{◌≡◌}
+use Prim.Native.Nat.{◌≤◌, ◌+◌}
+use lib.ListN.{length}
 use Rattle.limits.specs.Limits.{places}
 use Rattle.tallies.specs.Tallies.{holds}
-use Rattle.limits.proofs.Bits.{ones_count}
 use Rattle.reading.specs.Choosing.{highest_of}
-use Rattle.reading.proofs.Chosen.{highest_here, highest_below}
 use Rattle.reading.proofs.choose.chosen.Given as goal
 
 abbrev pub invariant-loop-j : goal.invariant-loop-j

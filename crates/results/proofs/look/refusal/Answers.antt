@@ -1,5 +1,4 @@
 -- `look::refusal` meets its contract: its number, and no pair.
-use borrow.Author.Rules.{rules}
 use Rattle.results.proofs.look.refusal.Goals as goal
 
 pub returns : goal.returns

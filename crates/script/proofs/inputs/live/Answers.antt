@@ -1,14 +1,12 @@
 -- `inputs::live` meets its contract. The loop's invariant: the set has the readers passed whose read did not begin in the tick before.
 use mathlib.Core.Path.{◌≡◌, fun_ext}
 use mathlib.Core.Bool.{Bool, not, ◌&&◌}
-use mathlib.Core.Logic.{inl, inr}
-use Prim.Native.Nat.{ℕ, ◌+◌, ◌*◌, ◌-◌, ◌≤◌}
+use Prim.Native.Nat.{ℕ, ◌+◌, ◌*◌, ◌-◌}
 use native.Mathlib.Omega.{arith}
 use lib.Dec.{eqb, ltb}
 use lib.ListN.{get_or}
 use borrow.Author.Rules.{rules}
 use borrow.Author.Tests.{lt-ltb, eq-eqb, ne_eqb}
-use Rattle.limits.specs.Bits.{bit}
 use Rattle.cluster.specs.Inputs.{requesters}
 use Rattle.cluster.proofs.Asking.{set_none, set_more, set_same}
 use Rattle.script.specs.Inputs.{live_at}

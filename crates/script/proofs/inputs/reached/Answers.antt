@@ -1,11 +1,8 @@
 -- `inputs::reached` meets its contract. The loop's invariant: the parties passed have their words.
 use mathlib.Core.Path.{◌≡◌}
-use Prim.Native.Nat.{ℕ, ◌-◌, ◌≤◌, ◌<◌}
 use native.Mathlib.Omega.{arith}
-use lib.ListN.{length, get_or}
 use borrow.Author.Rules.{rules}
 use Rattle.requests.specs.Requests.{reached_of}
-use Rattle.cluster.specs.Inputs.{requesters}
 use Rattle.tables.proofs.Tables.{each_more}
 use Rattle.script.proofs.inputs.reached.Goals as goal
 

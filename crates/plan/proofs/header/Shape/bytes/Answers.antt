@@ -1,5 +1,4 @@
 -- `header::Shape::bytes` meets its contract.
-use borrow.Author.Rules.{rules}
 use Rattle.plan.proofs.header.Shape.bytes.Goals as goal
 
 pub returns : goal.returns

@@ -1,6 +1,5 @@
 -- `header::Shape::delays_at` meets its contract: the product stays small in a header that is in range.
 use native.Mathlib.Omega.{arith}
-use borrow.Author.Rules.{rules}
 use Rattle.plan.proofs.Sizes.{forgeries_few}
 use Rattle.plan.proofs.header.Shape.delays_at.Goals as goal
 

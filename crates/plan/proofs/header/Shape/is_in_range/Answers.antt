@@ -1,5 +1,4 @@
 -- `header::Shape::is_in_range` meets its contract.
-use native.Mathlib.Omega.{arith}
 use Rattle.plan.specs.Check.{header_in_range}
 use Rattle.plan.proofs.header.Shape.is_in_range.Goals as goal
 

@@ -7,7 +7,6 @@ use Rattle.bits.specs.Field.{field_of}
 use Rattle.bits.proofs.Laws.{field_inner}
 use Rattle.plan.specs.Header.{header_of}
 use Rattle.plan.proofs.Sizes.{narrow_value}
-use borrow.Author.Rules.{rules}
 use Rattle.plan.proofs.header.Shape.read.Goals as goal
 
 -- the fields as the code takes them
