@@ -7,6 +7,7 @@ mod cases;
 
 use input::{Taken, take};
 use report::lent;
+use std::alloc::Global;
 use std::fs::File;
 use std::io::{BufWriter, Write};
 use std::{env, io};
@@ -41,8 +42,8 @@ fn every<W: Write>(to: &mut W, numbers: &[u32]) -> io::Result<()> {
 }
 
 // Every case of a file.
-fn all<W: Write>(to: &mut W, file: &[u8]) -> io::Result<()> {
-    let mut numbers = [0u32; cases::MOST_BYTES];
+fn all<W: Write>(to: &mut W, alloc: Global, file: &[u8]) -> io::Result<()> {
+    let mut numbers = vec![in alloc; 0u32; cases::MOST_BYTES]?;
     let count = cases::decode(file, &mut numbers);
     every(to, &numbers[..count])
 }
@@ -57,11 +58,11 @@ fn main(rt: HostRuntime) -> io::Result<()> {
             return eprintln!(rt; "{path}: {error}");
         }
     };
-    let mut bytes = [0u8; cases::MOST_BYTES];
+    let mut bytes = vec![in rt.alloc(); 0u8; cases::MOST_BYTES]?;
     match take(&mut file, &mut bytes) {
         Taken::Bytes(size) => {
             let mut to = BufWriter::new(rt.alloc(), rt.stdout())?;
-            all(&mut to, &bytes[..size])?;
+            all(&mut to, rt.alloc(), &bytes[..size])?;
             to.flush()
         }
         Taken::Failed(error) => Err(error),

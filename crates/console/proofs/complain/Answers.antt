@@ -3,7 +3,6 @@ use mathlib.Core.Path.{refl, sym}
 use native.Mathlib.Omega.{arith}
 use lib.Seq.{length-take-le}
 use Rattle.arguments.proofs.Laws.{fault_fits, whole_line}
-use borrow.Author.Rules.{rules}
 use Rattle.console.proofs.complain.Goals as goal
 
 pub slice_bounds-line-end : goal.slice_bounds-line-end

@@ -3,7 +3,6 @@ use mathlib.Core.Path.{sym}
 use native.Mathlib.Omega.{arith}
 use lib.Seq.{length-take-le}
 use Rattle.arguments.proofs.Laws.{failure_fits, whole_line}
-use borrow.Author.Rules.{rules}
 use Rattle.console.proofs.fail.Goals as goal
 
 pub slice_bounds-line-end : goal.slice_bounds-line-end

@@ -1,6 +1,5 @@
 -- `obey` meets its contract: each function says what it did.
 use mathlib.Core.Path.{◌∙◌, sym}
-use borrow.Author.Rules.{rules}
 use Rattle.console.proofs.obey.Goals as goal
 
 pub returns-in-Help : goal.returns-in-Help

@@ -1,6 +1,5 @@
 -- `rehearse` is safe: the part that holds the plan is as long as what was read.
 use Rattle.input.proofs.Within.{counted}
-use borrow.Author.Rules.{rules}
 use Rattle.console.proofs.rehearse.Goals as goal
 
 pub slice_bounds-plan-end : goal.slice_bounds-plan-end

@@ -1,6 +1,5 @@
 -- `serve` meets its contract: each function says what it used.
 use mathlib.Core.Path.{◌∙◌, sym}
-use borrow.Author.Rules.{rules}
 use Rattle.console.proofs.serve.Goals as goal
 
 pub returns-in-Argument : goal.returns-in-Argument

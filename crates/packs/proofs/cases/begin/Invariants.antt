@@ -1,7 +1,6 @@
 -- `begin` is safe and ends: i runs up to k, and each list adds less than 2 ^ 32.
 use Prim.Native.Nat.{◌+◌, ◌*◌, ◌-◌, ◌^◌, ◌≤◌}
 use lib.ListN.{length}
-use borrow.Author.Rules.{rules}
 use Rattle.packs.proofs.cases.begin.Given as goal
 
 abbrev pub invariant-loop-i : goal.invariant-loop-i

@@ -1,7 +1,5 @@
 -- `decode` is safe and ends: i runs up to the room for numbers.
-use mathlib.Core.Path.{◌≡◌, sym}
-use Prim.Native.Nat.{◌-◌, ◌≤◌}
-use lib.ListN.{length}
+use mathlib.Core.Path.{sym}
 use lib.Seq.{length-take-le}
 use borrow.Author.Rules.{rules}
 use Rattle.packs.proofs.cases.decode.Goals as goal

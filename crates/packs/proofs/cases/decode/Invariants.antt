@@ -1,9 +1,7 @@
 -- `decode` is safe and ends: i runs up to the room for numbers.
-use mathlib.Core.Path.{◌≡◌, sym}
+use mathlib.Core.Path.{◌≡◌}
 use Prim.Native.Nat.{◌-◌, ◌≤◌}
 use lib.ListN.{length}
-use lib.Seq.{length-take-le}
-use borrow.Author.Rules.{rules}
 use Rattle.packs.proofs.cases.decode.Given as goal
 
 abbrev pub invariant-loop-i : goal.invariant-loop-i

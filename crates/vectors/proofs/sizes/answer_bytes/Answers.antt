@@ -1,7 +1,6 @@
 -- `answer_bytes` meets its contract.
 use mathlib.Core.Path.{◌∙◌, ap}
 use native.Mathlib.Omega.{arith}
-use borrow.Author.Rules.{rules}
 use Rattle.answers.specs.Answers.{answer_size}
 use Rattle.vectors.proofs.sizes.answer_bytes.Goals as goal
 
