@@ -1,11 +1,8 @@
 """The sheet of docs/SHEET.md, written from its words alone: a page from the numbers of its lines, and the
 numbers read back from a page."""
 
-import pathlib
-
-PUBLISHED = pathlib.Path(__file__).parent.parent / "docs" / "SHEET.md"
-INDENT = "    "                 # of a sample there
 CELLS = 7, 12, 9, 14, 12, 12, 14
+HEADING = "begin", "screen", "end", "cue", "number", "count", "writing"
 CUE_COLUMNS = {1: 5, 2: 8}      # by form
 MARK = "*"
 LINE = sum(CELLS) + 1           # bytes of a line, its line feed among them
@@ -17,20 +14,13 @@ def line(words):
     return "".join(word.rjust(cell) for word, cell in zip(words, CELLS)) + "\n"
 
 
-def heading():
-    """The heading as it is published: the line above the first rule."""
-    lines = PUBLISHED.read_text(encoding="utf-8").splitlines()
-    above = next(lines[i - 1] for i, text in enumerate(lines) if text.strip().startswith("--- "))
-    return above.removeprefix(INDENT) + "\n"
-
-
 def rule(form):
     return line("-" * columns for columns in (3, 1, 3, CUE_COLUMNS[form], 3, 2, 1))
 
 
 def page(form, rows):
     """The bytes of a sheet.  A row is begin, screen, end, cue, number, count and whether it is marked."""
-    lines = [heading(), rule(form)]
+    lines = [line(HEADING), rule(form)]
     for *numbers, marked in rows:
         lines.append(line([*map(str, numbers), MARK if marked else " "]))
     lines.append(" " * (LINE - 1) + "\n")

@@ -153,7 +153,8 @@ size_t register_judge(size_t form, const uint8_t *plan, size_t plan_length,
 
 /* Writes answers as a sheet to pin up, a page of lines of 80 characters and a line feed each: a heading,
  * a rule, a line for each read, an empty line.  A read's line has begin, reader, end, value, number and
- * count, and in its last column a * exactly where some write of the plan was concurrent with the read.
+ * count, headed begin, screen, end, cue, number and count, and in its last column, headed writing, a *
+ * exactly where some write of the plan was concurrent with the read.
  * The answers need not be those of play; nothing is judged.  They can be read back from the page.
  *
  * The sheet stands at the start of page, and later bytes of page stay; any page may be lent, and

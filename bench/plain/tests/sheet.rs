@@ -9,19 +9,12 @@ const BEFORE: u8 = 0xa5;
 /// The bytes of a line.
 const LINE: usize = 81;
 
-/// The page on which the heading is published, in samples that are indented by four spaces.
-const PUBLISHED: &str = include_str!("../../../docs/SHEET.md");
+const HEADING: &str =
+    "  begin      screen      end           cue      number       count       writing\n";
 const RULE_ONE: &str =
     "    ---           -      ---         -----         ---          --             -\n";
 const RULE_TWO: &str =
     "    ---           -      ---      --------         ---          --             -\n";
-
-/// The line above the first rule there.
-fn heading() -> String {
-    let lines: Vec<&str> = PUBLISHED.lines().collect();
-    let rule = lines.iter().position(|line| line.trim().starts_with("--- ")).unwrap();
-    lines[rule - 1][4..].to_string() + "\n"
-}
 
 fn empty() -> String {
     " ".repeat(80) + "\n"
@@ -67,7 +60,7 @@ fn a_sheet_by_hand() {
             operation(123, 2, 0),
         ];
         let plan = parts(form, operations).pack();
-        let mut wanted = heading() + rule + &lines.concat().replace("########", highest);
+        let mut wanted = HEADING.to_string() + rule + &lines.concat().replace("########", highest);
         wanted += &empty();
         assert_eq!(wanted.len(), 6 * LINE);
         let answers = played(form, &plan);

@@ -21,7 +21,7 @@ unfolding opened aligned.right count_in page.in_cells page.heading page.rule pag
 paging = 0
 
 printing : ℕ
-unfolding paging check_in answered_after answered_in into_buffer sheet_after sheet_in S.titled S.headed S.headed_two S.first_sheet S.first_sheet_two S.at_once S.most_counted S.marked_sheet one_read_two
+unfolding paging check_in answered_after answered_in into_buffer sheet_after sheet_in S.headed S.headed_two S.first_sheet S.first_sheet_two S.at_once S.most_counted S.marked_sheet one_read_two
 printing = 0
 
 pub first : sheet_in 1 one_read (hex 5 0x004001c002) (lent 326) ≡ record { outcome = result 324; out = S.first_sheet ++ (255 ∷ 255 ∷ []) }

@@ -41,7 +41,7 @@ fn begin(work: &mut [u8], script: Script) -> Playing
 }
 
 // The ticks from the next one to before tick `to`; the reads that end in them are answered.
-fn run(
+pub fn run(
     start: Playing,
     plan: &[u8],
     answers: &mut [u8],

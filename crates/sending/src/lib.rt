@@ -25,7 +25,7 @@ pub struct Sender {
 }
 
 // One more than the last reader's number: they count from 1.
-const PAST_READERS: usize = 1 + READERS;
+pub const PAST_READERS: usize = 1 + READERS;
 
 // Where and when what it sends reaches the servers.
 fn to_servers(plan: &[u8], from: Sender) -> Sending

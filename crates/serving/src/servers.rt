@@ -50,7 +50,7 @@ pub fn is_cured_at(s: Status, t: u8, delta: u8) -> bool
 }
 
 // The lower of two numbers.
-fn lower(a: usize, b: usize) -> usize
+pub fn lower(a: usize, b: usize) -> usize
     ensures { (result ≤ a) × (result ≤ b) × (a ≤ b → a ≤ result) × (b ≤ a → b ≤ result) }
 {
     if a < b {

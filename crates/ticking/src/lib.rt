@@ -27,7 +27,7 @@ pub struct Playing {
 }
 
 // The write that begins in tick t, if there is one. The number of the last one begun then.
-fn write_on(work: &mut [u8], plan: &[u8], script: Script, written: u8, t: u8) -> u8
+pub fn write_on(work: &mut [u8], plan: &[u8], script: Script, written: u8, t: u8) -> u8
     requires { Decoded plan.now script × (t < script.shape.ticks) × (requests_end ≤ length work.old) }
     ensures { WroteOn plan.now script.links script.rules.n t script.writes.begun script.writes.known.m written result work.old work.new }
 {
@@ -45,7 +45,7 @@ fn write_on(work: &mut [u8], plan: &[u8], script: Script, written: u8, t: u8) ->
 }
 
 // The reads that end in tick t and those that begin in it; in most ticks none does.
-fn read_on(
+pub fn read_on(
     r: Reading,
     answers: &mut [u8],
     work: &mut [u8],

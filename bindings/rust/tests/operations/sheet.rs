@@ -26,20 +26,13 @@ fn row((numbers, marked): &Row) -> String {
     line([begin, screen, end, cue, number, count, if *marked { "*" } else { "" }])
 }
 
-/// The heading as it is published: the line above the first rule, without the sample's indent.
-fn heading() -> String {
-    let lines: Vec<&str> = DOCUMENT.lines().collect();
-    let rule = lines.iter().position(|line| line.trim().starts_with("--- ")).unwrap();
-    lines[rule - 1][4..].to_string() + "\n"
-}
-
 /// The sheet with these lines.
 fn page(form: Form, rows: &[Row]) -> String {
     let cue = match form {
         Form::One => "-----",
         Form::Two => "--------",
     };
-    heading()
+    line(["begin", "screen", "end", "cue", "number", "count", "writing"])
         + &line(["---", "-", "---", cue, "---", "--", "-"])
         + &rows.iter().map(row).collect::<String>()
         + &line([""; 7])
