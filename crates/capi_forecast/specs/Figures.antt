@@ -6,7 +6,7 @@ use Rattle.codes.specs.Codes.{code_of, in_numbers}
 
 -- in the order in which document 02 names them
 abbrev pub figures_of : Counts → List ℕ
-figures_of x = x.answer_bytes_lem ∷ x.moves ∷ x.write_messages ∷ x.read_messages ∷ x.votes ∷ x.most_forgeries ∷ []
+figures_of x = x.answer_bytes ∷ x.moves ∷ x.write_messages ∷ x.read_messages ∷ x.votes ∷ x.most_forgeries ∷ []
 
 -- how many they are
 abbrev pub figure_count : ℕ

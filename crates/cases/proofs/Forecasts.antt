@@ -20,7 +20,7 @@ counting = 0
 -- the six numbers, in document 02's order
 abbrev takes : (answers moves writes reads votes forgeries : ℕ) → Outcome Counts
 takes answers moves writes reads votes forgeries =
-    result (record { answer_bytes_lem = answers; moves = moves; write_messages = writes; read_messages = reads; votes = votes; most_forgeries = forgeries })
+    result (record { answer_bytes = answers; moves = moves; write_messages = writes; read_messages = reads; votes = votes; most_forgeries = forgeries })
 
 pub first : forecast_in 1 one_read ≡ takes 5 3 0 1 0 0
 unfolding counting

@@ -11,7 +11,7 @@ use Rattle.register.specs.{Cluster.cluster, Cluster.server_of, Lists.In, Lists.s
 use Rattle.register.proofs.{Logic.and_l, Logic.and_r, Lists.same_list_eq}
 use Rattle.plan.specs.{Buffer.Buffered, Buffer.into_buffer, Check.Outcome, Check.check_of, Check.check_in, Check.refused, Check.result, Form.width_of, Header.header_of, Header.k_in, Packed.plan_of}
 use Rattle.answers.specs.Answers.{answers_of}
-use Rattle.results.specs.{Judge.judge_of, Judge.read_of, Look.Condition, Look.Shown, Look.Stamped, Look.is-correct, Look.is-cured, Look.is-faulty, Look.shown_by}
+use Rattle.results.specs.{Judge.judge_of, Judge.read_of, Look.Condition, Look.Shown, Look.Stamped, Look.is_correct, Look.is_cured, Look.is_faulty, Look.shown_by}
 use Rattle.lines.specs.Text.{text_of}
 use Rattle.lists.specs.Lists.{lists_of, plan_bits, packed_plan}
 use Rattle.carrying.specs.Carrying.{carried_plan, values_fit, carry_tests, carry_after, carry_of}
@@ -25,7 +25,7 @@ unfolding opened check_in records lists_of plan_bits packed_plan into_buffer car
 carrying = 0
 
 opened_two : ℕ
-unfolding carrying F.one_read_two F.start_most F.start_most_two F.start_wide F.write_most F.write_most_two F.write_wide F.forged_wide F.form_two_lem
+unfolding carrying F.one_read_two F.start_most F.start_most_two F.start_wide F.write_most F.write_most_two F.write_wide F.forged_wide F.form_two_rows
 opened_two = 0
 
 -- Tests for equality, each with the law that it is one.
@@ -50,21 +50,21 @@ module _ {A : Type 0} (same : A → A → Bool) (by : (x y : A) → T (same x y)
   outcome-same (result m) (result n) h = ap result (by m n h)
 
 condition_number : Condition → ℕ
-condition_number is-faulty = 0
-condition_number is-cured = 1
-condition_number is-correct = 2
+condition_number is_faulty = 0
+condition_number is_cured = 1
+condition_number is_correct = 2
 
 condition_same : (x y : Condition) → condition_number x ≡ condition_number y → x ≡ y
 unfolding condition_number
-condition_same is-faulty is-faulty h = refl
-condition_same is-faulty is-cured h = absurd (omega arith)
-condition_same is-faulty is-correct h = absurd (omega arith)
-condition_same is-cured is-faulty h = absurd (omega arith)
-condition_same is-cured is-cured h = refl
-condition_same is-cured is-correct h = absurd (omega arith)
-condition_same is-correct is-faulty h = absurd (omega arith)
-condition_same is-correct is-cured h = absurd (omega arith)
-condition_same is-correct is-correct h = refl
+condition_same is_faulty is_faulty h = refl
+condition_same is_faulty is_cured h = absurd (omega arith)
+condition_same is_faulty is_correct h = absurd (omega arith)
+condition_same is_cured is_faulty h = absurd (omega arith)
+condition_same is_cured is_cured h = refl
+condition_same is_cured is_correct h = absurd (omega arith)
+condition_same is_correct is_faulty h = absurd (omega arith)
+condition_same is_correct is_cured h = absurd (omega arith)
+condition_same is_correct is_correct h = refl
 
 same_pairs : List Stamped → List Stamped → Bool
 same_pairs [] [] = true
@@ -102,9 +102,9 @@ buffered_same x y h =
 
 -- the test of a row
 passes : ℕ → S.Row → Bool
-passes w (S.has-length s n) = eqb (length s) n
+passes w (S.has_length s n) = eqb (length s) n
 passes w (S.checks s o) = same_outcome eqb eqb→eq (check_of w s) o
-passes w (S.has-k s k) = eqb (k_in (header_of w s)) k
+passes w (S.has_k s k) = eqb (k_in (header_of w s)) k
 passes w (S.writes_bytes s bytes) = same_list (answers_of w s) bytes
 passes w (S.prints s text) = same_list (text_of w s) text
 passes w (S.answers s value number count) =
@@ -115,15 +115,15 @@ passes w (S.shows s b t shown) =
     let x : Shown = shown_by w (server_of (cluster (plan_of w s) (suc t)) b) in
     eqb (condition_number x.condition) (condition_number shown.condition) && same_pairs x.pairs shown.pairs
 passes w (S.judges s a o) = same_outcome beq verdict_same (judge_of w s a) o
-passes w (S.checks-in form s o) = same_outcome eqb eqb→eq (check_in form s) o
+passes w (S.checks_in form s o) = same_outcome eqb eqb→eq (check_in form s) o
 passes w (S.carries from to s out p) = same_buffered (carry_of (width_of from) (width_of to) s out) p
 
 -- a row that passes holds
 row_holds : (w : ℕ) (r : S.Row) → T (passes w r) → S.Holds w r
 unfolding passes S.Holds
-row_holds w (S.has-length s n) h = eqb→eq _ n h
+row_holds w (S.has_length s n) h = eqb→eq _ n h
 row_holds w (S.checks s o) h = outcome-same eqb eqb→eq _ o h
-row_holds w (S.has-k s k) h = eqb→eq _ k h
+row_holds w (S.has_k s k) h = eqb→eq _ k h
 row_holds w (S.writes_bytes s bytes) h = same_list_eq _ bytes h
 row_holds w (S.prints s text) h = same_list_eq _ text h
 row_holds w (S.answers s value number count) h =
@@ -134,7 +134,7 @@ row_holds w (S.answers s value number count) h =
     (eqb→eq _ value (and_l (eqb (value_of w a.pair) value) _ h), eqb→eq _ number (and_l (eqb (number_of w a.pair) number) _ k), eqb→eq _ count j)
 row_holds w (S.shows s b t shown) h = shown_same (shown_by w (server_of (cluster (plan_of w s) (suc t)) b)) shown h
 row_holds w (S.judges s a o) h = outcome-same beq verdict_same _ o h
-row_holds w (S.checks-in form s o) h = outcome-same eqb eqb→eq _ o h
+row_holds w (S.checks_in form s o) h = outcome-same eqb eqb→eq _ o h
 row_holds w (S.carries from to s out p) h = buffered_same _ p h
 
 -- all rows pass, by computation
@@ -151,7 +151,7 @@ unfolding opened same_outcome condition_number same_pairs passes all_pass
 ended_as_begun_pass = tt
 
 -- and those of form two
-form_two_pass : T (all_pass S.two_width F.form_two_lem)
+form_two_pass : T (all_pass S.two_width F.form_two_rows)
 unfolding opened_two same_outcome same_buffered passes all_pass
 form_two_pass = tt
 
@@ -170,5 +170,5 @@ pub ended_as_begun_holds : (r : S.Row) → In r S.ended_as_begun → S.Holds S.o
 ended_as_begun_holds = each S.one_width S.ended_as_begun ended_as_begun_pass
 
 -- and those of form two
-pub form_two_holds : (r : S.Row) → In r F.form_two_lem → S.Holds S.two_width r
-form_two_holds = each S.two_width F.form_two_lem form_two_pass
+pub form_two_holds : (r : S.Row) → In r F.form_two_rows → S.Holds S.two_width r
+form_two_holds = each S.two_width F.form_two_rows form_two_pass

@@ -2,7 +2,7 @@
 use Rattle.std.specs.Prelude.{true, List, [], ◌∷◌, ◌++◌, ℕ, take}
 use Rattle.plan.specs.Check.{refused, result}
 use Rattle.cases.specs.Hex.{hex, lent}
-use Rattle.cases.specs.Starred.{one_read, Row, has-length, checks, checks-in, writes_bytes, judges, carries}
+use Rattle.cases.specs.Starred.{one_read, Row, has_length, checks, checks_in, writes_bytes, judges, carries}
 
 -- `one_read` in form two
 unfoldable pub one_read_two : List ℕ
@@ -36,16 +36,16 @@ forged_wide = hex 42 0x2a2110100000000002800000010100000101111011011101110110111
 
 -- '1 is a form other than one or two .., or a plan shorter than its form's header'; 'plans carried to form two and back, every field keeping its number .. 19: on the way back, a cue above 65,535. 20: lent buffer shorter than the
 -- carried plan.'
-unfoldable pub form_two_lem : List Row
-form_two_lem =
-    has-length one_read_two 33 ∷
+unfoldable pub form_two_rows : List Row
+form_two_rows =
+    has_length one_read_two 33 ∷
     checks one_read_two (result 1) ∷
-    checks-in 2 one_read_two (result 1) ∷
-    checks-in 1 one_read_two (refused 4) ∷
-    checks-in 3 one_read_two (refused 1) ∷
-    checks-in 0 one_read (refused 1) ∷
-    checks-in 2 (take 9 one_read_two) (refused 4) ∷
-    checks-in 2 (take 8 one_read_two) (refused 1) ∷
+    checks_in 2 one_read_two (result 1) ∷
+    checks_in 1 one_read_two (refused 4) ∷
+    checks_in 3 one_read_two (refused 1) ∷
+    checks_in 0 one_read (refused 1) ∷
+    checks_in 2 (take 9 one_read_two) (refused 4) ∷
+    checks_in 2 (take 8 one_read_two) (refused 1) ∷
     writes_bytes one_read_two (hex 6 0x00400001c002) ∷
     judges one_read_two (hex 6 0x00400001c002) (result true) ∷
     carries 1 2 one_read (lent 34) (record { outcome = result 33; out = one_read_two ++ (255 ∷ []) }) ∷

@@ -10,7 +10,7 @@ use Rattle.plan.specs.Packed.{plan_of}
 use Rattle.plan.specs.Check.{Outcome, refused, result, check_of, check_in}
 use Rattle.plan.specs.Buffer.{Buffered}
 use Rattle.answers.specs.Answers.{answers_of}
-use Rattle.results.specs.Look.{is-cured, is-correct, Stamped, Shown, shown_by}
+use Rattle.results.specs.Look.{is_cured, is_correct, Stamped, Shown, shown_by}
 use Rattle.results.specs.Judge.{read_of, judge_of}
 use Rattle.lines.specs.Text.{text_of}
 use Rattle.carrying.specs.Carrying.{carry_of}
@@ -103,24 +103,24 @@ reads_one = hex 8 0x726561647320310a ++ hex 12 0x30203120322037203020310a
 
 -- What a row says of a plan's bytes.
 pub data Row : Type 0 where
-  has-length : List ℕ → ℕ → Row
+  has_length : List ℕ → ℕ → Row
   checks : List ℕ → Outcome ℕ → Row
-  has-k : List ℕ → ℕ → Row
+  has_k : List ℕ → ℕ → Row
   writes_bytes : List ℕ → List ℕ → Row
   prints : List ℕ → List ℕ → Row
   answers : List ℕ → ℕ → ℕ → ℕ → Row
   shows : List ℕ → ℕ → ℕ → Shown → Row
   judges : List ℕ → List ℕ → Outcome Bool → Row
-  checks-in : ℕ → List ℕ → Outcome ℕ → Row
+  checks_in : ℕ → List ℕ → Outcome ℕ → Row
   carries : ℕ → ℕ → List ℕ → List ℕ → Buffered → Row
 
 -- Of values of w bits: its bytes; what Check returns; k; the answer bytes; the text that is printed, whole; value, number and count of the first read's answer;
 -- server b after tick t; what Judge says of answers. In forms that are named: what Check returns; what carrying it from one to another returns and leaves
 -- in a lent buffer
 unfoldable pub Holds : ℕ → Row → Type 0
-Holds w (has-length s n) = length s ≡ n
+Holds w (has_length s n) = length s ≡ n
 Holds w (checks s o) = check_of w s ≡ o
-Holds w (has-k s k) = k_in (header_of w s) ≡ k
+Holds w (has_k s k) = k_in (header_of w s) ≡ k
 Holds w (writes_bytes s bytes) = answers_of w s ≡ bytes
 Holds w (prints s text) = text_of w s ≡ text
 Holds w (answers s value number count) =
@@ -129,7 +129,7 @@ Holds w (answers s value number count) =
     (value_of w a.pair ≡ value) × (number_of w a.pair ≡ number) × (a.count ≡ count)
 Holds w (shows s b t shown) = shown_by w (server_of (cluster (plan_of w s) (suc t)) b) ≡ shown
 Holds w (judges s a o) = judge_of w s a ≡ o
-Holds w (checks-in form s o) = check_in form s ≡ o
+Holds w (checks_in form s o) = check_in form s ≡ o
 Holds w (carries from to s out p) = carry_of (width_of from) (width_of to) s out ≡ p
 
 -- Eight: 'a new one with six writes shows the two oldest of the seven pairs gone': (101, 1) and the start pair (7, 0)
@@ -146,37 +146,37 @@ last_five =
 unfoldable pub starred : List Row
 starred =
     checks k_one (result 0) ∷
-    has-k k_one 1 ∷
+    has_k k_one 1 ∷
     checks k_two (result 0) ∷
-    has-k k_two 2 ∷
+    has_k k_two 2 ∷
     checks period_short (refused 2) ∷
     checks five (result 0) ∷
     checks four (refused 3) ∷
     checks six (result 0) ∷
     checks five_two (refused 3) ∷
-    has-length no_reads 15 ∷
+    has_length no_reads 15 ∷
     checks no_reads (result 0) ∷
     checks (no_reads ++ (0x00 ∷ [])) (refused 4) ∷
-    has-length one_read 31 ∷
+    has_length one_read 31 ∷
     checks one_read (result 1) ∷
     writes_bytes one_read (hex 5 0x004001c002) ∷
     prints one_read reads_one ∷
     checks written (result 1) ∷
     answers written 9 1 1 ∷
     checks takeover (result 0) ∷
-    shows takeover 0 2 (record { condition = is-cured; pairs = [] }) ∷
-    shows takeover 0 3 (record { condition = is-correct; pairs = record { value = 9; number = 1 } ∷ record { value = 7; number = 0 } ∷ [] }) ∷
+    shows takeover 0 2 (record { condition = is_cured; pairs = [] }) ∷
+    shows takeover 0 3 (record { condition = is_correct; pairs = record { value = 9; number = 1 } ∷ record { value = 7; number = 0 } ∷ [] }) ∷
     checks six_writes (result 1) ∷
-    shows six_writes 2 11 (record { condition = is-correct; pairs = last_five }) ∷
-    shows six_writes 0 12 (record { condition = is-cured; pairs = [] }) ∷
-    shows six_writes 0 13 (record { condition = is-correct; pairs = last_five }) ∷
+    shows six_writes 2 11 (record { condition = is_correct; pairs = last_five }) ∷
+    shows six_writes 0 12 (record { condition = is_cured; pairs = [] }) ∷
+    shows six_writes 0 13 (record { condition = is_correct; pairs = last_five }) ∷
     answers six_writes 106 6 4 ∷
     []
 
 -- Four: 'A screen that reads in that very tick is owed the cue just set'. The last row was yes by document 01.
 unfoldable pub ended_as_begun : List Row
 ended_as_begun =
-    has-k just_set 2 ∷
+    has_k just_set 2 ∷
     checks just_set (result 1) ∷
     writes_bytes just_set just_written ∷
     judges just_set just_written (result true) ∷

@@ -14,7 +14,7 @@ use Rattle.plan.proofs.{Longest.longest, Longest.most_reads_lem, Forms.form_know
 use Rattle.lists.specs.Lists.{Lists, reads_listed, packed_plan}
 use Rattle.pack.specs.Pack.{pack_in}
 use Rattle.pack.proofs.Inverted.{form_packed_well}
-use Rattle.results.specs.Look.{Condition, is-faulty, is-cured, is-correct, shown_by}
+use Rattle.results.specs.Look.{Condition, is_faulty, is_cured, is_correct, shown_by}
 use Rattle.results.proofs.Keeps.{few_shown}
 use Rattle.carrying.specs.Carrying.{carry_of}
 use Rattle.carrying.proofs as carrying
@@ -41,9 +41,9 @@ verdict_below true = omega arith
 verdict_below false = omega arith
 
 condition_few : (c : Condition) → condition_code c ≤ 2
-condition_few is-faulty = omega arith
-condition_few is-cured = omega arith
-condition_few is-correct = omega arith
+condition_few is_faulty = omega arith
+condition_few is_cured = omega arith
+condition_few is_correct = omega arith
 
 -- of Look
 pub shown_below : (w : ℕ) (s : List ℕ) (t b : ℕ) → b < (header_of w s).n → shown_number (shown_by w (server_of (cluster (plan_of w s) t) b)) < refused_from

@@ -4,7 +4,7 @@ use Rattle.std.specs.Prelude.{Bool, true, false, List, [], ◌∷◌, ◌++◌, 
 use Rattle.results.specs.declared.look.Place.{Place}
 use Rattle.plan.specs.Form.{most_width}
 use Rattle.plan.specs.Check.{Outcome, refused, result}
-use Rattle.results.specs.Look.{Condition, is-faulty, is-cured, is-correct, Stamped, Shown, empty_place, Looked, look_in}
+use Rattle.results.specs.Look.{Condition, is_faulty, is_cured, is_correct, Stamped, Shown, empty_place, Looked, look_in}
 
 -- what a refusal's number is added to, above every result
 abbrev pub refused_from : ℕ
@@ -33,9 +33,9 @@ abbrev pub verdict_code : Outcome Bool → ℕ
 verdict_code o = code_of (in_numbers verdict_number o)
 
 abbrev pub condition_code : Condition → ℕ
-condition_code is-faulty = 0
-condition_code is-cured = 1
-condition_code is-correct = 2
+condition_code is_faulty = 0
+condition_code is_cured = 1
+condition_code is_correct = 2
 
 -- what each pair adds to the condition
 abbrev pub per_pair : ℕ

@@ -49,7 +49,7 @@ module _ (w : ℕ) (s : List ℕ) (A : Playable w s) where
 
   -- the six numbers, from the plan alone
   pub counts_are : record {
-    answer_bytes_lem = answer_size w * length (plan_of w s).reads;
+    answer_bytes = answer_size w * length (plan_of w s).reads;
     moves = moves (header_of w s);
     write_messages = (header_of w s).n * length (plan_of w s).writes;
     read_messages = (header_of w s).n * length (plan_of w s).reads;
@@ -72,7 +72,7 @@ module _ (w : ℕ) (s : List ℕ) (A : Playable w s) where
       → written ≡ (header_of w s).operations - length (plan_of w s).reads → others ≡ (header_of w s).n - 1 → receipts ≡ all_receipts (plan_of w s)
       → forged ≡ largest (forgeries_in (plan_of w s)) (header_of w s).ticks
       → record {
-        answer_bytes_lem = size * m;
+        answer_bytes = size * m;
         moves = moved;
         write_messages = n * written;
         read_messages = n * m;

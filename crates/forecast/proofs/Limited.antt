@@ -40,7 +40,7 @@ module _ (w : ℕ) (s : List ℕ) (A : Playable w s) where
   few-arriving t = rw (arriving w s t) (count_le _ (header_of w s).forgeries)
 
   -- at most 168 answers, 128 movements, 1,024 WRITEs, 2,688 READs, 15,360 votes and 1,024 forged messages
-  pub counts_limited : ((counts_of w s).answer_bytes_lem ≤ answer_size w * most_reads) × ((counts_of w s).moves ≤ 128) × ((counts_of w s).write_messages ≤ 1024)
+  pub counts_limited : ((counts_of w s).answer_bytes ≤ answer_size w * most_reads) × ((counts_of w s).moves ≤ 128) × ((counts_of w s).write_messages ≤ 1024)
       × ((counts_of w s).read_messages ≤ 2688) × ((counts_of w s).votes ≤ 15360) × ((counts_of w s).most_forgeries ≤ 1024)
   counts_limited =
       rw (← counts_are w s A) (

@@ -12,7 +12,7 @@ use Rattle.answers.specs.Answers.{answers_of}
 -- 'bytes of answers, number of moves, WRITE messages sent, READ messages sent, votes sent on receipt of a WRITE, and the largest number of
 -- forgeries arriving in one tick'
 pub record Counts : Type 0 where
-  pub answer_bytes_lem : ℕ
+  pub answer_bytes : ℕ
   pub moves : ℕ
   pub write_messages : ℕ
   pub read_messages : ℕ
@@ -25,7 +25,7 @@ counts_of w s =
     let P : Plan = plan_of w s in
     let H : ℕ = (header_of w s).ticks in
     record {
-      answer_bytes_lem = length (answers_of w s);
+      answer_bytes = length (answers_of w s);
       moves = count (is_move P) H;
       write_messages = sum (writes_sent P) H;
       read_messages = sum (reads_sent P) H;

@@ -8,7 +8,7 @@ use Rattle.forecast.specs.Forecast.{Counts}
 
 abbrev pub counts : declared.Counts → Counts
 counts x = record {
-  answer_bytes_lem = x.answer_bytes;
+  answer_bytes = x.answer_bytes;
   moves = x.moves;
   write_messages = x.write_messages;
   read_messages = x.read_messages;

@@ -12,14 +12,14 @@ use Rattle.answers.specs.Workspace.{workspace_size, zeroed}
 
 -- 'held, curing or sound'
 pub data Condition : Type 0 where
-  is-faulty : Condition
-  is-cured : Condition
-  is-correct : Condition
+  is_faulty : Condition
+  is_cured : Condition
+  is_correct : Condition
 
 unfoldable pub condition_of : Status → Condition
-condition_of faulty = is-faulty
-condition_of (cured since) = is-cured
-condition_of correct = is-correct
+condition_of faulty = is_faulty
+condition_of (cured since) = is_cured
+condition_of correct = is_correct
 
 pub record Stamped : Type 0 where
   pub value : ℕ

@@ -9,7 +9,7 @@ use Rattle.results.specs.declared.judge.Judged.TheVariants as J
 use Rattle.results.specs.declared.rehearse.Rehearsed.{Rehearsed}
 use Rattle.results.specs.declared.rehearse.Rehearsed.TheVariants as R
 use Rattle.results.specs.Rehearse.{Verdict, yes, no}
-use Rattle.results.specs.Look.{Stamped, Shown, is-faulty, is-cured, is-correct}
+use Rattle.results.specs.Look.{Stamped, Shown, is_faulty, is_cured, is_correct}
 
 -- the pairs in the places before the first empty one
 unfoldable pub shown_in : List Place → List Stamped
@@ -18,9 +18,9 @@ shown_in (p ∷ ps) = cond p.kept (record { value = p.value; number = p.number }
 
 -- Look: 'It returns held, curing or sound, and its pairs'
 abbrev pub looked_as : List Stamped → Seen → Outcome Shown
-looked_as pairs S.Faulty = result (record { condition = is-faulty; pairs = pairs })
-looked_as pairs S.Cured = result (record { condition = is-cured; pairs = pairs })
-looked_as pairs S.Correct = result (record { condition = is-correct; pairs = pairs })
+looked_as pairs S.Faulty = result (record { condition = is_faulty; pairs = pairs })
+looked_as pairs S.Cured = result (record { condition = is_cured; pairs = pairs })
+looked_as pairs S.Correct = result (record { condition = is_correct; pairs = pairs })
 looked_as pairs (S.Refused r) = refused (refusal_number r)
 
 abbrev pub looked : Looked → Outcome Shown
