@@ -1,7 +1,7 @@
 #![tactic(auto)]
 // Runs the operations over the plans of the file that the first argument names, and prints what they return; tests/make_vectors.py says
 // what the file holds and what is printed.
-mod requests;
+mod calls;
 mod shown;
 mod sizes;
 
@@ -126,11 +126,11 @@ fn ask<R: Read, W: Write>(
     plan: &[u8],
     answers: [u8; sizes::ANSWERS],
 ) -> io::Result<bool> {
-    let mut request = [0u8; requests::BYTES];
+    let mut request = [0u8; calls::BYTES];
     if !fill(file, &mut request)? {
         return Ok(false);
     }
-    requests::run(to, form, plan, answers, request)?;
+    calls::run(to, form, plan, answers, request)?;
     Ok(true)
 }
 
