@@ -4,7 +4,7 @@
 ghost use Rattle.std.specs.Prelude.{◌≡◌};
 ghost use Rattle.lines.specs.Text.{program_width, text_of};
 ghost use Rattle.arguments.specs.Arguments.{source_of, asked_of, fault_line, failure_line};
-ghost use Rattle.console.specs.Console.{error_stream};
+ghost use Rattle.console.specs.Console.{error_stream, descriptor_of};
 
 use arguments::{Asked, Fault, LINE_BYTES, Source};
 use input::{Taken, take};
@@ -48,7 +48,7 @@ fn tell<O: Write, E: Write>(
     fault: Fault,
     word: &[u8],
 )
-    requires { (to ≡ error_stream) × (line.now ≡ fault_line fault word.now) }
+    requires { (descriptor_of to ≡ error_stream) × (line.now ≡ fault_line fault word.now) }
 {
     let _ = match to {
         Stream::Output => streams.output.write_all(line),
