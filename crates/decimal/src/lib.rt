@@ -20,12 +20,10 @@ pub fn put_all(out: &mut [u8], at: usize, bytes: &[u8]) -> usize
     requires { at < 2 ^ 60 }
     ensures { Stored out.old at bytes.now out.new result }
 {
-    let mut i: usize = 0;
-    while i < bytes.len() {
-        put_byte(out, at + i, bytes[i]);
-        i += 1;
+    for (i, byte) in bytes.iter().enumerate() {
+        put_byte(out, at + i, *byte);
     }
-    at + i
+    at + bytes.len()
 }
 
 // The digits of a number, and the place behind them.
@@ -35,10 +33,11 @@ pub fn put(out: &mut [u8], at: usize, n: u64) -> usize
     ensures upper_bound { result ≤ at + most_digits }
 {
     if n < 10 {
-        return put_byte(out, at, b'0' + n as u8);
+        put_byte(out, at, b'0' + n as u8)
+    } else {
+        let next = put(out, at, n / 10);
+        put_byte(out, next, b'0' + (n % 10) as u8)
     }
-    let next = put(out, at, n / 10);
-    put_byte(out, next, b'0' + (n % 10) as u8)
 }
 
 // The digits of a number, the last of them before place `end`.

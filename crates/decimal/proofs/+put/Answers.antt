@@ -5,8 +5,8 @@ use Rattle.decimal.proofs.+put.Goals as goal
 pub returns-then-n-lt10-clause-stored : goal.returns-then-n-lt10-clause-stored
 returns-then-n-lt10-clause-stored t c = (stored_one c.ranges.n.fits c.if-n-lt10.true c.put_byte.ensures).0
 
-pub returns-clause-stored : goal.returns-clause-stored
-returns-clause-stored t c = (stored_digits c.ranges.n.fits c.if-n-lt10.false c.put-next.ensures.stored c.put_byte-2.ensures).0
+pub returns-else-n-lt10-clause-stored : goal.returns-else-n-lt10-clause-stored
+returns-else-n-lt10-clause-stored t c = (stored_digits c.ranges.n.fits c.if-n-lt10.false c.put-next.ensures.stored c.put_byte-else-n-lt10.ensures).0
 
-pub returns-clause-upper_bound : goal.returns-clause-upper_bound
-returns-clause-upper_bound t c = (stored_digits c.ranges.n.fits c.if-n-lt10.false c.put-next.ensures.stored c.put_byte-2.ensures).1
+pub returns-else-n-lt10-clause-upper_bound : goal.returns-else-n-lt10-clause-upper_bound
+returns-else-n-lt10-clause-upper_bound t c = (stored_digits c.ranges.n.fits c.if-n-lt10.false c.put-next.ensures.stored c.put_byte-else-n-lt10.ensures).1
