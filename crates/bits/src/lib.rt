@@ -6,22 +6,14 @@ ghost use Rattle.bits.specs.Fill.{fill, bytes_for};
 ghost use Rattle.bits.specs.Layout.{bits_of};
 ghost use Rattle.bits.specs.Writing.{Wrote};
 
-fn wide(x: u8) -> u64
-    ensures { result ≡ x }
-{
-    x as u64
-}
-
 // The n bytes from byte b on as one number.
 fn bytes_from(s: &[u8], b: usize, n: usize) -> u64
     requires { (n ≤ 8) × (b + n ≤ length s.now) }
     ensures { result ≡ field_of s.now (8 * b) (8 * n) }
 {
     let mut acc: u64 = 0;
-    let mut k = 0;
-    while k < n {
-        acc = acc * 256 + wide(s[b + k]);
-        k += 1;
+    for k in 0..n {
+        acc = acc * 256 + u64::from(s[b + k]);
     }
     acc
 }
@@ -56,9 +48,10 @@ pub fn field(s: &[u8], at: usize, width: usize) -> u64
     let first = at / 8;
     if s.len() < first + 8 {
         let n = bytes_for(at % 8 + width);
-        return part(bytes_from(s, first, n), 8 * n - at % 8 - width, width);
+        part(bytes_from(s, first, n), 8 * n - at % 8 - width, width)
+    } else {
+        part(eight_from(s, first), 8 * 8 - at % 8 - width, width)
     }
-    part(eight_from(s, first), 8 * 8 - at % 8 - width, width)
 }
 
 // The bit at this place, out of the byte that holds it.
@@ -77,10 +70,11 @@ pub fn nibble(s: &[u8], at: usize) -> u8
     let b = at / 8;
     let off = at % 8;
     if off <= 4 {
-        return (s[b] >> (4 - off)) % 16;
+        (s[b] >> (4 - off)) % 16
+    } else {
+        let both = u64::from(s[b]) * 256 + u64::from(s[b + 1]);
+        ((both >> (12 - off)) % 16) as u8
     }
-    let both = wide(s[b]) * 256 + wide(s[b + 1]);
-    ((both >> (12 - off)) % 16) as u8
 }
 
 // How many bits fill the last byte behind so many; with a wider unit in place of 8 the line is the same.
@@ -103,10 +97,8 @@ fn put_bytes(out: &mut [u8], b: usize, n: usize, value: u64)
     requires { (n ≤ 8) × (b + n ≤ length out.old) }
     ensures { Wrote out.old out.new (8 * b) (bits_of (8 * n) value) }
 {
-    let mut k = 0;
-    while k < n {
+    for k in 0..n {
         out[b + k] = ((value >> (8 * (n - 1 - k))) % 256) as u8;
-        k += 1;
     }
 }
 
@@ -140,7 +132,7 @@ pub fn put(out: &mut [u8], at: usize, width: usize, value: u64)
     }
     if out.len() < at / 8 + 8 {
         put_in(out, at, width, value, bytes_for(at % 8 + width));
-        return;
+    } else {
+        put_in(out, at, width, value, 8);
     }
-    put_in(out, at, width, value, 8);
 }

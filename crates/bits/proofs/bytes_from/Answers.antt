@@ -22,7 +22,7 @@ pub loop-k-preserved : goal.loop-k-preserved
 loop-k-preserved c = let a = c.args in
     let k = c.loop-k.k in
     let m = bytes_more a.s.now a.b k (omega (arith, c.type_inv.s (a.b + k))) in
-    (search rules, omega (arith, m))
+    omega (arith, m)
 
 pub returns : goal.returns
-returns c = let e : c.loop-k.k ≡ c.args.n = omega arith in rw (← e) c.loop-k.invariant.1
+returns c = let e : c.loop-k.k ≡ c.args.n = omega arith in rw (← e) c.loop-k.invariant

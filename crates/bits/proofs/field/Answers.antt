@@ -21,7 +21,7 @@ returns-then-s-first c = let a = c.args in
     rw (c.part.ensures.0, c.bytes_from.ensures, field_cut a.s.now a.at a.width n.result (omega (arith, n.ensures)))
     (refl, field_lt a.s.now a.at a.width)
 
-pub returns : goal.returns
-returns c = let a = c.args in
-    rw (c.part-2.ensures.0, c.eight_from.ensures, field_cut a.s.now a.at a.width 8 (omega arith))
+pub returns-else-s-first : goal.returns-else-s-first
+returns-else-s-first c = let a = c.args in
+    rw (c.part-else-s-first.ensures.0, c.eight_from.ensures, field_cut a.s.now a.at a.width 8 (omega arith))
     (refl, field_lt a.s.now a.at a.width)

@@ -9,7 +9,7 @@ use Rattle.bits.proofs.Written.{wrote_nothing, wrote_more}
 use Rattle.bits.proofs.put_bytes.Goals as goal
 
 pub loop-k-init : goal.loop-k-init
-loop-k-init c = (search rules, rw bits_zero (wrote_nothing c.args.out.now (8 * c.args.b)))
+loop-k-init c = rw bits_zero (wrote_nothing c.args.out.now (8 * c.args.b))
 
 pub loop-k-preserved : goal.loop-k-preserved
 loop-k-preserved c = let a = c.args in
@@ -17,10 +17,10 @@ loop-k-preserved c = let a = c.args in
     let x = a.value / 2 ^ (8 * (a.n - 1 - k)) in
     let above : 8 * (a.n - k) ≡ 8 * (a.n - 1 - k) + 8 = omega arith in
     let same : a.n - (k + 1) ≡ a.n - 1 - k = omega arith in
-    (search rules, rw same (wrote_more a.b k x (search rules) (rw (above, ← shr-shr a.value (8 * (a.n - 1 - k)) 8) at c.loop-k.invariant.1)))
+    rw same (wrote_more a.b k x (search rules) (rw (above, ← shr-shr a.value (8 * (a.n - 1 - k)) 8) at c.loop-k.invariant))
 
 pub returns : goal.returns
 returns c = let a = c.args in
     let e : c.loop-k.k ≡ a.n = omega arith in
     let none : 8 * (a.n - a.n) ≡ 0 = omega arith in
-    rw (e, none, pow-zero, div-one) at c.loop-k.invariant.1
+    rw (e, none, pow-zero, div-one) at c.loop-k.invariant
