@@ -13,10 +13,8 @@ pub fn field(s: &[u8], at: usize, widths: &[u8], i: usize) -> u32
         return 0;
     }
     let mut from = at;
-    let mut k = 0;
-    while k < i {
-        from += widths[k] as usize;
-        k += 1;
+    for width in &widths[..i] {
+        from += usize::from(*width);
     }
-    bits::field(s, from, widths[i] as usize) as u32
+    bits::field(s, from, usize::from(widths[i])) as u32
 }

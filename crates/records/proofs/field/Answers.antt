@@ -1,39 +1,41 @@
--- `field` meets its contract.
-use mathlib.Core.Path.{◌∙◌}
+-- `field` meets its contract: the widths before the field are summed.
+use mathlib.Core.Path.{◌≡◌, ◌∙◌}
+use Prim.Native.Nat.{◌+◌}
 use native.Mathlib.Numerals.{add-one}
 use native.Mathlib.Omega.{arith}
-use lib.ListN.{get_or}
+use lib.ListN.{get_or, take}
 use lib.Pow.{pow_mono, pow_pos}
-use Rattle.records.proofs.Underway.{next_narrow, next_inside, sought_first, nearer, here, reached, no_number}
+use lib.Seq.{take_all}
+use Rattle.bits.specs.Layout.{total}
+use Rattle.records.proofs.Underway.{narrow_at, total_next, total_inside, number_behind, no_number}
+use Rattle.records.proofs.field.Goals.{After-from}
 use Rattle.records.proofs.field.Goals as goal
 
 pub returns-then-widths-i : goal.returns-then-widths-i
 returns-then-widths-i c = let a = c.args in (no_number a.widths.now a.s.now a.at a.i c.if-widths-i.true, pow_pos (get_or a.widths.now a.i 0))
 
-pub loop-k-init : goal.loop-k-init
-loop-k-init c = sought_first _ _ _ _ c.requires.narrow
-
-pub overflow_cast-from : goal.overflow_cast-from
-overflow_cast-from c = omega (arith, next_narrow c.loop-k.invariant.left (omega arith))
-
 pub overflow_add-from : goal.overflow_add-from
-overflow_add-from c = omega (arith, next_inside c.loop-k.invariant.left (omega arith))
+overflow_add-from c = let a = c.args in
+    omega (arith, total_inside (take a.i a.widths.now) c.loop-width.width-index (omega arith), total_inside a.widths.now a.i (omega arith))
 
-pub loop-k-preserved : goal.loop-k-preserved
-loop-k-preserved c = let l = c.loop-k in
-    rw (add-one l.k) (nearer l.invariant (omega arith) (omega arith))
+pub loop-width-preserved : goal.loop-width-preserved
+loop-width-preserved c = let a = c.args in
+    let l = c.loop-width in
+    rw (add-one l.width-index) (omega (arith, total_next (take a.i a.widths.now) l.width-index (omega arith)))
 
-pub overflow_cast-widths : goal.overflow_cast-widths
-overflow_cast-widths c = omega (arith, next_narrow (here c.loop-k.invariant (omega arith)).left (omega arith))
+-- behind the loop
+reached : (c : After-from) → c.loop-width.from ≡ c.args.at + total (take c.args.i c.args.widths.now)
+reached c = c.loop-width.invariant ∙ rw (take_all _ _ c.loop-width-test.false)
 
 pub field-requires : goal.field-requires
-field-requires c = let u = (here c.loop-k.invariant (omega arith)).left in
-    let n = next_narrow u (omega arith) in
-    omega (arith, next_inside u (omega arith))
+field-requires c = let a = c.args in
+    omega (arith, narrow_at 32 a.widths.now a.i c.requires.narrow (omega arith), total_inside a.widths.now a.i (omega arith), reached c)
 
 pub overflow_cast-result : goal.overflow_cast-result
-overflow_cast-result c = let n = next_narrow (here c.loop-k.invariant (omega arith)).left (omega arith) in
-    omega (arith, pow_mono n)
+overflow_cast-result c = let a = c.args in
+    omega (arith, pow_mono (narrow_at 32 a.widths.now a.i c.requires.narrow (omega arith)), rw c.from.ensures at c.field.ensures.1)
 
 pub returns : goal.returns
-returns c = (c.field.ensures.0 ∙ reached (here c.loop-k.invariant (omega arith)) (omega arith), c.field.ensures.1)
+returns c = let a = c.args in
+    let at : c.loop-width.from ≡ a.at + total (take a.i a.widths.now) = reached (goal.at.returns c).After-from in
+    (c.field.ensures.0 ∙ rw (at, c.from.ensures) (number_behind a.widths.now a.s.now a.at a.i (omega arith)), rw c.from.ensures at c.field.ensures.1)

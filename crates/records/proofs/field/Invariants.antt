@@ -1,10 +1,9 @@
--- `field` meets its contract.
-use Prim.Native.Nat.{◌-◌}
-use Rattle.records.proofs.Underway.{Sought}
+-- `field` meets its contract: the widths before the field are summed.
+use mathlib.Core.Path.{◌≡◌}
+use Prim.Native.Nat.{◌+◌}
+use lib.ListN.{take}
+use Rattle.bits.specs.Layout.{total}
 use Rattle.records.proofs.field.Given as goal
 
-abbrev pub invariant-loop-k : goal.invariant-loop-k
-invariant-loop-k l = Sought l.widths l.s l.at l.i l.from l.k
-
-abbrev pub decreases-loop-k : goal.decreases-loop-k
-decreases-loop-k l = l.i - l.k
+abbrev pub invariant-loop-width : goal.invariant-loop-width
+invariant-loop-width l = l.from ≡ l.at + total (take l.width-index (take l.i l.widths))
