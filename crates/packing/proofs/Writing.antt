@@ -1,11 +1,11 @@
 -- Numbers packed one by one: the bits so far, by field and by record.
 -- It stands on the laws of bits, of the writer and of records one behind the other.
-use mathlib.Core.Path.{◌≡◌, ◌∙◌, refl, ap, sym}
+use mathlib.Core.Path.{◌≡◌, ◌∙◌, refl, sym}
 use mathlib.Core.List.{List, [], ◌∷◌, ◌++◌, append-nil}
 use Prim.Native.Nat.{ℕ, suc, ◌+◌, ◌*◌, ◌%◌, ◌^◌, ◌≤◌, ◌<◌}
 use native.Mathlib.Nat.{mul-le-mul_left, mod-lt}
 use native.Mathlib.Omega.{arith}
-use lib.ListN.{length, get_or, take, drop, take-append-drop}
+use lib.ListN.{length, get_or, take, drop}
 use lib.Seq.{length-take-le, take_all, take-suc, take-add}
 use lib.Pow.{pow_pos}
 use Rattle.bits.specs.Layout.{total, records, bits_of, packed_bits}
@@ -13,7 +13,8 @@ use Rattle.bits.specs.Writing.{Wrote}
 use Rattle.bits.proofs.Bits.{bits_zero, bits_low, bits_split}
 use Rattle.bits.proofs.Written.{wrote_nothing, wrote_then, behind_lt}
 use Rattle.bits.proofs.Packing.{packed_length}
-use Rattle.bits.proofs.Records.{total_append, records_last, total_records, length_records, packed_append}
+use Rattle.records.proofs.Underway.{total_next}
+use Rattle.bits.proofs.Records.{records_last, total_records, length_records, packed_append}
 
 packed_none : (xs : List ℕ) → packed_bits [] xs ≡ []
 unfolding packed_bits
@@ -22,14 +23,6 @@ packed_none xs = refl
 packed_one : (v x : ℕ) → packed_bits (v ∷ []) (x ∷ []) ≡ bits_of v x
 unfolding packed_bits
 packed_one v x = append-nil (bits_of v x)
-
--- the bits of the fields before one, and its own
-module _ (vs : List ℕ) (j : ℕ) (l : j < length vs) where
-  pub total_next : total (take (suc j) vs) ≡ total (take j vs) + get_or vs j 0
-  total_next = rw (take-suc vs j 0 l, total_append) (omega arith)
-
-  pub total_inside : total (take j vs) + get_or vs j 0 ≤ total vs
-  total_inside = omega (arith, total_next, total_append (take (suc j) vs) (drop (suc j) vs), ap total (take-append-drop (suc j) vs))
 
 -- the first j numbers joined into one
 pub record Joining (vs xs : List ℕ) (acc j : ℕ) : Type 0 where

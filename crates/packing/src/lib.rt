@@ -10,7 +10,7 @@ fn is_narrow(number: u32, width: u8) -> bool
     requires { width ≤ 32 }
     ensures { result ≡ ltb number (2 ^ width) }
 {
-    (number as u64) < (1u64 << width)
+    u64::from(number) < (1 << width)
 }
 
 // Do the first numbers fit the fields of one record.
@@ -18,12 +18,10 @@ pub fn fits_one(widths: &[u8], numbers: &[u32]) -> bool
     requires { T (no_wider 32 widths.now) × (length widths.now ≤ length numbers.now) }
     ensures { result ≡ fits widths.now (take (length widths.now) numbers.now) }
 {
-    let mut j = 0;
-    while j < widths.len() {
-        if !is_narrow(numbers[j], widths[j]) {
+    for (j, width) in widths.iter().enumerate() {
+        if !is_narrow(numbers[j], *width) {
             return false;
         }
-        j += 1;
     }
     true
 }
@@ -33,14 +31,10 @@ pub fn fits_all(widths: &[u8], numbers: &[u32], count: usize) -> bool
     requires { T (no_wider 32 widths.now) × (length numbers.now ≡ length widths.now * count) }
     ensures { result ≡ fits (records count widths.now) numbers.now }
 {
-    let fields = widths.len();
-    let mut i = 0;
-    while i < count {
-        let from = fields * i;
-        if !fits_one(widths, &numbers[from..]) {
+    for i in 0..count {
+        if !fits_one(widths, &numbers[widths.len() * i..]) {
             return false;
         }
-        i += 1;
     }
     true
 }
@@ -51,10 +45,8 @@ fn total(widths: &[u8]) -> usize
     ensures { result ≡ total widths.now }
 {
     let mut bits = 0;
-    let mut j = 0;
-    while j < widths.len() {
-        bits += widths[j] as usize;
-        j += 1;
+    for width in widths {
+        bits += usize::from(*width);
     }
     bits
 }
@@ -65,10 +57,8 @@ fn joined(widths: &[u8], numbers: &[u32]) -> u64
     ensures { bits_of (total widths.now) result ≡ packed_bits widths.now (take (length widths.now) numbers.now) }
 {
     let mut acc: u64 = 0;
-    let mut j = 0;
-    while j < widths.len() {
-        acc = bits::behind(acc, widths[j] as usize, numbers[j] as u64);
-        j += 1;
+    for (j, width) in widths.iter().enumerate() {
+        acc = bits::behind(acc, usize::from(*width), u64::from(numbers[j]));
     }
     acc
 }
@@ -81,11 +71,13 @@ pub fn put_all(out: &mut [u8], at: usize, widths: &[u8], numbers: &[u32], count:
 {
     let bits = total(widths);
     let fields = widths.len();
-    let mut i = 0;
-    while i < count {
-        let from = fields * i;
-        bits::put(out, at + bits * i, bits, joined(widths, &numbers[from..]));
-        i += 1;
+    for i in 0..count {
+        bits::put(
+            out,
+            at + bits * i,
+            bits,
+            joined(widths, &numbers[fields * i..]),
+        );
     }
 }
 
@@ -95,11 +87,9 @@ pub fn put_fields(out: &mut [u8], at: usize, widths: &[u8], numbers: &[u32])
     ensures { Wrote out.old out.new at (packed_bits widths.now numbers.now) }
 {
     let mut from = at;
-    let mut j = 0;
-    while j < widths.len() {
-        let width = widths[j] as usize;
-        bits::put(out, from, width, numbers[j] as u64);
+    for (j, width) in widths.iter().enumerate() {
+        let width = usize::from(*width);
+        bits::put(out, from, width, u64::from(numbers[j]));
         from += width;
-        j += 1;
     }
 }

@@ -4,4 +4,4 @@ use Rattle.bits.proofs.Laws.{one_shl}
 use Rattle.packing.proofs.is_narrow.Goals as goal
 
 pub returns : goal.returns
-returns c = rw (one_shl c.args.width 64 (omega arith))
+returns c = rw (c.from.ensures, one_shl c.args.width 64 (omega arith))

@@ -3,17 +3,12 @@ use native.Mathlib.Nat.{lt_of_lt_of_le}
 use native.Mathlib.Numerals.{add-one}
 use native.Mathlib.Omega.{arith}
 use lib.Pow.{pow_mono}
-use Rattle.packing.proofs.Writing.{total_inside, join_none, join_more, join_all}
+use Rattle.records.proofs.Underway.{total_inside}
+use Rattle.packing.proofs.Writing.{join_none, join_more, join_all}
 use Rattle.packing.proofs.joined.Goals as goal
 
 pub loop-j-init : goal.loop-j-init
 loop-j-init c = join_none _ _
-
-pub overflow_cast-widths : goal.overflow_cast-widths
-overflow_cast-widths c = omega (arith, c.type_inv.widths c.loop-j.j)
-
-pub overflow_cast-numbers : goal.overflow_cast-numbers
-overflow_cast-numbers c = omega (arith, c.type_inv.numbers c.loop-j.j)
 
 pub behind-acc-requires : goal.behind-acc-requires
 behind-acc-requires c = let a = c.args in
@@ -24,7 +19,7 @@ behind-acc-requires c = let a = c.args in
 pub loop-j-preserved : goal.loop-j-preserved
 loop-j-preserved c = let a = c.args in
     let l = c.loop-j in
-    rw (add-one l.j, c.behind-acc.ensures) (join_more a.widths.now a.numbers.now (omega arith) l.invariant (omega arith))
+    rw (add-one l.j, c.behind-acc.ensures, c.from.ensures, c.from-in-loop-j.ensures) (join_more a.widths.now a.numbers.now (omega arith) l.invariant (omega arith))
 
 pub returns : goal.returns
 returns c = let a = c.args in

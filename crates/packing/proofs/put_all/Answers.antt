@@ -12,8 +12,8 @@ use Rattle.packing.proofs.put_all.Goals as goal
 pub loop-i-init : goal.loop-i-init
 loop-i-init c = repeat_none _ _ _ _ _
 
-pub overflow_mul-from : goal.overflow_mul-from
-overflow_mul-from c = let a = c.args in
+pub overflow_mul-fields : goal.overflow_mul-fields
+overflow_mul-fields c = let a = c.args in
     omega (arith, record_inside (length a.widths.now) c.loop-i.i a.count (omega arith))
 
 pub overflow_mul-bits : goal.overflow_mul-bits
@@ -24,8 +24,8 @@ pub overflow_add-at : goal.overflow_add-at
 overflow_add-at c = let a = c.args in
     rw c.total-bits.ensures (omega (arith, record_inside (total a.widths.now) c.loop-i.i a.count (omega arith)))
 
-pub offset_bounds-numbers-from : goal.offset_bounds-numbers-from
-offset_bounds-numbers-from c = let a = c.args in
+pub offset_bounds-numbers-fields : goal.offset_bounds-numbers-fields
+offset_bounds-numbers-fields c = let a = c.args in
     omega (arith, record_inside (length a.widths.now) c.loop-i.i a.count (omega arith))
 
 pub slice_bounds-joined-count : goal.slice_bounds-joined-count

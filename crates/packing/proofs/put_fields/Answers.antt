@@ -1,18 +1,12 @@
 -- `put_fields` meets its contract.
 use native.Mathlib.Numerals.{add-one}
 use native.Mathlib.Omega.{arith}
-use Rattle.packing.proofs.Turns.{narrow_at}
-use Rattle.packing.proofs.Writing.{total_inside, write_none, write_more, write_all}
+use Rattle.records.proofs.Underway.{narrow_at, total_inside}
+use Rattle.packing.proofs.Writing.{write_none, write_more, write_all}
 use Rattle.packing.proofs.put_fields.Goals as goal
 
 pub loop-j-init : goal.loop-j-init
 loop-j-init c = write_none _ _ _ _
-
-pub overflow_cast-width : goal.overflow_cast-width
-overflow_cast-width c = omega (arith, c.type_inv.widths c.loop-j.j)
-
-pub overflow_cast-numbers : goal.overflow_cast-numbers
-overflow_cast-numbers c = omega (arith, c.type_inv.numbers c.loop-j.j)
 
 pub put-requires : goal.put-requires
 put-requires c = let a = c.args in
@@ -29,7 +23,8 @@ overflow_add-from c = let a = c.args in
 pub loop-j-preserved : goal.loop-j-preserved
 loop-j-preserved c = let a = c.args in
     let l = c.loop-j in
-    rw (add-one l.j) (write_more a.widths.now a.numbers.now (omega arith) l.invariant (omega arith) c.put.ensures)
+    let w = rw (c.from-width.ensures, c.from.ensures) at c.put.ensures in
+    rw (add-one l.j, c.from-width.ensures) (write_more a.widths.now a.numbers.now (omega arith) l.invariant (omega arith) w)
 
 pub returns : goal.returns
 returns c = write_all c.loop-j.invariant (omega arith) (omega arith)

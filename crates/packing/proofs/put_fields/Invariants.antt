@@ -1,11 +1,6 @@
 -- `put_fields` meets its contract.
-use Prim.Native.Nat.{◌-◌}
-use lib.ListN.{length}
 use Rattle.packing.proofs.Writing.{Writing}
 use Rattle.packing.proofs.put_fields.Given as goal
 
 abbrev pub invariant-loop-j : goal.invariant-loop-j
 invariant-loop-j l = Writing l.initial.out l.out l.at l.widths l.numbers l.from l.j
-
-abbrev pub decreases-loop-j : goal.decreases-loop-j
-decreases-loop-j l = length l.widths - l.j
