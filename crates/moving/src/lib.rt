@@ -43,11 +43,9 @@ fn copy_bytes(out: &mut [u8], s: &[u8], at: Places, count: usize) -> Places
     let first = at.to / BYTE_BITS;
     let before = at.from / BYTE_BITS;
     let low = BYTE_BITS - at.from % BYTE_BITS;
-    let mut k = 0;
-    while k < count {
-        let both = (s[before + k] as u32) * BYTE_LIMIT + s[before + k + 1] as u32;
+    for k in 0..count {
+        let both = u32::from(s[before + k]) * BYTE_LIMIT + u32::from(s[before + k + 1]);
         out[first + k] = ((both >> low) % BYTE_LIMIT) as u8;
-        k += 1;
     }
     Places {
         from: at.from + BYTE_BITS * count,
@@ -77,16 +75,13 @@ pub fn record(out: &mut [u8], wanted: &[u8], s: &[u8], had: &[u8], at: Places) -
     ensures { Wrote out.old out.new at.to (packed_bits wanted.now (numbers_at had.now s.now at.from))
         × Behind at (total had.now) (total wanted.now) result }
 {
-    let mut from = at.from;
-    let mut to = at.to;
-    let mut j = 0;
-    while j < wanted.len() {
-        let read = had[j] as usize;
-        let written = wanted[j] as usize;
+    let Places { mut from, mut to } = at;
+    for (j, written) in wanted.iter().enumerate() {
+        let read = usize::from(had[j]);
+        let written = usize::from(*written);
         bits::put(out, to, written, bits::field(s, from, read));
         from += read;
         to += written;
-        j += 1;
     }
     Places { from, to }
 }
@@ -108,10 +103,8 @@ pub fn records(
         × Behind at (total had.now * count) (total wanted.now * count) result }
 {
     let mut next = at;
-    let mut i = 0;
-    while i < count {
+    for _ in 0..count {
         next = record(out, wanted, s, had, next);
-        i += 1;
     }
     next
 }

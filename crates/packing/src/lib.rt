@@ -72,12 +72,8 @@ pub fn put_all(out: &mut [u8], at: usize, widths: &[u8], numbers: &[u32], count:
     let bits = total(widths);
     let fields = widths.len();
     for i in 0..count {
-        bits::put(
-            out,
-            at + bits * i,
-            bits,
-            joined(widths, &numbers[fields * i..]),
-        );
+        let all = joined(widths, &numbers[fields * i..]);
+        bits::put(out, at + bits * i, bits, all);
     }
 }
 

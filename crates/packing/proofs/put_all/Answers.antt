@@ -32,8 +32,8 @@ pub slice_bounds-joined-count : goal.slice_bounds-joined-count
 slice_bounds-joined-count c = let a = c.args in
     omega (arith, record_inside (length a.widths.now) c.loop-i.i a.count (omega arith))
 
-pub joined-requires : goal.joined-requires
-joined-requires c = let a = c.args in
+pub joined-all-requires : goal.joined-all-requires
+joined-all-requires c = let a = c.args in
     let l = c.loop-i in
     (c.requires.0, c.requires.1, rw part_from (numbers_there a.widths.now a.numbers.now a.count c.requires.2 l.i (omega arith)))
 
@@ -45,7 +45,7 @@ put-requires c = let a = c.args in
 pub loop-i-preserved : goal.loop-i-preserved
 loop-i-preserved c = let a = c.args in
     let l = c.loop-i in
-    let w = rw (c.total-bits.ensures, c.joined.ensures, part_from) at c.put.ensures in
+    let w = rw (c.total-bits.ensures, c.joined-all.ensures, part_from) at c.put.ensures in
     rw (add-one l.i) (repeat_more a.widths.now a.numbers.now a.count c.requires.2 l.invariant (omega arith) w)
 
 pub returns : goal.returns
