@@ -1,9 +1,8 @@
 -- Bits on the way from one byte string to another: what is written so far, by bytes, by fields and by records.
 -- It stands on the laws of the writer and of numbers packed one by one.
 use mathlib.Core.Path.{◌≡◌, ◌∙◌, ap, sym}
-use mathlib.Core.List.{List, [], ◌∷◌}
-use Prim.Native.Nat.{ℕ, zero, suc, ◌+◌, ◌*◌, ◌-◌, ◌/◌, ◌%◌, ◌^◌, ◌≤◌, ◌<◌}
-use native.Mathlib.Nat.{add-zero, add_assoc}
+use mathlib.Core.List.{List}
+use Prim.Native.Nat.{ℕ, suc, ◌+◌, ◌*◌, ◌-◌, ◌/◌, ◌%◌, ◌^◌, ◌≤◌, ◌<◌}
 use native.Mathlib.Omega.{arith}
 use lib.ListN.{length, get_or, set, take, drop}
 use lib.Seq.{take_all}
@@ -14,7 +13,8 @@ use Rattle.bits.proofs.{Bits.length_bits_of, Bits.bits_zero, Packing.bits_join, 
 use Rattle.bits.proofs.Laws.{field_byte, bytes_more, field_cut}
 use Rattle.bits.proofs.Written.{wrote_nothing, wrote_then, wrote_byte}
 use Rattle.bits.proofs.Records.{length_records, record_at}
-use Rattle.packing.proofs.Writing.{Writing, total_next, write_none, write_more, write_all, Repeating, repeat_none, repeat_more, repeat_all}
+use Rattle.records.proofs.Underway.{total_next, number_behind}
+use Rattle.packing.proofs.Writing.{Writing, write_none, write_more, write_all, Repeating, repeat_none, repeat_more, repeat_all}
 
 -- the first bits copied
 pub record Copying (before after s : List ℕ) (from to bits done : ℕ) : Type 0 where
@@ -70,12 +70,6 @@ byte_more {before} {after} {s} {from} {to} {count} {k} u whole l room h g =
     let value = (rw (← d, ← m) at (byte_two s at (rw (← d) h) (rw (← d) g))) in
     rw next (copy_more 8 u (omega arith) (rw (← value, ← place) (wrote_byte after (to / 8 + k) _ room)))
 
--- number j of a record is the field behind the widths before it
-pub number_at : (vs s : List ℕ) (at j : ℕ) → j < length vs → get_or (numbers_at vs s at) j 0 ≡ field_of s (at + total (take j vs)) (get_or vs j 0)
-number_at [] s at j l = absurd (omega arith)
-number_at (v ∷ vs) s at zero l = rw add-zero
-number_at (v ∷ vs) s at (suc j) l = number_at vs s (at + v) j (omega arith) ∙ rw add_assoc
-
 -- the first j fields of a record moved
 pub record Moving (before after wanted s had : List ℕ) (from₀ to₀ from to j : ℕ) : Type 0 where
   pub place : from ≡ from₀ + total (take j had)
@@ -89,7 +83,7 @@ module _ (wanted s had : List ℕ) (same : length had ≡ length wanted) where
       → Wrote after next to (bits_of (get_or wanted j 0) (field_of s from (get_or had j 0)))
       → Moving before next wanted s had from₀ to₀ (from + get_or had j 0) (to + get_or wanted j 0) (suc j)
   move_more {before} {after} {next} {from₀} {to₀} {from} {to} {j} u l w =
-      let number : get_or (numbers_at had s from₀) j 0 ≡ field_of s from (get_or had j 0) = number_at had s from₀ j (omega arith) ∙ rw u.place in
+      let number : get_or (numbers_at had s from₀) j 0 ≡ field_of s from (get_or had j 0) = sym (rw (← u.place) at (number_behind had s from₀ j (omega arith))) in
       record {
         place = rw (total_next had j (omega arith)) (omega (arith, u.place));
         writing = write_more wanted (numbers_at had s from₀) (rw numbers_length (omega arith)) u.writing l (rw number w);

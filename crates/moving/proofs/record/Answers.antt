@@ -1,19 +1,12 @@
 -- `record` meets its contract: field behind field, the first numbers are there.
 use native.Mathlib.Omega.{arith}
 use native.Mathlib.Numerals.{add-one}
-use Rattle.packing.proofs.Turns.{narrow_at}
-use Rattle.packing.proofs.Writing.{total_inside}
+use Rattle.records.proofs.Underway.{narrow_at, total_inside}
 use Rattle.moving.proofs.Moving.{move_none, move_more, move_all}
 use Rattle.moving.proofs.record.Goals as goal
 
 pub loop-j-init : goal.loop-j-init
 loop-j-init c = move_none _ _ _ _ _ _
-
-pub overflow_cast-read : goal.overflow_cast-read
-overflow_cast-read c = omega (arith, c.type_inv.had c.loop-j.j)
-
-pub overflow_cast-written : goal.overflow_cast-written
-overflow_cast-written c = omega (arith, c.type_inv.wanted c.loop-j.j)
 
 pub field-requires : goal.field-requires
 field-requires c = let l = c.loop-j in
@@ -40,8 +33,8 @@ overflow_add-to c = let a = c.args in
 pub loop-j-preserved : goal.loop-j-preserved
 loop-j-preserved c = let a = c.args in
     let l = c.loop-j in
-    let w = rw c.field.ensures.0 at c.put.ensures in
-    rw (add-one l.j) (move_more a.wanted.now a.s.now a.had.now c.requires.2 l.invariant (omega arith) w)
+    let w = rw (c.field.ensures.0, c.from-read.ensures, c.from-written.ensures) at c.put.ensures in
+    rw (add-one l.j, c.from-read.ensures, c.from-written.ensures) (move_more a.wanted.now a.s.now a.had.now c.requires.2 l.invariant (omega arith) w)
 
 pub returns : goal.returns
 returns c = let a = c.args in

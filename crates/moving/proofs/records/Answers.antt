@@ -6,27 +6,27 @@ use Rattle.bits.proofs.Records.{record_inside}
 use Rattle.moving.proofs.Moving.{follow_none, follow_more, follow_all}
 use Rattle.moving.proofs.records.Goals as goal
 
-pub loop-i-init : goal.loop-i-init
-loop-i-init c = follow_none _ _ _ _ _ _ _
+pub loop-init : goal.loop-init
+loop-init c = follow_none _ _ _ _ _ _ _
 
 pub record-next-requires : goal.record-next-requires
 record-next-requires c = let a = c.args in
-    let l = c.loop-i in
-    let read = record_inside (total a.had.now) l.i a.count (omega arith) in
-    let written = record_inside (total a.wanted.now) l.i a.count (omega arith) in (
+    let l = c.loop in
+    let read = record_inside (total a.had.now) l.counter a.count (omega arith) in
+    let written = record_inside (total a.wanted.now) l.counter a.count (omega arith) in (
       record { inside = omega (arith, l.invariant); near = omega (arith, l.invariant); narrow = c.requires.0 },
       record { inside = omega (arith, l.invariant); near = omega (arith, l.invariant); narrow = c.requires.1 },
       c.requires.2,
     )
 
-pub loop-i-preserved : goal.loop-i-preserved
-loop-i-preserved c = let a = c.args in
-    let l = c.loop-i in
+pub loop-preserved : goal.loop-preserved
+loop-preserved c = let a = c.args in
+    let l = c.loop in
     let r = c.record-next.ensures in
-    rw (add-one l.i, r.1.from, r.1.to)
+    rw (add-one l.counter, r.1.from, r.1.to)
     (follow_more a.wanted.now a.s.now a.had.now c.requires.2 a.at.from a.at.to a.count l.invariant (omega arith) r.0)
 
 pub returns : goal.returns
 returns c = let a = c.args in
-    let all = follow_all a.wanted.now a.s.now a.had.now c.requires.2 a.at.from a.at.to a.count c.loop-i.invariant (omega arith) in
+    let all = follow_all a.wanted.now a.s.now a.had.now c.requires.2 a.at.from a.at.to a.count c.loop.invariant (omega arith) in
     (all.0, record { from = all.1; to = all.2 })
