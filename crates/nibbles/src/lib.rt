@@ -17,21 +17,13 @@ const PAIR_BITS: usize = 2 * BITS;
 // What a byte is below.
 const PAIR_LIMIT: u32 = LIMIT * LIMIT;
 
-fn both(a: bool, b: bool) -> bool
-    ensures { result ≡ a && b }
-{
-    if a { b } else { false }
-}
-
 // Are all of them below 16. There is no early exit, so that many are compared at once.
 pub fn fit(numbers: &[u32]) -> bool
     ensures { result ≡ fits (fields_of numbers.now) numbers.now }
 {
     let mut all = true;
-    let mut i = 0;
-    while i < numbers.len() {
-        all = both(all, numbers[i] < LIMIT);
-        i += 1;
+    for number in numbers {
+        all &= *number < LIMIT;
     }
     all
 }
@@ -50,7 +42,7 @@ fn put_pair(out: &mut [u8], at: usize, numbers: &[u32], k: usize)
     ensures { Part out.old out.new at (all_bits numbers.now) (pair_width * k) (pair_width * (k + 1)) }
 {
     let place = at + PAIR_BITS * k;
-    bits::put(out, place, PAIR_BITS, pair(numbers, k) as u64);
+    bits::put(out, place, PAIR_BITS, u64::from(pair(numbers, k)));
 }
 
 // Writes the bytes that hold the end of one pair and the start of the next. They are stored whole,
@@ -62,12 +54,10 @@ fn put_between(out: &mut [u8], at: usize, numbers: &[u32], pairs: usize)
     let first = at / 8;
     let off = (at % 8) as u32;
     let mut before = pair(numbers, 0);
-    let mut k = 1;
-    while k < pairs {
+    for k in 1..pairs {
         let next = pair(numbers, k);
         out[first + k] = (((before * PAIR_LIMIT + next) >> off) % PAIR_LIMIT) as u8;
         before = next;
-        k += 1;
     }
 }
 
@@ -91,11 +81,10 @@ fn put_odd(out: &mut [u8], at: usize, numbers: &[u32])
         (pair_width * (length numbers.now / 2)) (width * length numbers.now) }
 {
     let n = numbers.len();
-    if n % 2 == 0 {
-        return;
+    if n % 2 == 1 {
+        let last = u64::from(numbers[n - 1]);
+        bits::put(out, at + BITS * (n - 1), BITS, last);
     }
-    let last = numbers[n - 1] as u64;
-    bits::put(out, at + BITS * (n - 1), BITS, last);
 }
 
 // Writes the lowest four bits of each number, one behind the other, from bit `at` on.

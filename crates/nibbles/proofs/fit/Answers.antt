@@ -4,21 +4,20 @@ use native.Mathlib.Numerals.{add-one}
 use native.Mathlib.Omega.{arith}
 use lib.ListN.{length}
 use lib.Seq.{take_all}
-use borrow.Author.Rules.{rules}
 use Rattle.bits.specs.Layout.{records, fits}
 use Rattle.nibbles.proofs.Numbers.{fits_more}
 use Rattle.nibbles.proofs.fit.Goals as goal
 
-pub loop-i-init : goal.loop-i-init
+pub loop-number-init : goal.loop-number-init
 unfolding records fits
-loop-i-init c = (search rules, refl)
+loop-number-init c = refl
 
-pub loop-i-preserved : goal.loop-i-preserved
-loop-i-preserved c = let xs = c.args.numbers.now in
-    let l = c.loop-i in
-    (search rules, rw (c.both-all.ensures, l.invariant.1, add-one) (sym (fits_more xs l.i (omega arith))))
+pub loop-number-preserved : goal.loop-number-preserved
+loop-number-preserved c = let xs = c.args.numbers.now in
+    let l = c.loop-number in
+    rw (l.invariant, add-one) (sym (fits_more xs l.number-index (omega arith)))
 
 pub returns : goal.returns
 returns c = let xs = c.args.numbers.now in
-    let e : c.loop-i.i ≡ length xs = omega arith in
-    rw (c.loop-i.invariant.1, e, take_all (length xs) xs (omega arith))
+    let e : c.loop-number.number-index ≡ length xs = omega arith in
+    rw (c.loop-number.invariant, e, take_all (length xs) xs (omega arith))

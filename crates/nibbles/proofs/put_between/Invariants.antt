@@ -6,6 +6,3 @@ use Rattle.nibbles.proofs.put_between.Given as goal
 
 abbrev pub invariant-loop-k : goal.invariant-loop-k
 invariant-loop-k l = (1 ≤ l.k) × (l.k ≤ l.pairs) × (l.before ≡ pair_of l.numbers (l.k - 1)) × Part l.initial.out l.out l.at (all_bits l.numbers) (8 - l.at % 8) (8 * l.k - l.at % 8)
-
-abbrev pub decreases-loop-k : goal.decreases-loop-k
-decreases-loop-k l = l.pairs - l.k

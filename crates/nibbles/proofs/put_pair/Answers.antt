@@ -9,5 +9,5 @@ pub returns : goal.returns
 returns c = let a = c.args in
     let xs = a.numbers.now in
     part_of pair_width (pair_of xs a.k) (omega arith) (omega arith)
-    (rw c.pair.ensures.0 at c.put.ensures)
+    (rw (c.from.ensures, c.pair.ensures.0) at c.put.ensures)
     (pair_at_lem xs a.k (omega arith))
