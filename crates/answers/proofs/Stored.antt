@@ -1,11 +1,11 @@
 -- An answer as it is written, over bytes of which the first are zero.
 -- It stands on the laws of the writer and of stamped values.
-use mathlib.Core.Path.{◌≡◌, refl, ap, ◌∙◌}
+use mathlib.Core.Path.{◌≡◌, refl, ◌∙◌}
 use mathlib.Core.List.{List, [], ◌∷◌, ◌++◌}
 use Prim.Native.Nat.{ℕ, ◌^◌, ◌≤◌, ◌<◌}
 use native.Mathlib.Omega.{arith}
-use lib.ListN.{length, drop, replicate, length-append, length-replicate, length-drop}
-use lib.Seq.{drop_at}
+use lib.ListN.{length, take, drop, length-append, length-drop}
+use lib.Seq.{drop_at, length-take-le}
 use Rattle.bits.specs.Field.{Bytes}
 use Rattle.bits.specs.Fill.{fill}
 use Rattle.bits.specs.Layout.{bits_of, packed_bits}
@@ -39,9 +39,13 @@ module _ (w begun reader value number count : ℕ) (small : value < 2 ^ w) where
       let small = packed_small (answer_widths w) (begun ∷ reader ∷ value ∷ number ∷ count ∷ 0 ∷ []) in
       rw (← same, numbers-are, ← size) (wrote_filled bits small W (rw (size, ← e) Z) f g (rw size room))
 
--- bytes of which the first are zero
-pub blanked_length : (n : ℕ) (l w : List ℕ) → n ≤ length l → w ≡ replicate n 0 ++ drop n l → length w ≡ length l
-blanked_length n l w h e = ap length e ∙ (length-append (replicate n 0) (drop n l) ∙ rw (length-replicate {A = ℕ} n 0, length-drop n l) (omega arith))
+-- bytes of which the first n are written over
+module _ (n : ℕ) (first l : List ℕ) (same : length first ≡ length (take n l)) (room : n ≤ length l) where
+  first_length : length first ≡ n
+  first_length = same ∙ length-take-le n l room
 
-pub blanked_rest : (n : ℕ) (l w : List ℕ) → w ≡ replicate n 0 ++ drop n l → drop n w ≡ drop n l
-blanked_rest n l w e = ap (drop n) e ∙ drop_at (replicate n 0) (drop n l) n (length-replicate {A = ℕ} n 0)
+  pub over_length : length (first ++ drop n l) ≡ length l
+  over_length = rw (length-append, length-drop) (omega (arith, first_length))
+
+  pub over_rest : drop n (first ++ drop n l) ≡ drop n l
+  over_rest = drop_at first (drop n l) n first_length

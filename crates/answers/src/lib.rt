@@ -72,7 +72,7 @@ fn widths(width: u8) -> [u8; FIELDS]
 fn bits(width: u8) -> usize
     ensures { result ≡ answer_bits width }
 {
-    OTHER_BITS + width as usize
+    OTHER_BITS + usize::from(width)
 }
 
 // The bytes of an answer.
@@ -87,8 +87,7 @@ pub fn field(answers: &[u8], width: u8, i: usize, number: usize) -> u32
     requires { (answer_size width * i + answer_size width ≤ length answers.now) × (i < 2 ^ 50) × (width ≤ most_width) }
     ensures { (result ≡ get_or (answer_numbers width answers.now i) number 0) × (result < 2 ^ get_or (answer_widths width) number 0) }
 {
-    let widths = widths(width);
-    records::field(answers, 8 * size(width) * i, &widths, number)
+    records::field(answers, 8 * size(width) * i, &widths(width), number)
 }
 
 // Answer i, out of one number with all its bits.
@@ -103,7 +102,7 @@ pub fn read(answers: &[u8], width: u8, i: usize) -> Answer
     Answer {
         begin: bits::part(key, READER_BITS, BEGIN_BITS) as u8,
         reader: bits::part(key, 0, READER_BITS) as u8,
-        value: bits::part(front, 0, width as usize) as u32,
+        value: bits::part(front, 0, usize::from(width)) as u32,
         number: bits::part(all, COUNT_BITS + ZERO_BITS, NUMBER_BITS) as u8,
         count: bits::part(all, ZERO_BITS, COUNT_BITS) as u8,
         zero: bits::part(all, 0, ZERO_BITS) as u8,
@@ -117,24 +116,18 @@ pub fn write(out: &mut [u8], width: u8, begun: u8, reader: u8, value: u32, numbe
         (record { pair = stamped width value number; count = count }) ++ drop (answer_size width) out.old }
 {
     // The writer of a field keeps the bits around it, so what was lent is not looked at.
-    blank(out, size(width));
-    let numbers = [begun as u32, reader as u32, value, number as u32, count, 0];
-    let widths = widths(width);
-    packing::put_fields(out, 0, &widths, &numbers);
+    out[..size(width)].fill(0);
+    let numbers = [
+        u32::from(begun),
+        u32::from(reader),
+        value,
+        u32::from(number),
+        count,
+        0,
+    ];
+    packing::put_fields(out, 0, &widths(width), &numbers);
     let end = bits(width);
     bits::put(out, end, bits::fill(end), 0);
-}
-
-// The first bytes are zero.
-fn blank(bytes: &mut [u8], size: usize)
-    requires { size ≤ length bytes.old }
-    ensures { bytes.new ≡ replicate size 0 ++ drop size bytes.old }
-{
-    let mut i: usize = 0;
-    while i < size {
-        bytes[i] = 0;
-        i += 1;
-    }
 }
 
 // Zeroes as much of the workspace as Play and Look may use.
@@ -142,5 +135,5 @@ pub fn zero(work: &mut [u8])
     requires { workspace_size ≤ length work.old }
     ensures { work.new ≡ zeroed work.old }
 {
-    blank(work, Shape::WORKSPACE_BYTES);
+    work[..Shape::WORKSPACE_BYTES].fill(0);
 }

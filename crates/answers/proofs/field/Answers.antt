@@ -27,7 +27,7 @@ unfolding no_wider
 field-requires c = let a = c.args in
     let size = answer_size a.width in
     let before = bits_before size a.i (answer_few a.width (omega arith)) (omega arith) in
-    rw (c.widths-widths.ensures, c.size.ensures)
+    rw (c.widths.ensures, c.size.ensures)
     (record {
       inside = bits_inside size (answer_bits a.width) a.i (length a.answers.now) (answer_inside a.width) (omega arith);
       near = omega (arith, before);
@@ -35,6 +35,6 @@ field-requires c = let a = c.args in
     })
 
 pub returns : goal.returns
-returns c = let e = c.widths-widths.ensures in
+returns c = let e = c.widths.ensures in
     let f = c.size.ensures in
     (same _ _ _ _ _ _ _ _ e f c.field.ensures.0, rw e at c.field.ensures.1)

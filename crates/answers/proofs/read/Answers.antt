@@ -23,7 +23,7 @@ field-all-requires c = let a = c.args in
     (omega arith, bits_inside size (answer_bits a.width) a.i (length a.answers.now) (answer_inside a.width) (omega arith), omega (arith, before))
 
 pub overflow_cast-result-3 : goal.overflow_cast-result-3
-overflow_cast-result-3 c = omega (arith, narrow_value _ _ (omega arith) c.part-3.ensures.1)
+overflow_cast-result-3 c = omega (arith, narrow_value _ _ (omega arith) (rw c.from.ensures at c.part-3.ensures.1))
 
 pub returns : goal.returns
 unfolding begin_in reader_in pair_in count_in zero_in
@@ -35,8 +35,8 @@ returns c = let a = c.args in
     record {
       begin = c.part.ensures.0 ∙ ap (at 0) e;
       reader = c.part-2.ensures.0 ∙ ap (at 1) e;
-      pair = rw (c.part-3.ensures.0, c.part-4.ensures.0) (ap (λ (l : List ℕ). stamped a.width (at 2 l) (at 3 l)) e);
+      pair = rw (c.part-3.ensures.0, c.part-4.ensures.0, c.from.ensures) (ap (λ (l : List ℕ). stamped a.width (at 2 l) (at 3 l)) e);
       count = c.part-5.ensures.0 ∙ ap (at 4) e;
       zero_bit = c.part-6.ensures.0 ∙ ap (at 5) e;
-      value_hi = c.part-3.ensures.1;
+      value_hi = rw c.from.ensures at c.part-3.ensures.1;
     }
