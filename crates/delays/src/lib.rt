@@ -8,7 +8,6 @@ ghost use Rattle.plan.specs.Shape.{shape, Sized};
 ghost use Rattle.delays.specs.Steps.{delay_allowed, tick_stands, link_mark, need_of, most_pairs, Needed, bit_stands, first_stand};
 
 use plan::header::Shape;
-use plan::logic::{both, is_within};
 
 // The pairs of delays in a tick of the most parties: half of 21 times 21.
 const MOST_PAIRS: usize = 220;
@@ -16,14 +15,14 @@ const MOST_PAIRS: usize = 220;
 fn is_link(n: usize, i: usize, j: usize) -> bool
     ensures { result ≡ is_link n i j }
 {
-    if i < n { both(i != j, j != n) } else { j < n }
+    if i < n { i != j && j != n } else { j < n }
 }
 
 fn is_allowed(h: Shape, i: usize, j: usize, delay: u8) -> bool
     ensures { result ≡ delay_allowed (shape h) i j delay }
 {
-    if is_link(h.n as usize, i, j) {
-        is_within(1, h.delta, delay)
+    if is_link(usize::from(h.n), i, j) {
+        (1..=h.delta).contains(&delay)
     } else {
         delay == 0
     }
@@ -34,11 +33,7 @@ fn link_mark(n: usize, parties: usize, q: usize) -> u8
     requires { 1 ≤ parties }
     ensures { (result ≡ link_mark n parties q) × (result ≤ 1) }
 {
-    if is_link(n, q / parties, q % parties) {
-        1
-    } else {
-        0
-    }
+    u8::from(is_link(n, q / parties, q % parties))
 }
 
 // The same of delays 2k and 2k + 1, as the two nibbles of a byte.
@@ -54,13 +49,11 @@ fn needs(n: usize, parties: usize, bytes: usize) -> [u8; MOST_PAIRS]
     requires { (1 ≤ parties) × (bytes ≤ most_pairs) }
     ensures { (length result ≡ most_pairs) × Needed n parties bytes result }
 {
-    let mut r = [0u8; MOST_PAIRS];
-    let mut k = 0;
-    while k < bytes {
-        r[k] = need_of(n, parties, k);
-        k += 1;
+    let mut needs = [0; MOST_PAIRS];
+    for k in 0..bytes {
+        needs[k] = need_of(n, parties, k);
     }
-    r
+    needs
 }
 
 // Eight bits of two bytes.
@@ -68,7 +61,7 @@ fn shifted(high: u8, low: u8, down: u16) -> u8
     requires { down ≤ 8 }
     ensures { result ≡ (high * 256 + low) / 2 ^ down % 256 }
 {
-    ((((high as u16) * 256 + low as u16) >> down) % 256) as u8
+    ((u16::from_be_bytes([high, low]) >> down) % 256) as u8
 }
 
 // The two delays in byte x.
@@ -78,10 +71,7 @@ fn byte_stands(need: u8, delta: u8, x: u8) -> bool
 {
     let high = x / 16;
     let low = x % 16;
-    both(
-        (high + 15) / 16 * 16 + (low + 15) / 16 == need,
-        both(low <= delta, high <= delta),
-    )
+    ((high + 15) / 16 * 16 + (low + 15) / 16 == need) & (low <= delta) & (high <= delta)
 }
 
 // The first 2 * bytes delays of the tick that begins at bit `at`, two at a time and with no early exit.
@@ -93,11 +83,9 @@ fn pairs_stand(plan: &[u8], need: &[u8], h: Shape, at: usize, bytes: usize) -> b
     let from = at / 8;
     let down = (8 - at % 8) as u16;
     let mut stands = true;
-    let mut k = 0;
-    while k < bytes {
+    for k in 0..bytes {
         let x = shifted(plan[from + k], plan[from + k + 1], down);
-        stands = both(byte_stands(need[k], h.delta, x), stands);
-        k += 1;
+        stands &= byte_stands(need[k], h.delta, x);
     }
     stands
 }
@@ -110,18 +98,9 @@ fn rest_stand(plan: &[u8], h: Shape, at: usize, from: usize, all: usize, before:
 {
     let parties = h.parties();
     let mut stands = before;
-    let mut q = from;
-    while q < all {
-        stands = both(
-            is_allowed(
-                h,
-                q / parties,
-                q % parties,
-                bits::nibble(plan, at + Shape::DELAY_BITS * q),
-            ),
-            stands,
-        );
-        q += 1;
+    for q in from..all {
+        let delay = bits::nibble(plan, at + Shape::DELAY_BITS * q);
+        stands &= is_allowed(h, q / parties, q % parties, delay);
     }
     stands
 }
@@ -156,21 +135,14 @@ pub fn all_stand(plan: &[u8], h: Shape) -> bool
     requires { Sized h.width plan.now (shape h) }
     ensures { result ≡ delays_stand h.width plan.now (shape h) }
 {
-    let ticks = h.ticks as usize;
     let parties = h.parties();
+    let all = parties * parties;
     let first = h.delays_at();
-    let need = needs(h.n as usize, parties, parties * parties / 2);
-    let mut t = 0;
-    while t < ticks {
-        if !tick_stands(
-            plan,
-            &need,
-            h,
-            first + Shape::DELAY_BITS * (t * (parties * parties)),
-        ) {
+    let need = needs(usize::from(h.n), parties, all / 2);
+    for t in 0..usize::from(h.ticks) {
+        if !tick_stands(plan, &need, h, first + Shape::DELAY_BITS * (t * all)) {
             return false;
         }
-        t += 1;
     }
     true
 }
