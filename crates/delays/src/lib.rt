@@ -12,12 +12,15 @@ use plan::header::Shape;
 // The pairs of delays in a tick of the most parties: half of 21 times 21.
 const MOST_PAIRS: usize = 220;
 
+// Is there a link from party i to party j of n servers, a writer and readers.
+#[tactic(auto, unfolding(plan::specs::Parts::is_link))]
 fn is_link(n: usize, i: usize, j: usize) -> bool
     ensures { result ≡ is_link n i j }
 {
     if i < n { i != j && j != n } else { j < n }
 }
 
+// May that link have this delay.
 fn is_allowed(h: Shape, i: usize, j: usize, delay: u8) -> bool
     ensures { result ≡ delay_allowed (shape h) i j delay }
 {
@@ -29,6 +32,7 @@ fn is_allowed(h: Shape, i: usize, j: usize, delay: u8) -> bool
 }
 
 // 1 where delay q of a tick is of a link.
+#[tactic(auto, unfolding(crate::specs::Steps::link_mark))]
 fn link_mark(n: usize, parties: usize, q: usize) -> u8
     requires { 1 ≤ parties }
     ensures { (result ≡ link_mark n parties q) × (result ≤ 1) }
@@ -37,6 +41,7 @@ fn link_mark(n: usize, parties: usize, q: usize) -> u8
 }
 
 // The same of delays 2k and 2k + 1, as the two nibbles of a byte.
+#[tactic(auto, unfolding(crate::specs::Steps::need_of))]
 fn need_of(n: usize, parties: usize, k: usize) -> u8
     requires { (1 ≤ parties) × (k < 2 ^ 60) }
     ensures { result ≡ need_of n parties k }
