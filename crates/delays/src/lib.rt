@@ -9,8 +9,10 @@ ghost use Rattle.delays.specs.Steps.{delay_allowed, tick_stands, link_mark, need
 
 use plan::header::Shape;
 
-// The pairs of delays in a tick of the most parties: half of 21 times 21.
-const MOST_PAIRS: usize = 220;
+const MOST_PARTIES: usize = Shape::MOST_SERVERS as usize + 1 + Shape::MOST_READERS as usize;
+
+// The pairs of delays in a tick of so many.
+const MOST_PAIRS: usize = MOST_PARTIES * MOST_PARTIES / 2;
 
 // Is there a link from party i to party j of n servers, a writer and readers.
 #[tactic(auto, unfolding(plan::specs::Parts::is_link))]
@@ -110,18 +112,6 @@ fn rest_stand(plan: &[u8], h: Shape, at: usize, from: usize, all: usize, before:
     stands
 }
 
-// Of so many pairs from bit `at` on, those with a byte behind them: all, or all but the last.
-fn followed(pairs: usize, at: usize, len: usize) -> usize
-    requires { (at < 2 ^ 59) × (pairs ≤ most_pairs) × (at / 8 < len) × (at / 8 + pairs ≤ len) }
-    ensures { (result ≤ pairs) × (at / 8 + result < len) }
-{
-    if at / 8 + pairs < len {
-        pairs
-    } else {
-        pairs - 1
-    }
-}
-
 // The delays of a tick: in pairs as far as a byte follows them, then the rest.
 fn tick_stands(plan: &[u8], need: &[u8], h: Shape, at: usize) -> bool
     requires { DelaysIn plan.now at (parties (shape h) * parties (shape h)) × (at < 2 ^ 59)
@@ -131,7 +121,7 @@ fn tick_stands(plan: &[u8], need: &[u8], h: Shape, at: usize) -> bool
 {
     let parties = h.parties();
     let all = parties * parties;
-    let pairs = followed(all / 2, at, plan.len());
+    let pairs = (all / 2).min(plan.len() - 1 - at / 8);
     let stands = pairs_stand(plan, need, h, at, pairs);
     rest_stand(plan, h, at, 2 * pairs, all, stands)
 }

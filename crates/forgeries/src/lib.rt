@@ -8,11 +8,11 @@ ghost use Rattle.plan.specs.Steps.{forgery};
 ghost use Rattle.operations.specs.Reads.{Opened};
 ghost use Rattle.forgeries.specs.Steps.{is_sent, is_received, forged_alone, ForgedPart};
 
-use operations::PARTIES;
-use operations::reads::{TICKS, opened};
+use operations::reads::{PLACES, TICKS, opened};
 use placements::is_faulty;
 use plan::forgeries::Forged;
 use plan::header::Shape;
+use plan::operations::Operation;
 
 // Is the sender faulty after that tick's movement.
 fn is_sent(plan: &[u8], h: Shape, at: u8, from: u8) -> bool
@@ -23,7 +23,7 @@ fn is_sent(plan: &[u8], h: Shape, at: u8, from: u8) -> bool
 }
 
 // Is the receiver another server, or a reader whose read is open. The table says which reads are.
-fn is_received(n: u8, table: &[bool; PARTIES * TICKS], at: u8, from: u8, to: u8) -> bool
+fn is_received(n: u8, table: &[bool; PLACES], at: u8, from: u8, to: u8) -> bool
     requires { (length table.now ≡ 1024) × (at < 128) }
     ensures { result ≡ is_received n table.now at from to }
 {
@@ -31,11 +31,11 @@ fn is_received(n: u8, table: &[bool; PARTIES * TICKS], at: u8, from: u8, to: u8)
         return to != from;
     }
     let reader = usize::from(to - n);
-    reader < PARTIES && table[TICKS * reader + usize::from(at)]
+    reader < Operation::PARTIES && table[TICKS * reader + usize::from(at)]
 }
 
 // What a forgery must meet whatever the others are.
-fn stands_alone(plan: &[u8], h: Shape, table: &[bool; PARTIES * TICKS], g: Forged) -> bool
+fn stands_alone(plan: &[u8], h: Shape, table: &[bool; PLACES], g: Forged) -> bool
     requires { Sized h.width plan.now (shape h) × (shape h ≡ header_of h.width plan.now)
         × (length table.now ≡ 1024) × Opened h.width plan.now (shape h) h.operations table.now
         × (g.at < 128) × (g.from < 16) }
@@ -44,13 +44,7 @@ fn stands_alone(plan: &[u8], h: Shape, table: &[bool; PARTIES * TICKS], g: Forge
     is_sent(plan, h, g.at, g.from) && is_received(h.n, table, g.at, g.from, g.to)
 }
 
-fn all_in(
-    part: &[u8],
-    offset: usize,
-    plan: &[u8],
-    h: Shape,
-    table: &[bool; PARTIES * TICKS],
-) -> bool
+fn all_in(part: &[u8], offset: usize, plan: &[u8], h: Shape, table: &[bool; PLACES]) -> bool
     requires { Sized h.width plan.now (shape h) × (shape h ≡ header_of h.width plan.now)
         × (length table.now ≡ 1024) × Opened h.width plan.now (shape h) h.operations table.now
         × ForgedPart h.width plan.now (shape h) part.now offset }
@@ -74,6 +68,5 @@ pub fn all_stand(plan: &[u8], h: Shape) -> bool
 {
     let table = opened(plan, h);
     let first = h.forgeries_at();
-    let from = first / 8;
-    all_in(&plan[from..], first % 8, plan, h, &table)
+    all_in(&plan[first / 8..], first % 8, plan, h, &table)
 }

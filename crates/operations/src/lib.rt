@@ -12,9 +12,6 @@ use plan::operations::Operation;
 
 pub mod reads;
 
-// The parties that an operation can name.
-pub const PARTIES: usize = 8;
-
 // Operation i of the plan.
 fn operation_of(plan: &[u8], h: Shape, i: usize) -> Operation
     requires { Sized h.width plan.now (shape h) × (i < h.operations) }
@@ -44,7 +41,7 @@ pub fn all_stand(plan: &[u8], h: Shape) -> bool
     ensures { result ≡ operations_stand h.width plan.now (shape h) }
 {
     let mut next = 0;
-    let mut free = [0; PARTIES];
+    let mut free = [0; Operation::PARTIES];
     for i in 0..usize::from(h.operations) {
         let o = operation_of(plan, h, i);
         let key = key(o);

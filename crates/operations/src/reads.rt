@@ -5,11 +5,14 @@ ghost use Rattle.plan.specs.Check.{operations_stand};
 ghost use Rattle.plan.specs.Shape.{shape, Sized};
 ghost use Rattle.operations.specs.Reads.{Marked, Opened};
 
-use crate::{PARTIES, operation_of};
+use crate::operation_of;
 use plan::header::Shape;
+use plan::operations::Operation;
 
-// The places of a reader in the table: one for each tick.
+// The places of a reader in the table of open reads, one for each tick, and those of all.
 pub const TICKS: usize = Shape::MOST_TICKS as usize;
+
+pub const PLACES: usize = Operation::PARTIES * TICKS;
 
 // How many reads the plan has.
 pub fn count(plan: &[u8], h: Shape) -> usize
@@ -26,7 +29,7 @@ pub fn count(plan: &[u8], h: Shape) -> usize
 }
 
 // Reader x has a read open in the ticks from `from` up to and without `to`: places 128 x + tick.
-fn mark(table: &mut [bool; PARTIES * TICKS], x: usize, from: usize, to: usize)
+fn mark(table: &mut [bool; PLACES], x: usize, from: usize, to: usize)
     requires { (length table.old ≡ 1024) × (x < 8) × (from ≤ to) × (to ≤ 128) }
     ensures { (length table.new ≡ 1024) × Marked table.new table.old x from to }
 {
@@ -35,11 +38,11 @@ fn mark(table: &mut [bool; PARTIES * TICKS], x: usize, from: usize, to: usize)
 }
 
 // Has reader x a read open in tick t: place 128 x + t.
-pub fn opened(plan: &[u8], h: Shape) -> [bool; PARTIES * TICKS]
+pub fn opened(plan: &[u8], h: Shape) -> [bool; PLACES]
     requires { Sized h.width plan.now (shape h) × (operations_stand h.width plan.now (shape h) ≡ true) }
     ensures { (length result ≡ 1024) × Opened h.width plan.now (shape h) h.operations result }
 {
-    let mut table = [false; PARTIES * TICKS];
+    let mut table = [false; PLACES];
     for i in 0..usize::from(h.operations) {
         let o = operation_of(plan, h, i);
         if o.party != 0 {

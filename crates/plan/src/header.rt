@@ -245,13 +245,11 @@ impl Shape {
     }
 
     // How many movements there are, and so how many placements.
-    #[tactic(auto, using(crate::proofs::Laws::moves_few), unfolding(crate::specs::Header::moves))]
     pub fn moves(self) -> usize
         requires { Ranged (shape self) }
         ensures { (result ≡ moves (shape self)) × (result ≤ 128) }
     {
-        let period = usize::from(self.period);
-        (usize::from(self.ticks) + (period - 1)) / period
+        usize::from(self.ticks).div_ceil(usize::from(self.period))
     }
 
     pub fn parties(self) -> usize

@@ -24,6 +24,9 @@ impl Operation {
 
     pub const FIELDS: usize = 3;
 
+    // The parties that a number of so many bits can name.
+    pub const PARTIES: usize = 1 << Self::PARTY_BITS;
+
     // The bits before its value.
     pub const VALUE_AT: usize = Self::TICK_BITS + Self::PARTY_BITS;
 
