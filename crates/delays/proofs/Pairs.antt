@@ -1,7 +1,7 @@
 -- The delays of a tick in their order, two to a byte, are those of its rows.
 -- It stands on the definitions of the plan's parts.
 use mathlib.Core.Path.{◌≡◌, refl, sym, ◌∙◌}
-use mathlib.Core.Bool.{Bool, true, false, ◌&&◌, cond, and_assoc, and-false}
+use mathlib.Core.Bool.{Bool, true, false, ◌&&◌, cond, and_assoc, and_comm, and-false}
 use mathlib.Core.List.{List}
 use Prim.Native.Nat.{ℕ, zero, suc, ◌+◌, ◌*◌, ◌-◌, ◌/◌, ◌%◌, ◌^◌, ◌≤◌, ◌<◌}
 use native.Mathlib.Nat.{add-zero, add-suc, zero-mul, suc-mul}
@@ -39,14 +39,14 @@ nibbles_cases a b need h (yes e) (yes f) = rw (eq-eqb a (need / 16) e, eq-eqb b 
 nibbles_cases a b need h (yes e) (no f) = rw (eq-eqb a (need / 16) e, ne_eqb b (need % 16) f, ne_eqb (a * 16 + b) need (λ q. f (omega (arith, q)))) refl
 nibbles_cases a b need h (no e) d = rw (ne_eqb a (need / 16) e, ne_eqb (a * 16 + b) need (λ q. e (omega (arith, q)))) refl
 
-and_swap : (p q l h : Bool) → (p && q) && (l && h) ≡ (q && l) && (p && h)
+and_swap : (p q l h : Bool) → ((p && q) && l) && h ≡ (q && l) && (p && h)
 and_swap true true l h = refl
 and_swap true false l h = refl
 and_swap false true l h = sym (and-false l)
 and_swap false false l h = refl
 
 pub byte_stands : (need delta x : ℕ) → need / 16 ≤ 1 → need % 16 ≤ 1 → x < 256
-    → eqb ((x / 16 + 15) / 16 * 16 + (x % 16 + 15) / 16) need && (leb (x % 16) delta && leb (x / 16) delta)
+    → (eqb ((x / 16 + 15) / 16 * 16 + (x % 16 + 15) / 16) need && leb (x % 16) delta) && leb (x / 16) delta
     ≡ bit_stands (need % 16) delta (x % 16) && bit_stands (need / 16) delta (x / 16)
 byte_stands need delta x n m h =
     let a : ℕ = (x / 16 + 15) / 16 in
@@ -104,14 +104,15 @@ module _ (s : List ℕ) (h : Header) (at : ℕ) where
   unfolding first_stand all_up_to
   first_none = refl
 
-  pub first_more : (m : ℕ) → first_stand s h at (m + 1) ≡ order_stands s h at m && first_stand s h at m
+  pub first_more : (m : ℕ) → first_stand s h at (m + 1) ≡ first_stand s h at m && order_stands s h at m
   unfolding first_stand all_up_to
-  first_more m = rw add-one refl
+  first_more m = rw add-one (and_comm (order_stands s h at m) (all_up_to m (order_stands s h at)))
 
-  pub pair_more : (k : ℕ) → first_stand s h at (2 * (k + 1)) ≡ (order_stands s h at (2 * k + 1) && order_stands s h at (2 * k)) && first_stand s h at (2 * k)
+  pub pair_more : (k : ℕ) → first_stand s h at (2 * (k + 1)) ≡ first_stand s h at (2 * k) && (order_stands s h at (2 * k + 1) && order_stands s h at (2 * k))
   pair_more k =
       let e : 2 * (k + 1) ≡ 2 * k + 1 + 1 = omega arith in
-      rw (e, first_more (2 * k + 1), first_more (2 * k)) (sym (and_assoc (order_stands s h at (2 * k + 1)) (order_stands s h at (2 * k)) (first_stand s h at (2 * k))))
+      let last = and_comm (order_stands s h at (2 * k)) (order_stands s h at (2 * k + 1)) in
+      rw (e, first_more (2 * k + 1), first_more (2 * k), ← last) (and_assoc (first_stand s h at (2 * k)) (order_stands s h at (2 * k)) (order_stands s h at (2 * k + 1)))
 
 -- eight bits of two bytes
 byte_two : (s : List ℕ) (at : ℕ) → get_or s (at / 8) 0 < 256 → get_or s (at / 8 + 1) 0 < 256

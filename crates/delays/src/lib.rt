@@ -8,40 +8,42 @@ ghost use Rattle.plan.specs.Shape.{shape, Sized};
 ghost use Rattle.delays.specs.Steps.{delay_allowed, tick_stands, link_mark, need_of, most_pairs, Needed, bit_stands, first_stand};
 
 use plan::header::Shape;
-use plan::logic::{both, is_within};
 
-// The pairs of delays in a tick of the most parties: half of 21 times 21.
-const MOST_PAIRS: usize = 220;
+const MOST_PARTIES: usize = Shape::MOST_SERVERS as usize + 1 + Shape::MOST_READERS as usize;
 
+// The pairs of delays in a tick of so many.
+const MOST_PAIRS: usize = MOST_PARTIES * MOST_PARTIES / 2;
+
+// Is there a link from party i to party j of n servers, a writer and readers.
+#[tactic(auto, unfolding(plan::specs::Parts::is_link))]
 fn is_link(n: usize, i: usize, j: usize) -> bool
     ensures { result ≡ is_link n i j }
 {
-    if i < n { both(i != j, j != n) } else { j < n }
+    if i < n { i != j && j != n } else { j < n }
 }
 
+// May that link have this delay.
 fn is_allowed(h: Shape, i: usize, j: usize, delay: u8) -> bool
     ensures { result ≡ delay_allowed (shape h) i j delay }
 {
-    if is_link(h.n as usize, i, j) {
-        is_within(1, h.delta, delay)
+    if is_link(usize::from(h.n), i, j) {
+        (1..=h.delta).contains(&delay)
     } else {
         delay == 0
     }
 }
 
 // 1 where delay q of a tick is of a link.
+#[tactic(auto, unfolding(crate::specs::Steps::link_mark))]
 fn link_mark(n: usize, parties: usize, q: usize) -> u8
     requires { 1 ≤ parties }
     ensures { (result ≡ link_mark n parties q) × (result ≤ 1) }
 {
-    if is_link(n, q / parties, q % parties) {
-        1
-    } else {
-        0
-    }
+    u8::from(is_link(n, q / parties, q % parties))
 }
 
 // The same of delays 2k and 2k + 1, as the two nibbles of a byte.
+#[tactic(auto, unfolding(crate::specs::Steps::need_of))]
 fn need_of(n: usize, parties: usize, k: usize) -> u8
     requires { (1 ≤ parties) × (k < 2 ^ 60) }
     ensures { result ≡ need_of n parties k }
@@ -54,13 +56,11 @@ fn needs(n: usize, parties: usize, bytes: usize) -> [u8; MOST_PAIRS]
     requires { (1 ≤ parties) × (bytes ≤ most_pairs) }
     ensures { (length result ≡ most_pairs) × Needed n parties bytes result }
 {
-    let mut r = [0u8; MOST_PAIRS];
-    let mut k = 0;
-    while k < bytes {
-        r[k] = need_of(n, parties, k);
-        k += 1;
+    let mut needs = [0; MOST_PAIRS];
+    for k in 0..bytes {
+        needs[k] = need_of(n, parties, k);
     }
-    r
+    needs
 }
 
 // Eight bits of two bytes.
@@ -68,7 +68,7 @@ fn shifted(high: u8, low: u8, down: u16) -> u8
     requires { down ≤ 8 }
     ensures { result ≡ (high * 256 + low) / 2 ^ down % 256 }
 {
-    ((((high as u16) * 256 + low as u16) >> down) % 256) as u8
+    ((u16::from_be_bytes([high, low]) >> down) % 256) as u8
 }
 
 // The two delays in byte x.
@@ -78,10 +78,7 @@ fn byte_stands(need: u8, delta: u8, x: u8) -> bool
 {
     let high = x / 16;
     let low = x % 16;
-    both(
-        (high + 15) / 16 * 16 + (low + 15) / 16 == need,
-        both(low <= delta, high <= delta),
-    )
+    ((high + 15) / 16 * 16 + (low + 15) / 16 == need) & (low <= delta) & (high <= delta)
 }
 
 // The first 2 * bytes delays of the tick that begins at bit `at`, two at a time and with no early exit.
@@ -93,11 +90,9 @@ fn pairs_stand(plan: &[u8], need: &[u8], h: Shape, at: usize, bytes: usize) -> b
     let from = at / 8;
     let down = (8 - at % 8) as u16;
     let mut stands = true;
-    let mut k = 0;
-    while k < bytes {
+    for k in 0..bytes {
         let x = shifted(plan[from + k], plan[from + k + 1], down);
-        stands = both(byte_stands(need[k], h.delta, x), stands);
-        k += 1;
+        stands &= byte_stands(need[k], h.delta, x);
     }
     stands
 }
@@ -110,32 +105,11 @@ fn rest_stand(plan: &[u8], h: Shape, at: usize, from: usize, all: usize, before:
 {
     let parties = h.parties();
     let mut stands = before;
-    let mut q = from;
-    while q < all {
-        stands = both(
-            is_allowed(
-                h,
-                q / parties,
-                q % parties,
-                bits::nibble(plan, at + Shape::DELAY_BITS * q),
-            ),
-            stands,
-        );
-        q += 1;
+    for q in from..all {
+        let delay = bits::nibble(plan, at + Shape::DELAY_BITS * q);
+        stands &= is_allowed(h, q / parties, q % parties, delay);
     }
     stands
-}
-
-// Of so many pairs from bit `at` on, those with a byte behind them: all, or all but the last.
-fn followed(pairs: usize, at: usize, len: usize) -> usize
-    requires { (at < 2 ^ 59) × (pairs ≤ most_pairs) × (at / 8 < len) × (at / 8 + pairs ≤ len) }
-    ensures { (result ≤ pairs) × (at / 8 + result < len) }
-{
-    if at / 8 + pairs < len {
-        pairs
-    } else {
-        pairs - 1
-    }
 }
 
 // The delays of a tick: in pairs as far as a byte follows them, then the rest.
@@ -147,7 +121,7 @@ fn tick_stands(plan: &[u8], need: &[u8], h: Shape, at: usize) -> bool
 {
     let parties = h.parties();
     let all = parties * parties;
-    let pairs = followed(all / 2, at, plan.len());
+    let pairs = (all / 2).min(plan.len() - 1 - at / 8);
     let stands = pairs_stand(plan, need, h, at, pairs);
     rest_stand(plan, h, at, 2 * pairs, all, stands)
 }
@@ -156,21 +130,14 @@ pub fn all_stand(plan: &[u8], h: Shape) -> bool
     requires { Sized h.width plan.now (shape h) }
     ensures { result ≡ delays_stand h.width plan.now (shape h) }
 {
-    let ticks = h.ticks as usize;
     let parties = h.parties();
+    let all = parties * parties;
     let first = h.delays_at();
-    let need = needs(h.n as usize, parties, parties * parties / 2);
-    let mut t = 0;
-    while t < ticks {
-        if !tick_stands(
-            plan,
-            &need,
-            h,
-            first + Shape::DELAY_BITS * (t * (parties * parties)),
-        ) {
+    let need = needs(usize::from(h.n), parties, all / 2);
+    for t in 0..usize::from(h.ticks) {
+        if !tick_stands(plan, &need, h, first + Shape::DELAY_BITS * (t * all)) {
             return false;
         }
-        t += 1;
     }
     true
 }

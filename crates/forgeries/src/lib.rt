@@ -8,74 +8,56 @@ ghost use Rattle.plan.specs.Steps.{forgery};
 ghost use Rattle.operations.specs.Reads.{Opened};
 ghost use Rattle.forgeries.specs.Steps.{is_sent, is_received, forged_alone, ForgedPart};
 
-use operations::reads::opened;
+use operations::reads::{PLACES, TICKS, opened};
 use placements::is_faulty;
 use plan::forgeries::Forged;
 use plan::header::Shape;
-use plan::logic::both;
+use plan::operations::Operation;
 
 // Is the sender faulty after that tick's movement.
 fn is_sent(plan: &[u8], h: Shape, at: u8, from: u8) -> bool
     requires { Sized h.width plan.now (shape h) × (shape h ≡ header_of h.width plan.now) × (from < 16) }
     ensures { result ≡ is_sent h.width plan.now (shape h) at from }
 {
-    if h.ticks <= at {
-        return false;
-    }
-    if h.n <= from {
-        return false;
-    }
-    is_faulty(plan, h, (at / h.period) as usize, from as usize)
+    at < h.ticks && from < h.n && is_faulty(plan, h, usize::from(at / h.period), usize::from(from))
 }
 
 // Is the receiver another server, or a reader whose read is open. The table says which reads are.
-fn is_received(n: u8, table: &[bool; 1024], at: u8, from: u8, to: u8) -> bool
+fn is_received(n: u8, table: &[bool; PLACES], at: u8, from: u8, to: u8) -> bool
     requires { (length table.now ≡ 1024) × (at < 128) }
     ensures { result ≡ is_received n table.now at from to }
 {
     if to < n {
         return to != from;
     }
-    let reader = (to - n) as usize;
-    if 8 <= reader {
-        return false;
-    }
-    table[128 * reader + at as usize]
+    let reader = usize::from(to - n);
+    reader < Operation::PARTIES && table[TICKS * reader + usize::from(at)]
 }
 
 // What a forgery must meet whatever the others are.
-fn stands_alone(plan: &[u8], h: Shape, table: &[bool; 1024], g: Forged) -> bool
+fn stands_alone(plan: &[u8], h: Shape, table: &[bool; PLACES], g: Forged) -> bool
     requires { Sized h.width plan.now (shape h) × (shape h ≡ header_of h.width plan.now)
         × (length table.now ≡ 1024) × Opened h.width plan.now (shape h) h.operations table.now
         × (g.at < 128) × (g.from < 16) }
     ensures { result ≡ forged_alone h.width plan.now (shape h) (forgery h.width g) }
 {
-    both(
-        is_sent(plan, h, g.at, g.from),
-        is_received(h.n, table, g.at, g.from, g.to),
-    )
+    is_sent(plan, h, g.at, g.from) && is_received(h.n, table, g.at, g.from, g.to)
 }
 
-fn all_in(part: &[u8], offset: usize, plan: &[u8], h: Shape, table: &[bool; 1024]) -> bool
+fn all_in(part: &[u8], offset: usize, plan: &[u8], h: Shape, table: &[bool; PLACES]) -> bool
     requires { Sized h.width plan.now (shape h) × (shape h ≡ header_of h.width plan.now)
         × (length table.now ≡ 1024) × Opened h.width plan.now (shape h) h.operations table.now
         × ForgedPart h.width plan.now (shape h) part.now offset }
     ensures { result ≡ forgeries_stand h.width plan.now (shape h) }
 {
-    let n = h.forgeries as usize;
     let bits = h.forgery_bits();
-    let mut next: u64 = 0;
-    let mut i = 0;
-    while i < n {
+    let mut next = 0;
+    for i in 0..usize::from(h.forgeries) {
         let all = bits::field(part, offset + bits * i, bits);
-        if !stands_alone(plan, h, table, Forged::of(all, h.width)) {
-            return false;
-        }
-        if all < next {
+        if !stands_alone(plan, h, table, Forged::of(all, h.width)) || all < next {
             return false;
         }
         next = all + 1;
-        i += 1;
     }
     true
 }
@@ -86,6 +68,5 @@ pub fn all_stand(plan: &[u8], h: Shape) -> bool
 {
     let table = opened(plan, h);
     let first = h.forgeries_at();
-    let from = first / 8;
-    all_in(&plan[from..], first % 8, plan, h, &table)
+    all_in(&plan[first / 8..], first % 8, plan, h, &table)
 }

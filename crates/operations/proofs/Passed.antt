@@ -24,6 +24,11 @@ use Rattle.plan.proofs.Waiting.{follows, follows_none, follows_more, follows_ris
 and_regroup : (a b c d : Bool) → a && (b && (c && d)) ≡ (a && (b && c)) && d
 and_regroup a b c d = simp and_assoc
 
+-- when a read ends
+pub read_end : (h : plan-specs.Header.Header) (o : Operation) → (o.party ≡ 0 → ⊥) → end_of h (operation o) ≡ o.at + 2 * h.delta
+unfolding end_of
+read_end h o d = rw (ne_eqb o.party 0 d)
+
 module _ (w : ℕ) (s : List ℕ) (h : plan-specs.Header.Header) where
   unfoldable pub key_of : ℕ → ℕ
   key_of j = field_of s (plan-specs.Header.operation_at w h j) (plan-specs.Header.key_bits w)
@@ -92,7 +97,7 @@ module _ (w : ℕ) (s : List ℕ) (h : plan-specs.Header.Header) where
 
     -- an accepted read ends below the plan's ticks
     pub read_ends : operations_stand w s h ≡ true → i < h.operations → (o.party ≡ 0 → ⊥) → o.at + 2 * h.delta < h.ticks
-    unfolding operations_stand operation_stands end_of
+    unfolding operations_stand operation_stands
     read_ends t l d =
         let first = leb o.party h.readers in
         let second = eqb o.party 0 || eqb o.value 0 in
@@ -100,4 +105,4 @@ module _ (w : ℕ) (s : List ℕ) (h : plan-specs.Header.Header) where
         let rest = operation_rises w s h i && operation_waits w s h i in
         let all = rw (operation_is, and_regroup first second third rest) at (all_at (operation_stands w s h) h.operations i l t) in
         let ends = (and_both second third (and_both first (second && third) (and_both (first && (second && third)) rest all).0).1).1 in
-        rw (ne_eqb o.party 0 d) at (ltb-true (end_of h (operation o)) h.ticks ends)
+        rw (read_end h o d) at (ltb-true (end_of h (operation o)) h.ticks ends)

@@ -1,16 +1,17 @@
--- The table of open reads: places 128 x + tick, marked one tick at a time.
+-- The table of open reads: places 128 x + tick, marked one read at a time.
 -- It stands on the definition of a span.
-use mathlib.Core.Path.{◌≡◌, refl}
-use mathlib.Core.Bool.{Bool, true, false, ◌&&◌, and-false}
+use mathlib.Core.Path.{◌≡◌, ap, ◌∙◌}
+use mathlib.Core.Bool.{Bool, true, false, and-false}
 use mathlib.Core.List.{List}
-use Prim.Native.Nat.{ℕ, ◌+◌, ◌*◌, ◌<◌, ◌≤◌}
+use Prim.Native.Nat.{ℕ, ◌+◌, ◌*◌, ◌-◌, ◌<◌, ◌≤◌}
 use native.Mathlib.Decide.{ℕ_discrete, dec_le}
 use native.Mathlib.Numerals.{add-one}
 use native.Mathlib.Omega.{arith}
-use lib.Dec.{leb, ltb, eqb}
-use lib.ListN.{length, set, replicate}
-use lib.Seq.{get_or-set_same, get_or-set_other}
-use borrow.Author.Tests.{eqb-true, eq-eqb, ne_eqb, lt-ltb, le-ltb, le-leb, lt-leb}
+use lib.Dec.{leb, eqb}
+use lib.ListN.{length, replicate, get_or, take, drop, get_or-append}
+use borrow.Rule.Slice.PartMut.{put_mid, mid_of}
+use Rattle.std.proofs.lemmas.List.{length-take, length-drop, length-replicate, get_or-take, get_or-drop, get_or-replicate, get_or-append_right}
+use borrow.Author.Tests.{eq-eqb, ne_eqb, lt-ltb, le-ltb, le-leb, lt-leb}
 use Rattle.register.specs.Lists.{any_up_to}
 use Rattle.register.proofs.Lists.{get_d_replicate_same}
 use Rattle.plan.specs.Header.{Header, operation_at}
@@ -19,43 +20,63 @@ use Rattle.plan.specs.Steps.{IsOperation}
 use Rattle.operations.specs.Reads.{spans, Marked, open_among, Opened}
 use Rattle.operations.proofs.Passed.{operation_is}
 
-pub spans_none : (from x y u : ℕ) → spans from from x y u ≡ false
+spans_in : (from to x y u : ℕ) → x ≡ y → from ≤ u → u < to → spans from to x y u ≡ true
 unfolding spans
-spans_none from x y u = elim (dec_le from u) [
-  | yes l ↦ rw (le-ltb u from l, and-false (leb from u), and-false (eqb x y))
-  | no l ↦ rw (lt-leb from u (omega arith), and-false (eqb x y))
-]
+spans_in from to x y u e l m = rw (eq-eqb x y e, le-leb from u l, lt-ltb u to m)
 
--- the tick that is marked
-spans_here : (from t x : ℕ) → from ≤ t → spans from (t + 1) x x t ≡ true
+spans_out : (from to x y u : ℕ) → (x ≡ y → from ≤ u → u < to → ⊥) → spans from to x y u ≡ false
 unfolding spans
-spans_here from t x h = rw (eq-eqb x x refl, le-leb from t h, lt-ltb t (t + 1) (omega arith))
-
--- any other place
-spans_there : (from t x y u : ℕ) → (x ≡ y → u ≡ t → ⊥) → spans from (t + 1) x y u ≡ spans from t x y u
-unfolding spans
-spans_there from t x y u d = go (eqb x y) refl
-  where
-    go : (b : Bool) → eqb x y ≡ b → b && (leb from u && ltb u (t + 1)) ≡ b && (leb from u && ltb u t)
-    go true e = elim (dec_le t u) [
-      | yes l ↦ (let n = d (eqb-true x y e) in elim (ℕ_discrete u t) [ yes q ↦ absurd (n q) | no q ↦ rw (le-ltb u (t + 1) (omega arith), le-ltb u t l) ])
-      | no l ↦ rw (lt-ltb u (t + 1) (omega arith), lt-ltb u t (omega arith))
-    ]
-    go false e = refl
-
-pub marked_none : (k : List Bool) (x from : ℕ) → Marked k k x from from
-marked_none k x from y u h = rw (spans_none from x y u)
-
-pub marked_more : (l k : List Bool) (x from t : ℕ) → x < 8 → from ≤ t → t < 128 → length l ≡ 1024 → Marked l k x from t
-    → Marked (set l (128 * x + t) true) k x from (t + 1)
-marked_more l k x from t hx hf ht hl m y u hu = elim (ℕ_discrete (128 * y + u) (128 * x + t)) [
+spans_out from to x y u d = elim (ℕ_discrete x y) [
+  | no n ↦ rw (ne_eqb x y n)
   | yes e ↦
-      let a : y ≡ x = omega arith in
-      let b : u ≡ t = omega arith in
-      rw (a, b, get_or-set_same l (128 * x + t) true false (rw hl (omega arith)), spans_here from t x hf)
-  | no e ↦
-      rw (get_or-set_other l (128 * x + t) (128 * y + u) true false e, m y u hu, spans_there from t x y u (λ a b. e (omega arith)))
+      elim (dec_le from u) [
+        | no n ↦ rw (lt-leb from u (omega arith), and-false (eqb x y))
+        | yes l ↦ elim (dec_le to u) [ yes m ↦ rw (le-ltb u to m, and-false (leb from u), and-false (eqb x y)) | no n ↦ absurd (d e l (omega arith)) ]
+      ]
 ]
+
+-- a list with n places from a on filled
+module _ (l : List Bool) (a n : ℕ) (inside : a + n ≤ length l) where
+  abbrev filled : List Bool
+  filled = put_mid a n l (replicate n true)
+
+  first : length (take a l) ≡ a
+  first = omega (arith, length-take a l)
+
+  filled_before : (i : ℕ) → i < a → get_or filled i false ≡ get_or l i false
+  filled_before i h = get_or-append (take a l) _ false i (omega (arith, first)) ∙ get_or-take a l i false h
+
+  filled_in : (i : ℕ) → a ≤ i → i < a + n → get_or filled i false ≡ true
+  filled_in i h m =
+      get_or-append_right (take a l) _ a i false first h
+      ∙ get_or-append (replicate n true) _ false (i - a) (omega (arith, length-replicate n true))
+      ∙ get_or-replicate n (i - a) true false (omega arith)
+
+  filled_behind : (i : ℕ) → a + n ≤ i → get_or filled i false ≡ get_or l i false
+  filled_behind i h =
+      let e : a + (n + (i - a - n)) ≡ i = omega arith in
+      get_or-append_right (take a l) _ a i false first (omega arith)
+      ∙ get_or-append_right (replicate n true) _ n (i - a) false (length-replicate n true) (omega arith)
+      ∙ get_or-drop n (drop a l) (i - a - n) false
+      ∙ get_or-drop a l (n + (i - a - n)) false
+      ∙ ap (λ j. get_or l j false) e
+
+-- the span of reader x, filled
+pub marked_filled : (l ys : List Bool) (x from to n : ℕ) → x < 8 → from ≤ to → to ≤ 128 → length l ≡ 1024 → n ≡ to - from
+    → ys ≡ replicate (length (mid_of (128 * x + from) n l)) true → Marked (put_mid (128 * x + from) n l ys) l x from to
+marked_filled l ys x from to n few order short long part full y t h =
+    let a : ℕ = 128 * x + from in
+    let inside : a + n ≤ length l = omega arith in
+    let all : length (mid_of a n l) ≡ n = omega (arith, length-take n (drop a l), length-drop a l) in
+    rw (full, all)
+    (elim (dec_le a (128 * y + t)) [
+      | no d ↦ rw (filled_before l a n inside (128 * y + t) (omega arith), spans_out from to x y t (λ e f g. omega arith))
+      | yes p ↦
+          elim (dec_le (a + n) (128 * y + t)) [
+            | yes q ↦ rw (filled_behind l a n inside (128 * y + t) q, spans_out from to x y t (λ e f g. omega arith))
+            | no d ↦ rw (filled_in l a n inside (128 * y + t) p (omega arith), spans_in from to x y t (omega arith) (omega arith) (omega arith))
+          ]
+    ])
 
 module _ (w : ℕ) (s : List ℕ) (h : Header) where
   pub opened_none : (k : ℕ) → Opened w s h 0 (replicate k false)

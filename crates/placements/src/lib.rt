@@ -14,12 +14,9 @@ fn stands(plan: &[u8], h: Shape, i: usize) -> bool
     ensures { result ≡ placement_stands h.width plan.now (shape h) i }
 {
     let at = h.placement_at(i);
-    let n = h.n as usize;
-    let faulty = bits::field(plan, at, n) as u32;
-    if (h.f as u32) < u32::count_ones(faulty) {
-        return false;
-    }
-    bits::field(plan, at + n, Shape::PLACEMENT_BITS - n) == 0
+    let n = usize::from(h.n);
+    bits::field(plan, at, n).count_ones() <= u32::from(h.f)
+        && bits::field(plan, at + n, Shape::PLACEMENT_BITS - n) == 0
 }
 
 // Is server b faulty in placement i.
@@ -34,13 +31,10 @@ pub fn all_stand(plan: &[u8], h: Shape) -> bool
     requires { Sized h.width plan.now (shape h) }
     ensures { result ≡ placements_stand h.width plan.now (shape h) }
 {
-    let moves = h.moves();
-    let mut i = 0;
-    while i < moves {
+    for i in 0..h.moves() {
         if !stands(plan, h, i) {
             return false;
         }
-        i += 1;
     }
     true
 }

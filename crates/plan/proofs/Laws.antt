@@ -2,11 +2,13 @@
 -- It stands on nothing of the plan.
 use mathlib.Core.Path.{◌≡◌, refl, sym}
 use mathlib.Core.Bool.{Bool, true, false, ◌&&◌, and-false}
-use Prim.Native.Nat.{ℕ, zero, suc, ◌+◌, ◌*◌, ◌-◌, ◌/◌, ◌≤◌, ◌<◌}
-use native.Mathlib.Nat.{mul-le-mul, mul-le-mul_right, div-lt_iff_lt-mul, not-suc-le-zero}
+use Prim.Native.Nat.{ℕ, zero, suc, ◌+◌, ◌*◌, ◌-◌, ◌/◌, ◌%◌, ◌≤◌, ◌<◌, min}
+use native.Mathlib.Nat.{mul-le-mul, mul-le-mul_right, div-lt_iff_lt-mul, div-add-mod', not-suc-le-zero}
 use native.Mathlib.Decide.{ℕ_discrete}
 use native.Mathlib.Numerals.{add-one}
 use native.Mathlib.Omega.{arith}
+use lib.Arith.{digits_div}
+use Rattle.std.proofs.lemmas.Nat.{mod_below}
 use Rattle.register.specs.Lists.{all_up_to}
 use Rattle.register.proofs.Logic.{and_both}
 
@@ -18,6 +20,20 @@ few_times a f h g = mul-le-mul {n₂ = 5} {m₂ = 255} h g
 pub moves_few : (t p : ℕ) → 1 ≤ p → (t + (p - 1)) / p ≤ t
 moves_few t zero h = absurd (not-suc-le-zero h)
 moves_few t (suc q) h = omega (arith, (div-lt_iff_lt-mul {x = t + (suc q - 1)} {y = suc t} h).1 (omega arith))
+
+-- what is rounded up, in one division
+pub rounded_up : (x p : ℕ) → 1 ≤ p → x / p + min 1 (x % p) ≡ (x + (p - 1)) / p
+rounded_up x p h =
+    let whole = div-add-mod' x p in
+    let less = mod_below x p h in
+    elim (ℕ_discrete (x % p) 0) [
+      | yes z ↦
+          let e : x + (p - 1) ≡ x / p * p + (p - 1) = omega (arith, whole, z) in
+          rw (e, digits_div (x / p) {m = p} {r = p - 1} (omega arith)) (omega (arith, z))
+      | no d ↦
+          let e : x + (p - 1) ≡ (x / p + 1) * p + (x % p - 1) = omega (arith, whole, less) in
+          rw (e, digits_div (x / p + 1) {m = p} {r = x % p - 1} (omega (arith, less))) (omega arith)
+    ]
 
 pub square_few : (p : ℕ) → p ≤ 21 → p * p ≤ 441
 square_few p h = mul-le-mul {n₂ = 21} {m₂ = 21} h h

@@ -6,7 +6,7 @@ ghost use Rattle.plan.specs.Header.{forgery_bits};
 ghost use Rattle.plan.specs.Steps.{IsForged};
 
 // A forged message: a tick, its sender, its receiver, and the stamped value that it names.
-#[derive(Clone, Copy)]
+#[derive(Clone, Copy, Debug, PartialEq, Eq)]
 pub struct Forged {
     pub at: u8,
     pub from: u8,
@@ -46,7 +46,7 @@ impl Forged {
     pub fn bits(width: u8) -> usize
         ensures { result ≡ forgery_bits width }
     {
-        Self::VALUE_AT + width as usize + Self::NUMBER_BITS
+        Self::VALUE_AT + usize::from(width) + Self::NUMBER_BITS
     }
 
     // Out of the number that has all its bits.
@@ -54,7 +54,7 @@ impl Forged {
         requires { (all < 2 ^ forgery_bits width) × (width ≤ most_width) }
         ensures { IsForged width all result }
     {
-        let value = width as usize;
+        let value = usize::from(width);
         // All but the number, and of that all but the value.
         let rest = all >> Self::NUMBER_BITS;
         let link = rest >> value;

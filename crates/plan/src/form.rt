@@ -2,8 +2,6 @@
 ghost use Rattle.std.specs.Prelude.{◌≡◌, ◌≤◌};
 ghost use Rattle.plan.specs.Form.{is_form, width_of, most_width};
 
-use crate::logic::either;
-
 // The numbers by which a caller names the forms, and the bits of a value in each.
 pub const ONE: usize = 1;
 
@@ -17,7 +15,7 @@ const BITS_TWO: u8 = 24;
 pub fn is_known(form: usize) -> bool
     ensures { result ≡ is_form form }
 {
-    either(form == ONE, form == TWO)
+    form == ONE || form == TWO
 }
 
 // The bits of a value in a form.

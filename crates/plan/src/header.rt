@@ -11,11 +11,10 @@ ghost use Rattle.plan.specs.Shape.{shape, Ranged};
 
 use crate::forgeries::Forged;
 use crate::form;
-use crate::logic::{both, is_within};
 use crate::operations::Operation;
 
 // The shape of a cluster and of its plan (document 01: of the hall).
-#[derive(Clone, Copy)]
+#[derive(Clone, Copy, Debug, PartialEq, Eq)]
 pub struct Shape {
     // The bits of a value, by the plan's form.
     pub width: u8,
@@ -104,13 +103,11 @@ impl Shape {
     pub fn most_bytes(form: usize) -> usize
         ensures { result ≡ most_bytes form }
     {
-        if form == form::ONE {
-            return Self::MOST_BYTES_ONE;
+        match form {
+            form::ONE => Self::MOST_BYTES_ONE,
+            form::TWO => Self::MOST_BYTES_TWO,
+            _ => 0,
         }
-        if form == form::TWO {
-            return Self::MOST_BYTES_TWO;
-        }
-        0
     }
 
     pub fn implied_bytes() -> usize
@@ -146,7 +143,7 @@ impl Shape {
     pub fn header_bits(width: u8) -> usize
         ensures { result ≡ header_bits width }
     {
-        Self::FRONT_BITS + width as usize + Self::BACK_BITS
+        Self::FRONT_BITS + usize::from(width) + Self::BACK_BITS
     }
 
     pub fn header_bytes(width: u8) -> usize
@@ -180,7 +177,7 @@ impl Shape {
         requires { (bytes_for (header_bits width) ≤ length plan.now) × (width ≤ most_width) }
         ensures { (shape result ≡ header_of width plan.now) × (result.width ≡ width) }
     {
-        let value = width as usize;
+        let value = usize::from(width);
         let front = bits::field(plan, 0, Self::FRONT_BITS);
         let back = bits::field(plan, Self::FRONT_BITS + value, Self::BACK_BITS);
         Shape {
@@ -205,29 +202,21 @@ impl Shape {
     pub fn is_in_range(self) -> bool
         ensures { result ≡ header_in_range (shape self) }
     {
-        both(
-            is_within(1, Self::MOST_SERVERS, self.n),
-            both(
-                is_within(1, Self::MOST_DELTA, self.delta),
-                both(
-                    is_within(self.delta, Self::MOST_PERIOD, self.period),
-                    both(
-                        is_within(1, Self::MOST_READERS, self.readers),
-                        both(
-                            is_within(1, Self::MOST_TICKS, self.ticks),
-                            both(self.forgeries <= Self::MOST_FORGERIES, self.zero == 0),
-                        ),
-                    ),
-                ),
-            ),
-        )
+        (1..=Self::MOST_SERVERS).contains(&self.n)
+            && (1..=Self::MOST_DELTA).contains(&self.delta)
+            && (self.delta..=Self::MOST_PERIOD).contains(&self.period)
+            && (1..=Self::MOST_READERS).contains(&self.readers)
+            && (1..=Self::MOST_TICKS).contains(&self.ticks)
+            && self.forgeries <= Self::MOST_FORGERIES
+            && self.zero == 0
     }
 
     // In how many periods a vote counts.
+    #[tactic(auto, unfolding(register::specs::Plan::k_of))]
     pub fn k(self) -> u8
         ensures { (result ≡ k_in (shape self)) × (result ≤ 2) }
     {
-        if 2 * (self.delta as u16) <= self.period as u16 {
+        if 2 * u16::from(self.delta) <= u16::from(self.period) {
             1
         } else {
             2
@@ -238,20 +227,21 @@ impl Shape {
     pub fn echo_quorum(self) -> u32
         ensures { result ≡ 2 * self.f + 1 }
     {
-        2 * (self.f as u32) + 1
+        2 * u32::from(self.f) + 1
     }
 
     // The same over k periods, and how many must name a read's answer.
     pub fn reply_quorum(self) -> u32
         ensures { result ≡ (k_in (shape self) + 1) * self.f + 1 }
     {
-        (self.k() as u32 + 1) * (self.f as u32) + 1
+        (u32::from(self.k()) + 1) * u32::from(self.f) + 1
     }
 
+    #[tactic(auto, unfolding(crate::specs::Check::enough_servers))]
     pub fn has_enough_servers(self) -> bool
         ensures { result ≡ enough_servers (shape self) }
     {
-        (self.k() as u32 + 3) * (self.f as u32) + 1 <= self.n as u32
+        (u32::from(self.k()) + 3) * u32::from(self.f) + 1 <= u32::from(self.n)
     }
 
     // How many movements there are, and so how many placements.
@@ -259,14 +249,13 @@ impl Shape {
         requires { Ranged (shape self) }
         ensures { (result ≡ moves (shape self)) × (result ≤ 128) }
     {
-        let period = self.period as usize;
-        (self.ticks as usize + (period - 1)) / period
+        usize::from(self.ticks).div_ceil(usize::from(self.period))
     }
 
     pub fn parties(self) -> usize
         ensures { result ≡ parties (shape self) }
     {
-        self.n as usize + 1 + self.readers as usize
+        usize::from(self.n) + 1 + usize::from(self.readers)
     }
 
     // The bits of an operation, and of a forgery.
@@ -298,20 +287,30 @@ impl Shape {
         self.placement_at(self.moves())
     }
 
+    // The first bit of operation i.
+    #[tactic(auto, using(crate::proofs::Sizes::operations_few))]
+    pub fn operation_at(self, i: usize) -> usize
+        requires { Ranged (shape self) × (self.width ≤ most_width) × (i ≤ 255) }
+        ensures { (result ≡ operation_at self.width (shape self) i) × (result ≤ most_forgeries_at) }
+    {
+        self.operations_at() + self.operation_bits() * i
+    }
+
     // The first bit of the forgeries.
     pub fn forgeries_at(self) -> usize
         requires { Ranged (shape self) × (self.width ≤ most_width) }
         ensures { (result ≡ operation_at self.width (shape self) self.operations) × (result ≤ most_forgeries_at) }
     {
-        self.operations_at() + self.operation_bits() * (self.operations as usize)
+        self.operation_at(usize::from(self.operations))
     }
 
     // The first bit of the delays.
+    #[tactic(auto, using(crate::proofs::Sizes::forgeries_few))]
     pub fn delays_at(self) -> usize
         requires { Ranged (shape self) × (self.width ≤ most_width) }
         ensures { (result ≡ forgery_at self.width (shape self) self.forgeries) × (result ≤ most_delays_at) }
     {
-        self.forgeries_at() + self.forgery_bits() * (self.forgeries as usize)
+        self.forgeries_at() + self.forgery_bits() * usize::from(self.forgeries)
     }
 
     // How many delays there are.
@@ -320,7 +319,7 @@ impl Shape {
         ensures { (result ≡ delay_count (shape self)) × (result ≤ most_delays) }
     {
         let parties = self.parties();
-        self.ticks as usize * (parties * parties)
+        usize::from(self.ticks) * (parties * parties)
     }
 
     // The first of the final zero bits.

@@ -10,7 +10,7 @@ ghost use Rattle.plan.specs.Steps.{operation, IsOperation};
 use crate::header::Shape;
 
 // A write of party 0, or a read of a reader.
-#[derive(Clone, Copy)]
+#[derive(Clone, Copy, Debug, PartialEq, Eq)]
 pub struct Operation {
     pub at: u8,
     pub party: u8,
@@ -23,6 +23,9 @@ impl Operation {
     const PARTY_BITS: usize = 3;
 
     pub const FIELDS: usize = 3;
+
+    // The parties that a number of so many bits can name.
+    pub const PARTIES: usize = 1 << Self::PARTY_BITS;
 
     // The bits before its value.
     pub const VALUE_AT: usize = Self::TICK_BITS + Self::PARTY_BITS;
@@ -38,7 +41,7 @@ impl Operation {
     pub fn bits(width: u8) -> usize
         ensures { result ≡ operation_bits width }
     {
-        Self::VALUE_AT + width as usize
+        Self::VALUE_AT + usize::from(width)
     }
 
     // The operation from bit `at` on, out of one number.
@@ -46,7 +49,7 @@ impl Operation {
         requires { (at + operation_bits width ≤ 8 * length plan.now) × (at < 2 ^ 60) × (width ≤ most_width) }
         ensures { IsOperation width plan.now at result }
     {
-        let value = width as usize;
+        let value = usize::from(width);
         let all = bits::field(plan, at, Self::bits(width));
         let key = all >> value;
         Operation {

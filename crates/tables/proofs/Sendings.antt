@@ -2,15 +2,19 @@
 use mathlib.Core.Path.{◌≡◌, sym, ap}
 use mathlib.Core.List.{List}
 use Prim.Native.Nat.{ℕ, ◌+◌, ◌*◌, ◌-◌, ◌/◌, ◌%◌, ◌^◌, ◌≤◌, ◌<◌}
+use native.Mathlib.Nat.{lt_of_lt_of_le}
 use native.Mathlib.Omega.{arith}
+use lib.Pow.{pow_mono}
 use Rattle.bits.specs.Field.{field_of}
-use Rattle.bits.proofs.Laws.{field_split, field_inner}
+use Rattle.bits.proofs.Laws.{field_lt, field_split, field_inner}
 use Rattle.tables.specs.declared.sending.Sending.{Sending}
 use Rattle.tables.specs.Sending.{arrival_of, Sent, Sendable}
 
 -- more than 56 bits, in two reads
-pub two_reads : (plan : List ℕ) (at w n : ℕ) → 4 * n ≡ 32 + w → field_of plan at 32 * 2 ^ w + field_of plan (at + 32) w ≡ field_of plan at (4 * n)
-two_reads plan at w n e = rw e (sym (field_split plan at 32 w))
+pub two_reads : (plan : List ℕ) (at w n : ℕ) → 4 * n ≡ 32 + w → n ≤ 16 → field_of plan at 32 * 2 ^ w % 2 ^ 64 + field_of plan (at + 32) w ≡ field_of plan at (4 * n)
+two_reads plan at w n e h =
+    let all = lt_of_lt_of_le (field_lt plan at (32 + w)) (pow_mono {i = 32 + w} {j = 64} (omega arith)) in
+    rw e (omega (arith, all, field_split plan at 32 w))
 
 pub sent : (plan : List ℕ) (at m t i : ℕ) (s : Sending) → s.tick ≡ t → s.sender ≡ i → s.n ≡ m → s.delays ≡ field_of plan at (4 * m) → Sent plan at m t i s
 unfolding arrival_of

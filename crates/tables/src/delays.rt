@@ -6,6 +6,7 @@ use super::Links;
 use plan::header::Shape;
 
 // The bit where the delays of tick u from party i begin.
+#[tactic(auto, unfolding(crate::specs::Links::link_bit))]
 pub fn row_bit(links: Links, u: usize, i: usize) -> usize
     requires { (links.at < 2 ^ 32) × (links.parties ≤ 24) × (u < 128) × (i < links.parties) }
     ensures { result ≡ link_bit links u i 0 }
@@ -18,5 +19,5 @@ pub fn delay(plan: &[u8], links: Links, n: usize, u: usize, i: usize, b: usize) 
     requires { Reach plan.now links n u i b }
     ensures { (result ≡ link_delay plan.now links u i b) × (result < 16) }
 {
-    bits::nibble(plan, row_bit(links, u, i) + Shape::DELAY_BITS * b) as usize
+    usize::from(bits::nibble(plan, row_bit(links, u, i) + Shape::DELAY_BITS * b))
 }

@@ -26,8 +26,8 @@ pub fn delay_of(plan: &[u8], links: Links, n: usize, g: Forged) -> usize
         plan,
         links,
         n,
-        g.at as usize,
-        g.from as usize,
-        g.to as usize,
+        usize::from(g.at),
+        usize::from(g.from),
+        usize::from(g.to),
     )
 }

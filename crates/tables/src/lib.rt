@@ -42,7 +42,7 @@ pub fn rules_of(header: Shape) -> Rules
     ensures { RulesOf (shape header) result }
 {
     Rules {
-        n: header.n as usize,
+        n: usize::from(header.n),
         delta: header.delta,
         two: header.k() == 2,
         echo: header.echo_quorum(),

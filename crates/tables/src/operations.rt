@@ -1,7 +1,10 @@
 // The operations of a plan: its writes by number, and its reads in order.
-ghost use Rattle.std.specs.Prelude.{◌^◌, ◌<◌};
+ghost use Rattle.std.specs.Prelude.{◌+◌, ◌*◌, ◌^◌, ◌≤◌, ◌<◌, length};
 ghost use Rattle.register.specs.Lists.{tab};
+ghost use Rattle.plan.specs.Form.{most_width};
+ghost use Rattle.plan.specs.Header.{operation_bits};
 ghost use Rattle.plan.specs.Parts.{writes_from, reads_from};
+ghost use Rattle.plan.specs.Steps.{IsOperation};
 ghost use Rattle.tables.specs.Operations.{op_at, Room, Written, ReadIn};
 
 use super::Known;
@@ -26,33 +29,34 @@ pub struct Reads {
     pub m: usize,
 }
 
+// Operation i of those that stand from bit `at` on.
+fn operation_of(plan: &[u8], at: usize, width: u8, i: usize) -> Operation
+    requires { (at + operation_bits width * i + operation_bits width ≤ 8 * length plan.now) × (at < 4096) × (i ≤ 255) × (width ≤ most_width) }
+    ensures { IsOperation width plan.now (at + operation_bits width * i) result }
+{
+    Operation::read(plan, at + Operation::bits(width) * i, width)
+}
+
 // The writes among the operations that stand from bit `at` on.
 pub fn writes_of(plan: &[u8], at: usize, width: u8, count: usize, initial: u32) -> Writes
     requires { Room width plan.now at count × (initial < 2 ^ width) }
     ensures { Written width (writes_from width 1 (tab count (op_at width plan.now at))) initial result.known.values result.begun result.known.m }
 {
-    let bits = Operation::bits(width);
-    let mut values = [0u32; PLACES];
-    let mut begun = [0u8; PLACES];
+    let mut values = [0; PLACES];
+    let mut begun = [0; PLACES];
     values[0] = initial;
-    let mut m: usize = 1;
-    let mut i: usize = 0;
-    while i < count {
-        let o = Operation::read(plan, at + bits * i, width);
+    let mut m = 1;
+    for i in 0..count {
+        let o = operation_of(plan, at, width, i);
         if o.party == 0 {
             values[m] = o.value;
             begun[m] = o.at;
             m += 1;
         }
-        i += 1;
     }
-    let known = Known {
-        values: values,
-        m: m,
-    };
     Writes {
-        known: known,
-        begun: begun,
+        known: Known { values, m },
+        begun,
     }
 }
 
@@ -61,23 +65,16 @@ pub fn reads_of(plan: &[u8], at: usize, width: u8, count: usize) -> Reads
     requires { Room width plan.now at count }
     ensures { ReadIn (reads_from (tab count (op_at width plan.now at))) result.begun result.reader result.m }
 {
-    let bits = Operation::bits(width);
-    let mut begun = [0u8; TABLE_READS];
-    let mut reader = [0u8; TABLE_READS];
-    let mut m: usize = 0;
-    let mut i: usize = 0;
-    while i < count {
-        let o = Operation::read(plan, at + bits * i, width);
+    let mut begun = [0; TABLE_READS];
+    let mut reader = [0; TABLE_READS];
+    let mut m = 0;
+    for i in 0..count {
+        let o = operation_of(plan, at, width, i);
         if o.party != 0 {
             begun[m] = o.at;
             reader[m] = o.party;
             m += 1;
         }
-        i += 1;
     }
-    Reads {
-        begun: begun,
-        reader: reader,
-        m: m,
-    }
+    Reads { begun, reader, m }
 }

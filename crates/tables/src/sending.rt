@@ -16,18 +16,25 @@ pub struct Sending {
     pub delays: u64,
 }
 
+// The most nibbles that one field holds, and the bits of the first of two.
+const ONE_FIELD: usize = 14;
+
+const FIRST_BITS: usize = 32;
+
+// The numbers that a nibble holds.
+const NIBBLES: u64 = 1 << Shape::DELAY_BITS;
+
 // The n nibbles from bit `at` on as one number.
 fn nibbles(plan: &[u8], at: usize, n: usize) -> u64
     requires { (n ≤ most_servers) × DelaysIn plan.now at n × (at < 2 ^ 59) }
     ensures { result ≡ field_of plan.now at (delay_bits * n) }
 {
-    if n <= 14 {
-        return bits::field(plan, at, Shape::DELAY_BITS * n);
+    let all = Shape::DELAY_BITS * n;
+    if n <= ONE_FIELD {
+        return bits::field(plan, at, all);
     }
-    if n == 15 {
-        return bits::field(plan, at, 32) * 268435456 + bits::field(plan, at + 32, 28);
-    }
-    bits::field(plan, at, 32) * 4294967296 + bits::field(plan, at + 32, 32)
+    let rest = all - FIRST_BITS;
+    (bits::field(plan, at, FIRST_BITS) << rest) + bits::field(plan, at + FIRST_BITS, rest)
 }
 
 impl Sending {
@@ -36,22 +43,21 @@ impl Sending {
         requires { (n ≤ most_servers) × DelaysIn plan.now at n × (at < 2 ^ 59) }
         ensures { Sent plan.now at n tick sender result }
     {
-        let delays = nibbles(plan, at, n);
         Sending {
-            tick: tick,
-            sender: sender,
-            n: n,
-            delays: delays,
+            tick,
+            sender,
+            n,
+            delays: nibbles(plan, at, n),
         }
     }
 
     // The tick in which it reaches server b.
+    #[tactic(auto, unfolding(crate::specs::Sending::arrival_of))]
     pub fn arrival(self, b: usize) -> usize
         requires { Sendable self × (b < self.n) }
         ensures { (result ≡ arrival_of self b) × (result < 65552) }
     {
-        let n = self.n;
-        let late = (self.delays >> (Shape::DELAY_BITS * (n - 1 - b))) % 16;
+        let late = (self.delays >> (Shape::DELAY_BITS * (self.n - 1 - b))) % NIBBLES;
         self.tick + late as usize
     }
 }

@@ -25,17 +25,14 @@ inside c = let p = c.parties-parties.result in (table_few c.loop-t.t p (omega ar
 pub delays_at-first-requires : goal.delays_at-first-requires
 delays_at-first-requires c = (c.requires.ranged, c.requires.narrow)
 
-pub overflow_mul-parties : goal.overflow_mul-parties
-overflow_mul-parties c = let p = c.parties-parties.result in omega (arith, square_few p (omega arith))
+pub overflow_mul-all : goal.overflow_mul-all
+overflow_mul-all c = let p = c.parties-parties.result in omega (arith, square_few p (omega arith))
 
 pub needs-need-requires : goal.needs-need-requires
 needs-need-requires c = let p = c.parties-parties.result in omega (arith, square_few p (omega arith))
 
 pub loop-t-init : goal.loop-t-init
-loop-t-init c = (omega arith, all_none _)
-
-pub overflow_mul-parties-in-loop-t : goal.overflow_mul-parties-in-loop-t
-overflow_mul-parties-in-loop-t c = omega (arith, inside (goal.at.overflow_mul-parties-in-loop-t c).In-loop-t)
+loop-t-init c = all_none _
 
 pub overflow_mul-t : goal.overflow_mul-t
 overflow_mul-t c = omega (arith, inside (goal.at.overflow_mul-t c).In-loop-t)
@@ -53,7 +50,7 @@ tick_stands-requires c = let h = (shape c.args.h) in
     let m = table_few t p (omega arith) (omega arith) in
     let r = row_inside t h.ticks (p * p) (omega arith) in
     let n = c.needs-need.ensures in
-    let f : Needed h.n p (p * p / 2) c.needs-need.result = rw c.parties-parties.ensures at n.1 in
+    let f : Needed h.n p (p * p / 2) c.needs-need.result = rw (c.parties-parties.ensures, c.from.ensures) at n.1 in
     rw (c.parties-parties.ensures, c.delays_at-first.ensures.0)
     (omega (arith, r), omega (arith, m), square_few p (omega arith), omega (arith, n.0), f)
 
@@ -64,12 +61,10 @@ returns-then-not-tick_stands c = let a = c.args in
     (tested (goal.at.returns-then-not-tick_stands c).After-tick_stands ∙ not-true _ c.if-not-tick_stands.true-raw)))
 
 pub loop-t-preserved : goal.loop-t-preserved
-loop-t-preserved c = (
-  omega arith,
-  all_more (tick (goal.at.loop-t-preserved c).In-loop-t) _ c.loop-t.invariant.1 (tested (goal.at.loop-t-preserved c).After-tick_stands ∙ not-false _ c.if-not-tick_stands.false-raw),
-)
+loop-t-preserved c = let at = goal.at.loop-t-preserved c in
+    all_more (tick at.In-loop-t) _ c.loop-t.invariant (tested at.After-tick_stands ∙ not-false _ c.if-not-tick_stands.false-raw)
 
 pub returns : goal.returns
 returns c = let a = c.args in
     rw (← ticks_stand a.h.width a.plan.now (shape a.h))
-    (all_end (λ t. tick_stands a.plan.now (shape a.h) (tick_at a.h.width a.plan.now (shape a.h) t)) c.loop-t.t (shape a.h).ticks (omega arith) (omega arith) c.loop-t.invariant.1)
+    (all_end (λ t. tick_stands a.plan.now (shape a.h) (tick_at a.h.width a.plan.now (shape a.h) t)) c.loop-t.t (shape a.h).ticks (omega arith) (omega arith) c.loop-t.invariant)

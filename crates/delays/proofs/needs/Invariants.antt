@@ -1,12 +1,8 @@
 -- `needs` meets its contract: the loop has filled the entries below k.
 use mathlib.Core.Path.{◌≡◌}
-use Prim.Native.Nat.{◌-◌, ◌≤◌}
 use lib.ListN.{length}
 use Rattle.delays.specs.Steps.{most_pairs, Needed}
 use Rattle.delays.proofs.needs.Given as goal
 
 abbrev pub invariant-loop-k : goal.invariant-loop-k
-invariant-loop-k l = (l.k ≤ l.bytes) × (length l.r ≡ most_pairs) × Needed l.n l.parties l.k l.r
-
-abbrev pub decreases-loop-k : goal.decreases-loop-k
-decreases-loop-k l = l.bytes - l.k
+invariant-loop-k l = (length l.needs ≡ most_pairs) × Needed l.n l.parties l.k l.needs

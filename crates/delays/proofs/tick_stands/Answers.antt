@@ -20,9 +20,6 @@ inside c = let p = c.parties-parties.result in
 pub overflow_mul-all : goal.overflow_mul-all
 overflow_mul-all c = omega (arith, inside (goal.at.overflow_mul-all c).After-parties-parties)
 
-pub followed-pairs-requires : goal.followed-pairs-requires
-followed-pairs-requires c = omega (arith, inside (goal.at.followed-pairs-requires c).After-parties-parties)
-
 pub pairs_stand-stands-requires : goal.pairs_stand-stands-requires
 pairs_stand-stands-requires c = let p = c.parties-parties.result in
     let i = inside (goal.at.pairs_stand-stands-requires c).After-parties-parties in

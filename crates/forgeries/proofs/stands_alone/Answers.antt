@@ -4,12 +4,7 @@ use Rattle.plan.specs.Shape.{shape}
 use Rattle.forgeries.proofs.Forging.{received}
 use Rattle.forgeries.proofs.stands_alone.Goals as goal
 
-pub returns : goal.returns
-returns c = let a = c.args in
-    let pre = c.requires in
-    rw (
-      c.both.ensures,
-      c.is_sent.ensures,
-      c.is_received.ensures,
-      received a.h.width a.plan.now (shape a.h) pre.1 a.table.now (forgery a.h.width a.g) pre.3 pre.4,
-    )
+pub returns-then-is_sent : goal.returns-then-is_sent
+returns-then-is_sent c = let a = c.args in
+    let q = c.requires in
+    rw (← c.if-is_sent.ensures, c.is_received.ensures, received a.h.width a.plan.now (shape a.h) q.1 a.table.now (forgery a.h.width a.g) q.3 q.4)

@@ -1,18 +1,14 @@
--- `reads::mark` meets its contract: the loop has marked the ticks below t.
-use mathlib.Core.Path.{◌∙◌, ◌≡◌}
+-- `reads::mark` meets its contract: the part of the table is filled.
+use mathlib.Core.Path.{◌∙◌}
 use native.Mathlib.Omega.{arith}
-use lib.ListN.{length-set}
-use Rattle.operations.proofs.Spans.{marked_none, marked_more}
+use borrow.Author.Rules.{rules}
+use borrow.Rule.Slice.PartMut.{same_len_mid}
+use Rattle.operations.proofs.Spans.{marked_filled}
 use Rattle.operations.proofs.reads.mark.Goals as goal
 
-pub loop-t-init : goal.loop-t-init
-loop-t-init c = (omega arith, omega arith, omega arith, marked_none c.args.table.now _ _)
-
-pub loop-t-preserved : goal.loop-t-preserved
-loop-t-preserved c = let a = c.args in
-    let l = c.loop-t in
-    (omega arith, omega arith, length-set l.table _ _ ∙ l.invariant.2, marked_more l.table a.table.now a.x a.from l.t (omega arith) (omega arith) (omega arith) l.invariant.2 l.invariant.3)
-
 pub returns : goal.returns
-returns c = let e : c.loop-t.t ≡ c.args.to = omega arith in
-    (c.loop-t.invariant.2, rw e at c.loop-t.invariant.3)
+returns c = let a = c.args in
+    let q = c.requires in (
+      same_len_mid _ _ _ _ c.fill.ensures.len ∙ q.0,
+      marked_filled a.table.now _ a.x a.from a.to _ q.1 q.2 q.3 q.0 (omega arith) (c.fill.ensures.after (search rules)),
+    )

@@ -11,4 +11,4 @@ nibble-requires c = omega (arith, c.row_bit.ensures, link_inside _ c.args.links 
 
 pub returns : goal.returns
 returns c = let a = c.args in
-    (rw (c.row_bit.ensures, link_at a.links a.u a.i a.b) at c.nibble.ensures.0, c.nibble.ensures.1)
+    rw c.from.ensures (rw (c.row_bit.ensures, link_at a.links a.u a.i a.b) at c.nibble.ensures.0, c.nibble.ensures.1)

@@ -2,9 +2,6 @@
 use Rattle.plan.proofs.Taken.{forged_in_lem}
 use Rattle.tables.proofs.forged.message_at.Goals as goal
 
-pub of-requires : goal.of-requires
-of-requires c = (rw c.bits.ensures at c.field.ensures.1, c.requires.2)
-
 pub returns : goal.returns
 returns c = let a = c.args in
     let is = c.of.ensures in

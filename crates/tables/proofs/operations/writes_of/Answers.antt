@@ -1,6 +1,6 @@
 -- `operations::writes_of` meets its contract. The loop's invariant: the tables have the writes among the operations passed. A write more finds a number left.
-use mathlib.Core.Path.{refl, ap, ◌∙◌}
-use Prim.Native.Nat.{ℕ, ◌+◌, ◌*◌, ◌^◌, ◌≤◌, ◌<◌}
+use mathlib.Core.Path.{refl, ap}
+use Prim.Native.Nat.{ℕ, ◌^◌, ◌≤◌, ◌<◌}
 use native.Mathlib.Omega.{arith}
 use lib.ListN.{get_or, replicate, length-set}
 use lib.Pow.{pow_pos}
@@ -8,22 +8,19 @@ use borrow.Author.Tests.{ne_eqb}
 use borrow.Author.Rules.{rules}
 use Rattle.register.proofs.Lists.{get_d_replicate_same}
 use Rattle.plan.specs.Header.{operation_bits}
-use Rattle.plan.specs.Parts.{Operation, operation_in}
+use Rattle.plan.specs.Parts.{Operation}
 use Rattle.tables.specs.Operations.{op_at}
-use Rattle.tables.proofs.Tables.{each_stored}
-use Rattle.plan.proofs.Sizes.{operations_few}
 use Rattle.bits.proofs.Records.{record_inside}
+use Rattle.tables.proofs.Tables.{each_stored}
 use Rattle.tables.proofs.Storing.{number_left, write_stored, write_left, written_none}
 use Rattle.tables.proofs.operations.writes_of.Goals.{Then-o-eq0, then-o-eq0, else-o-eq0}
 use Rattle.tables.proofs.operations.writes_of.Goals as goal
 
 left : (c : Then-o-eq0) → c.loop-i.m ≤ 64
 left c = let h = c.loop-i in
-    let bits = c.bits-bits.ensures in
     let a = c.args in
-    let E = c.read-o.ensures.is ∙ ap (λ (b : ℕ). operation_in a.width a.plan.now (a.at + b * h.i)) bits in
-    number_left a.width (op_at a.width a.plan.now a.at) h.i _ h.values h.begun h.m h.invariant.3 _ c.loop-i-test.true c.requires.0.writes
-    (rw (ap (λ (o : Operation). o.party) E) at c.if-o-eq0.true)
+    number_left a.width (op_at a.width a.plan.now a.at) h.i _ h.values h.begun h.m h.invariant.2 _ c.loop-i-test.true c.requires.0.writes
+    (rw (ap (λ (o : Operation). o.party) c.operation_of-o.ensures.is) at c.if-o-eq0.true)
 
 pub loop-i-init : goal.loop-i-init
 loop-i-init c = let a = c.args in
@@ -31,50 +28,30 @@ loop-i-init c = let a = c.args in
     let zeros : (j : ℕ) → get_or (replicate 65 0) j 0 < 2 ^ a.width = λ j. rw (get_d_replicate_same {A = ℕ} 65 j 0) some in (
       search rules,
       search rules,
-      search rules,
       written_none a.width (op_at a.width a.plan.now a.at) _ _ _ refl
           (each_stored (λ j y. y < 2 ^ a.width) (replicate 65 0) 0 a.initial (search rules) c.requires.1 (λ j d. zeros j)),
     )
 
+pub operation_of-o-requires : goal.operation_of-o-requires
+operation_of-o-requires c = let q = c.requires.0 in
+    (omega (arith, q.inside, record_inside (operation_bits c.args.width) c.loop-i.i c.args.count c.loop-i-test.true), q.start, omega (arith, q.few), q.narrow)
+
 pub loop-i-preserved : goal.loop-i-preserved
 loop-i-preserved c = let h = c.loop-i in
-    let bits = c.bits-bits.ensures in
     let a = c.args in
-    let E = c.read-o.ensures.is ∙ ap (λ (b : ℕ). operation_in a.width a.plan.now (a.at + b * h.i)) bits in
-    let tick = ap (λ (o : Operation). o.at) E in
-    let party = ap (λ (o : Operation). o.party) E in
-    let value = ap (λ (o : Operation). o.value) E in
+    let tick = ap (λ (o : Operation). o.at) c.operation_of-o.ensures.is in
+    let party = ap (λ (o : Operation). o.party) c.operation_of-o.ensures.is in
+    let value = ap (λ (o : Operation). o.value) c.operation_of-o.ensures.is in
     let op = op_at a.width a.plan.now a.at in
     elim c.if-o-eq0.branch [
       | then-o-eq0 w ↦ rw (w.values-is, w.begun-is, w.m-is, length-set, length-set, value, tick) (
-        omega arith,
+        h.invariant.0,
         h.invariant.1,
-        h.invariant.2,
-        write_stored a.width op h.i _ h.values h.begun h.m h.invariant.3 _ c.loop-i-test.true c.requires.0.writes (rw party at w.if-o-eq0.true)
-            (rw value at c.read-o.ensures.value_hi) h.invariant.1 h.invariant.2,
+        write_stored a.width op h.i _ h.values h.begun h.m h.invariant.2 _ c.loop-i-test.true c.requires.0.writes (rw party at w.if-o-eq0.true)
+            (rw value at c.operation_of-o.ensures.value_hi) h.invariant.0 h.invariant.1,
       )
-      | else-o-eq0 w ↦ rw (w.values-is, w.begun-is, w.m-is) (omega arith, h.invariant.1, h.invariant.2, write_left a.width op h.i _ h.values h.begun h.m h.invariant.3 (rw (← party) (ne_eqb _ 0 w.if-o-eq0.false)))
+      | else-o-eq0 w ↦ rw (w.values-is, w.begun-is, w.m-is) (h.invariant.0, h.invariant.1, write_left a.width op h.i _ h.values h.begun h.m h.invariant.2 (rw (← party) (ne_eqb _ 0 w.if-o-eq0.false)))
     ]
-
-pub overflow_mul-bits : goal.overflow_mul-bits
-overflow_mul-bits c = let h = c.loop-i in
-    let bits = c.bits-bits in
-    omega (arith, operations_few bits.result h.i (omega (arith, c.requires.0.narrow, bits.ensures)) (omega (arith, c.loop-i-test.true, c.requires.0.few)))
-
-pub overflow_add-at : goal.overflow_add-at
-overflow_add-at c = let h = c.loop-i in
-    let bits = c.bits-bits in
-    omega (arith, c.requires.0.start, operations_few bits.result h.i (omega (arith, c.requires.0.narrow, bits.ensures)) (omega (arith, c.loop-i-test.true, c.requires.0.few)))
-
-pub read-o-requires : goal.read-o-requires
-read-o-requires c = let h = c.loop-i in
-    let bits = c.bits-bits in
-    let l : h.i < c.args.count = c.loop-i-test.true in
-    let w = c.args.width in (
-      rw bits.ensures (omega (arith, c.requires.0.inside, record_inside (operation_bits w) h.i c.args.count l)),
-      omega (arith, c.requires.0.start, operations_few bits.result h.i (omega (arith, c.requires.0.narrow, bits.ensures)) (omega (arith, c.requires.0.few))),
-      c.requires.0.narrow,
-    )
 
 pub bounds-values-m : goal.bounds-values-m
 bounds-values-m c = let h = left (goal.at.bounds-values-m c).Then-o-eq0 in omega arith

@@ -18,10 +18,11 @@ returns c = record {
         c.part-3.ensures.0,
         c.part-2.ensures.0,
         c.part.ensures.0,
+        c.from-value.ensures,
       )
       (sym (forgery_parts _ _));
   tick_hi = search rules;
   sender_hi = search rules;
   receiver_hi = search rules;
-  value_hi = c.part-4.ensures.1;
+  value_hi = rw c.from-value.ensures at c.part-4.ensures.1;
 }

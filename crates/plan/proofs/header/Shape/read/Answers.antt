@@ -56,6 +56,7 @@ returns c = let a = c.args in (
     c.part.ensures.0,
     c.field-back.ensures.0,
     c.field-front.ensures.0,
+    c.from-value.ensures,
   )
       (sym (header-parts a.width a.plan.now)),
   refl,

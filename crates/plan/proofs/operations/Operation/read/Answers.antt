@@ -19,9 +19,9 @@ returns c = let a = c.args in
     let all = c.field-all in
     record {
       is =
-          rw (c.part-3.ensures.0, c.part-2.ensures.0, c.part.ensures.0)
+          rw (c.part-3.ensures.0, c.part-2.ensures.0, c.part.ensures.0, c.from-value.ensures)
           (sym (operation_parts a.width all.result) ∙ ap operation_from (ap (numbers_in (operation_widths a.width)) (all.ensures.0 ∙ ap (field_of a.plan.now a.at) c.bits.ensures) ∙ sym (numbers_in_lem (operation_widths a.width) a.plan.now a.at)));
       tick_hi = search rules;
       party_hi = search rules;
-      value_hi = c.part-3.ensures.1;
+      value_hi = rw c.from-value.ensures at c.part-3.ensures.1;
     }
