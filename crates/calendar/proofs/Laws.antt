@@ -110,9 +110,6 @@ put_none s w v k h = elim (ℕ_discrete v w) [
 
 -- ---- zeroed bytes
 
-pub zeroed_none : (a : List ℕ) (from : ℕ) → Zeroed a a from from
-zeroed_none a from = record { size = refl; zero = λ k l m. absurd (omega arith); below = λ k l. refl; above = λ k l. refl }
-
 pub zeroed_more : (a r : List ℕ) (from at : ℕ) → from ≤ at → at < length r → Zeroed a r from at → Zeroed a (set r at 0) from (at + 1)
 zeroed_more a r from at h g Z = record {
   size = length-set r at 0 ∙ Z.size;
