@@ -1,6 +1,6 @@
 -- What is left of a row's cells while they are emptied, and when the row is cleared; that nothing is left when all is zeroed.
 use mathlib.Core.Path.{◌≡◌, refl, ap, ◌∙◌}
-use mathlib.Core.Bool.{Bool, true, false, not, ◌&&◌, and-false, and_comm}
+use mathlib.Core.Bool.{Bool, true, false, not, ◌&&◌, and_comm}
 use mathlib.Core.List.{List}
 use Prim.Native.Nat.{ℕ, ◌+◌, ◌*◌, ◌-◌, ◌/◌, ◌%◌, ◌≤◌, ◌<◌, max}
 use native.Mathlib.Omega.{arith}
@@ -27,13 +27,6 @@ pub record EmptiedTo (a r : List ℕ) (row from to : ℕ) : Type 0 where
 -- no number is from b on and below b
 pub no_number : (b y : ℕ) → leb b y && ltb y b ≡ false
 no_number b y = never (leb b y) _ (λ e. le-ltb y b (leb-true b y e))
-
-pub emptied_none : (a : List ℕ) (row from : ℕ) → EmptiedTo a a row from from
-emptied_none a row from = record {
-  rest = record { size = refl; past = λ k l. refl };
-  front = λ k l. refl;
-  cells = λ x j i l m. rw (no_number from j, and-false (eqb x row));
-}
 
 -- one pair more is out
 out_more : (p : Bool) (from at y : ℕ) (s : Bool) → from ≤ at

@@ -110,17 +110,6 @@ put_none s w v k h = elim (ℕ_discrete v w) [
 
 -- ---- zeroed bytes
 
-pub zeroed_none : (a : List ℕ) (from : ℕ) → Zeroed a a from from
-zeroed_none a from = record { size = refl; zero = λ k l m. absurd (omega arith); below = λ k l. refl; above = λ k l. refl }
-
-pub zeroed_more : (a r : List ℕ) (from at : ℕ) → from ≤ at → at < length r → Zeroed a r from at → Zeroed a (set r at 0) from (at + 1)
-zeroed_more a r from at h g Z = record {
-  size = length-set r at 0 ∙ Z.size;
-  zero = λ k l m. elim (ℕ_discrete k at) [ yes e ↦ rw e (get_or-set_same r at 0 0 g) | no d ↦ get_or-set_other r at k 0 0 d ∙ Z.zero k l (omega arith) ];
-  below = λ k l. get_or-set_other r at k 0 0 (λ e. omega arith) ∙ Z.below k l;
-  above = λ k l. get_or-set_other r at k 0 0 (λ e. omega arith) ∙ Z.above k (omega arith);
-}
-
 -- a word that is zeroed
 pub zeroed_word : (a r : List ℕ) (from to v : ℕ) → from ≤ 2 * v → 2 * v + 1 < to → Zeroed a r from to → word_of r v ≡ 0
 unfolding word_of

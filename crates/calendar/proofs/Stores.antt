@@ -8,7 +8,7 @@ use native.Mathlib.Decide.{ℕ_discrete}
 use native.Mathlib.Numerals.{add-one}
 use lib.Dec.{eqb}
 use lib.ListN.{length, get_or}
-use borrow.Author.Tests.{le-ltb, eq-eqb, ne_eqb, eqb-true}
+use borrow.Author.Tests.{eq-eqb, ne_eqb, eqb-true}
 use Rattle.calendar.specs.declared.Stamped.{Stamped}
 use Rattle.tables.specs.declared.sending.Sending.{Sending}
 use Rattle.calendar.specs.Layout.{rows, calendar_size, receivers, row_of}
@@ -17,7 +17,7 @@ use Rattle.calendar.specs.View.{Posted}
 use Rattle.calendar.specs.Posts.{in_row, among_first, vacant, SpanOf, due_in, to_first}
 use Rattle.tables.specs.Sending.{arrival_of}
 use Rattle.calendar.proofs.Laws.{eqb_both, under, never, ltb_more}
-use Rattle.calendar.proofs.Posting.{posted_eq, posted_trans, posted_none, Filled, added, filled_eq, filled_none, filled_more, span_eq, span_none, span_more}
+use Rattle.calendar.proofs.Posting.{posted_eq, posted_trans, Filled, added, filled_eq, filled_none, filled_more, span_eq, span_none, span_more}
 
 -- ---- the pairs of a store
 
@@ -108,9 +108,6 @@ module _ (s : Sending) (P : ℕ → Bool) where
   to-self : (x j k b : ℕ) → b ≡ s.sender → eqb (x % receivers) b && sent x j k ≡ false
   unfolding sent due_in
   to-self x j k b d = never (eqb (x % receivers) b) _ (λ e. rw (eq-eqb (x % receivers) s.sender (eqb-true (x % receivers) b e ∙ d)))
-
-  pub others_first : (a : List ℕ) → Posted a a (to_first s 0 P)
-  others_first a = posted_none a _ (λ x j k l m. rw (le-ltb (x % receivers) 0 (omega arith)))
 
   pub others_yes : (a r w : List ℕ) (b : ℕ) → b < 16 → (b ≡ s.sender → ⊥) → Posted a r (to_first s b P)
       → Posted r w (in_row (row_of (arrival_of s b) b) s.sender P) → Posted a w (to_first s (b + 1) P)

@@ -7,7 +7,7 @@ ghost use Rattle.calendar.specs.View.{Posted, Cleared, Empty, SamePast};
 ghost use Rattle.calendar.specs.Posts.{in_row, among, to_others, SpanOf, widened};
 ghost use Rattle.tables.specs.Sending.{Sendable};
 
-use limits::{DEPTH, NO_PAIR, PLACES, READERS, SERVERS, size_of};
+use limits::{DEPTH, NO_PAIR, PLACES, READERS, SERVERS};
 use tables::sending::Sending;
 
 pub mod words;
@@ -52,6 +52,7 @@ fn cell(row: usize, j: usize) -> usize
 }
 
 // Nothing is under way.
+#[tactic(auto, using(crate::proofs::Clearing::started))]
 pub fn start(work: &mut [u8])
     requires { calendar_size ≤ length work.old }
     ensures { SamePast work.old work.new × Empty work.new }
@@ -72,7 +73,7 @@ pub fn low(work: &[u8], row: usize) -> usize
     requires { (row < rows) × (calendar_size ≤ length work.now) }
     ensures { (result ≡ low_of work.now row) × (result < 256) }
 {
-    size_of(NO_PAIR - work[2 * row])
+    usize::from(NO_PAIR - work[2 * row])
 }
 
 // No pair from it on arrives in the row.
@@ -80,27 +81,7 @@ pub fn high(work: &[u8], row: usize) -> usize
     requires { (row < rows) × (calendar_size ≤ length work.now) }
     ensures { (result ≡ high_of work.now row) × (result < 256) }
 {
-    size_of(work[2 * row + 1])
-}
-
-// The lower of two numbers.
-fn lower(a: u8, b: u8) -> u8
-    ensures { result ≡ min a b }
-{
-    if a < b {
-        return a;
-    }
-    b
-}
-
-// The higher of two numbers.
-fn higher(a: u8, b: u8) -> u8
-    ensures { result ≡ max a b }
-{
-    if a < b {
-        return b;
-    }
-    a
+    usize::from(work[2 * row + 1])
 }
 
 // The pairs from low to before high may arrive in the row, too: by maxima alone, as a test that goes now this way, now that costs more than two stores.
@@ -109,8 +90,8 @@ fn widen(work: &mut [u8], row: usize, low: u8, high: u8)
     ensures { work.new ≡ widened work.old row low high }
 {
     let at = 2 * row;
-    work[at] = higher(work[at], NO_PAIR - low);
-    work[at + 1] = higher(work[at + 1], high);
+    work[at] = work[at].max(NO_PAIR - low);
+    work[at + 1] = work[at + 1].max(high);
 }
 
 // Server i's message with pair j is under way, if the pair is a known one.
@@ -118,11 +99,11 @@ pub fn post(work: &mut [u8], row: usize, j: u8, i: usize)
     requires { (row < rows) × (i < most_servers) × (calendar_size ≤ length work.old) }
     ensures { Posted work.old work.new (in_row row i (λ y. eqb y j)) }
 {
-    if PLACES <= j as usize {
+    if PLACES <= usize::from(j) {
         return;
     }
     widen(work, row, j, j + 1);
-    words::add(work, cell(row, j as usize), i);
+    words::add(work, cell(row, usize::from(j)), i);
 }
 
 // The pairs from low to before high.
@@ -138,25 +119,16 @@ fn span_of(kept: [Stamped; DEPTH]) -> Span
 {
     let mut low = NO_PAIR;
     let mut high: u8 = 0;
-    let mut place: usize = 0;
-    while place < DEPTH {
-        let p = kept[place];
+    for p in kept {
         if p.number == NO_PAIR {
-            return Span {
-                low: low,
-                high: high,
-            };
+            return Span { low, high };
         }
-        if size_of(p.number) < PLACES {
-            low = lower(low, p.number);
-            high = higher(high, p.number + 1);
+        if usize::from(p.number) < PLACES {
+            low = low.min(p.number);
+            high = high.max(p.number + 1);
         }
-        place += 1;
     }
-    Span {
-        low: low,
-        high: high,
-    }
+    Span { low, high }
 }
 
 // Server i's messages with the known pairs that it keeps are under way. Their span is given: who sends them to many rows finds it once.
@@ -165,17 +137,14 @@ fn post_all(work: &mut [u8], row: usize, kept: [Stamped; DEPTH], span: Span, i: 
     ensures { Posted work.old work.new (in_row row i (among kept)) }
 {
     widen(work, row, span.low, span.high);
-    let mut q: usize = 0;
-    while q < DEPTH {
-        let p = kept[q];
-        if p.number == NO_PAIR {
+    for pair in kept {
+        if pair.number == NO_PAIR {
             return;
         }
-        let j = size_of(p.number);
+        let j = usize::from(pair.number);
         if j < PLACES {
             words::add(work, cell(row, j), i);
         }
-        q += 1;
     }
 }
 
@@ -193,14 +162,11 @@ pub fn post_vote(work: &mut [u8], sending: Sending, j: u8)
     requires { Sendable sending × (sending.sender < most_servers) × (calendar_size ≤ length work.old) }
     ensures { Posted work.old work.new (to_others sending (λ y. eqb y j)) }
 {
-    let n = sending.n;
     let i = sending.sender;
-    let mut b: usize = 0;
-    while b < n {
+    for b in 0..sending.n {
         if b != i {
             post(work, row(sending.arrival(b), b), j, i);
         }
-        b += 1;
     }
 }
 
@@ -209,15 +175,12 @@ pub fn post_votes(work: &mut [u8], sending: Sending, kept: [Stamped; DEPTH])
     requires { Sendable sending × (sending.sender < most_servers) × (calendar_size ≤ length work.old) }
     ensures { Posted work.old work.new (to_others sending (among kept)) }
 {
-    let n = sending.n;
     let i = sending.sender;
     let span = span_of(kept);
-    let mut b: usize = 0;
-    while b < n {
+    for b in 0..sending.n {
         if b != i {
             post_all(work, row(sending.arrival(b), b), kept, span, i);
         }
-        b += 1;
     }
 }
 
@@ -226,11 +189,8 @@ pub fn clear(work: &mut [u8], row: usize)
     requires { (row < rows) × (high_of work.old row ≤ places) × (calendar_size ≤ length work.old) }
     ensures { Cleared work.old work.new row }
 {
-    let high = high(work, row);
-    let mut j = low(work, row);
-    while j < high {
+    for j in low(work, row)..high(work, row) {
         words::put(work, cell(row, j), 0);
-        j += 1;
     }
     words::put(work, row, 0);
 }

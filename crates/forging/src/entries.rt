@@ -1,6 +1,6 @@
 // The forged messages of a plan, decoded once into the lent workspace, and where those of each tick start.
 ghost use Rattle.std.specs.Prelude.{◌≡◌, ◌+◌, ◌≤◌, ◌<◌, length};
-ghost use Rattle.forging.specs.Entries.{number_in, entry_bytes, Fillable, Filled, known_number, Start, Starts, entries_end};
+ghost use Rattle.forging.specs.Entries.{number_in, entry_at, entry_bytes, Fillable, Filled, known_number, Start, Starts, entries_end};
 ghost use Rattle.tables.specs.Forged.{forged_at, forged_delay, most_entries};
 ghost use Rattle.limits.specs.Limits.{places};
 
@@ -13,43 +13,66 @@ use tables::forged::{delay_of, message_at};
 pub const ENTRIES: usize = requests::END;
 
 // How many bytes an entry has.
-pub const ENTRY: usize = 8;
+pub const ENTRY_BYTES: usize = 8;
 
 // How many ticks the starts are told for: one more than a plan may have.
 pub const STARTS: usize = 129;
 
 // The number, if it is that of a known pair with this value; else NO_PAIR.
+#[tactic(auto, unfolding(crate::specs::Entries::number_in))]
 fn known_number(values: &[u32; PLACES], m: usize, value: u32, number: u8) -> u8
     requires { m ≤ places }
     ensures { result ≡ number_in values.now m value number }
 {
-    let i = number as usize;
-    if i < m {
-        if values[i] == value {
-            return number;
-        }
+    let i = usize::from(number);
+    if i < m && values[i] == value {
+        return number;
     }
     NO_PAIR
 }
 
-// A forged entry, from byte `at` of the workspace on.
-fn put_entry(
-    work: &mut [u8],
-    at: usize,
-    sent: u8,
-    arrival: u8,
-    receiver: u8,
-    sender: u8,
-    number: u8,
-)
-    requires { (at + 5 ≤ length work.old) × (at < 65536) }
-    ensures { work.new ≡ entry_bytes work.old at sent arrival receiver sender number }
-{
-    work[at] = sent;
-    work[at + 1] = arrival;
-    work[at + 2] = receiver;
-    work[at + 3] = sender;
-    work[at + 4] = number;
+// A forged message in the workspace: the ticks in which it is sent and arrives, whom it goes to and who sends it, the number of its pair or NO_PAIR.
+#[derive(Clone, Copy)]
+pub struct Entry {
+    pub sent: u8,
+    pub arrival: u8,
+    pub receiver: u8,
+    pub sender: u8,
+    pub number: u8,
+}
+
+impl Entry {
+    // Entry e.
+    pub fn of(work: &[u8], e: usize) -> Entry
+        requires { (e < most_entries) × (entries_end ≤ length work.now) }
+        ensures sent { result.sent ≡ entry_at work.now e 0 }
+        ensures arrival { result.arrival ≡ entry_at work.now e 1 }
+        ensures receiver { result.receiver ≡ entry_at work.now e 2 }
+        ensures sender { result.sender ≡ entry_at work.now e 3 }
+        ensures number { result.number ≡ entry_at work.now e 4 }
+    {
+        let at = ENTRIES + ENTRY_BYTES * e;
+        Entry {
+            sent: work[at],
+            arrival: work[at + 1],
+            receiver: work[at + 2],
+            sender: work[at + 3],
+            number: work[at + 4],
+        }
+    }
+
+    // It stands from byte `at` of the workspace on.
+    #[tactic(auto, unfolding(crate::specs::Entries::entry_bytes))]
+    fn put(self, work: &mut [u8], at: usize)
+        requires { (at + 5 ≤ length work.old) × (at < 65536) }
+        ensures { work.new ≡ entry_bytes work.old at self.sent self.arrival self.receiver self.sender self.number }
+    {
+        work[at] = self.sent;
+        work[at + 1] = self.arrival;
+        work[at + 2] = self.receiver;
+        work[at + 3] = self.sender;
+        work[at + 4] = self.number;
+    }
 }
 
 // All forged entries. The forged part of the plan starts at bit `offset` of `part`.
@@ -71,21 +94,16 @@ pub fn fill(
         (λ e. known_number width values.now m (forged_at width part.now offset e)) }
 {
     let bits = Forged::bits(width);
-    let mut e: usize = 0;
-    while e < count {
+    for e in 0..count {
         let g = message_at(part, offset + bits * e, width);
-        let number = known_number(values, m, g.value, g.number);
-        let delay = delay_of(plan, links, n, g);
-        put_entry(
-            work,
-            ENTRIES + ENTRY * e,
-            g.at,
-            g.at + delay as u8,
-            g.to,
-            g.from,
-            number,
-        );
-        e += 1;
+        let entry = Entry {
+            sent: g.at,
+            arrival: g.at + delay_of(plan, links, n, g) as u8,
+            receiver: g.to,
+            sender: g.from,
+            number: known_number(values, m, g.value, g.number),
+        };
+        entry.put(work, ENTRIES + ENTRY_BYTES * e);
     }
 }
 
@@ -94,12 +112,10 @@ fn next_start(work: &[u8], e: usize, count: usize, u: u8) -> usize
     requires { (e ≤ count) × (count ≤ most_entries) × (entries_end ≤ length work.now) }
     ensures { (e ≤ result) × Start work.now e count u result }
 {
-    let mut i = e;
-    while i < count {
-        if u <= work[ENTRIES + ENTRY * i] {
+    for i in e..count {
+        if u <= Entry::of(work, i).sent {
             return i;
         }
-        i += 1;
     }
     count
 }
@@ -110,12 +126,10 @@ pub fn starts(work: &[u8], count: usize) -> [u16; STARTS]
     ensures { Starts work.now count result }
 {
     let mut r = [0u16; STARTS];
-    let mut e: usize = 0;
-    let mut u: usize = 0;
-    while u < STARTS {
+    let mut e = 0;
+    for u in 0..STARTS {
         e = next_start(work, e, count, u as u8);
         r[u] = e as u16;
-        u += 1;
     }
     r
 }

@@ -8,65 +8,45 @@ ghost use Rattle.tables.specs.Forged.{most_entries};
 ghost use Rattle.forging.specs.Forging.{forged_entry, SentIn, forges};
 
 use calendar::READERS_AT;
-use limits::{READERS, size_of};
+use entries::{Entry, STARTS};
+use limits::READERS;
 
 pub mod entries;
-
-// Byte k of entry e.
-fn byte(work: &[u8], e: usize, k: usize) -> u8
-    requires { (e < most_entries) × (k < 8) × (entries_end ≤ length work.now) }
-    ensures { result ≡ entry_at work.now e k }
-{
-    work[entries::ENTRIES + entries::ENTRY * e + k]
-}
 
 // Entry e is under way: a vote, or a reply if it arrives by the end of its reader's read.
 fn post_entry(work: &mut [u8], ends: [u8; READERS], n: usize, e: usize)
     requires { (n ≤ most_servers) × (e < most_entries) × (entries_end ≤ length work.old) × (entry_at work.old e 3 < most_servers) }
     ensures { Posted work.old work.new (forged_entry ends n work.old e) }
 {
-    let arrival = size_of(byte(work, e, 1));
-    let receiver = size_of(byte(work, e, 2));
-    let sender = size_of(byte(work, e, 3));
-    let number = byte(work, e, 4);
+    let entry = Entry::of(work, e);
+    let arrival = usize::from(entry.arrival);
+    let receiver = usize::from(entry.receiver);
+    let sender = usize::from(entry.sender);
     if receiver < n {
-        calendar::post(work, calendar::row(arrival, receiver), number, sender);
+        calendar::post(work, calendar::row(arrival, receiver), entry.number, sender);
         return;
     }
     if receiver <= n {
         return;
     }
     let y = receiver - n;
-    if READERS < y {
+    if READERS < y || usize::from(ends[y - 1]) < arrival {
         return;
     }
-    if size_of(ends[y - 1]) < arrival {
-        return;
-    }
-    calendar::post(work, calendar::row(arrival, READERS_AT + y), number, sender);
-}
-
-fn wide(x: u16) -> usize
-    ensures { result ≡ x }
-{
-    x as usize
+    calendar::post(
+        work,
+        calendar::row(arrival, READERS_AT + y),
+        entry.number,
+        sender,
+    );
 }
 
 // The entries that are sent in tick t are; `starts` has how many are sent before each tick, `ends` the ticks in which the readers' reads end.
-pub fn forge(
-    work: &mut [u8],
-    ends: [u8; READERS],
-    n: usize,
-    starts: &[u16; entries::STARTS],
-    t: usize,
-)
+pub fn forge(work: &mut [u8], ends: [u8; READERS], n: usize, starts: &[u16; STARTS], t: usize)
     requires { (n ≤ most_servers) × (t < 128) × (entries_end ≤ length work.old) × SentIn work.old starts.now t }
     ensures { Posted work.old work.new (forges ends n work.old (get_or starts.now t 0) (get_or starts.now (t + 1) 0)) }
 {
-    let to = wide(starts[t + 1]);
-    let mut e = wide(starts[t]);
-    while e < to {
+    for e in usize::from(starts[t])..usize::from(starts[t + 1]) {
         post_entry(work, ends, n, e);
-        e += 1;
     }
 }

@@ -1,8 +1,8 @@
 -- A request sent is the plan's, and those of several reads come one by one. It stands on the laws of requests.
-use mathlib.Core.Path.{◌≡◌, ap, ◌∙◌}
-use mathlib.Core.Bool.{◌&&◌, cond, or_comm}
+use mathlib.Core.Path.{ap, ◌∙◌}
+use mathlib.Core.Bool.{◌&&◌, or_comm}
 use mathlib.Core.List.{List}
-use Prim.Native.Nat.{ℕ, suc, ◌+◌, ◌%◌, ◌≤◌}
+use Prim.Native.Nat.{ℕ, ◌+◌, ◌%◌, ◌≤◌}
 use native.Mathlib.Numerals.{add-one}
 use lib.Dec.{eqb, leb, ltb}
 use lib.ListN.{get_or}
@@ -12,9 +12,9 @@ use Rattle.register.proofs as register-laws
 use Rattle.calendar.proofs.Laws.{under}
 use Rattle.tables.specs as tables-specs
 use Rattle.tables.proofs.LinkLaws.{link_at}
-use Rattle.requests.specs.Requests.{asked_first, Asked, Taken}
-use Rattle.requests.proofs.Requesting.{outside_trans, asked_none, asked_eq, asked_trans}
-use Rattle.requests.specs.Asking.{asked_by, asked_between, begins, WroteOn}
+use Rattle.requests.specs.Requests.{asked_first, Asked}
+use Rattle.requests.proofs.Requesting.{asked_none, asked_eq, asked_trans}
+use Rattle.requests.specs.Asking.{asked_by, asked_between}
 
 module _ (plan : List ℕ) (links : tables-specs.declared.Links.Links) (n t : ℕ) where
   pub asked_sent : (p : ℕ) (s : tables-specs.declared.sending.Sending.Sending) → tables-specs.Sending.Sent plan (tables-specs.Links.link_bit links t (n + p) 0) n t p s → (a r : List ℕ) → Asked a r (asked_first s p s.n) → Asked a r (asked_by plan links n t p)
@@ -33,12 +33,3 @@ module _ (plan : List ℕ) (links : tables-specs.declared.Links.Links) (n t : �
     unfolding asked_between any_up_to
     between_more a b c i h A B = asked_eq a c _ _ (asked_trans a b c _ _ A B) (λ s q x l. rw (add-one i, le-leb from i h)
         (or_comm (any_up_to i (λ i. leb from i && asked_by plan links n t (get_or by i 0) s q x)) (asked_by plan links n t (get_or by i 0) s q x)))
-
--- the requests of the tick are taken, then one may be sent
-pub wrote_on : (plan : List ℕ) (links : tables-specs.declared.Links.Links) (n t : ℕ) (begun : List ℕ) (m number r : ℕ) (a b c : List ℕ) → Taken a b t → Asked b c (λ s q x. begins begun m t number && asked_by plan links n t 0 s q x)
-    → r ≡ cond (begins begun m t number) (suc number) number → WroteOn plan links n t begun m number r a c
-wrote_on plan links n t begun m number r a b c T A e = record {
-  next = e;
-  outside = outside_trans a b c T.outside A.outside;
-  requests = λ s q x l. A.requests s q x l ∙ rw (T.requests s q x l);
-}

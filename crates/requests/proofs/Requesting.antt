@@ -8,7 +8,7 @@ use native.Mathlib.Decide.{ℕ_discrete, dec_le}
 use lib.Dec.{eqb}
 use lib.ListN.{length}
 use lib.Bits.{bit_or}
-use borrow.Author.Tests.{le-ltb, eq-eqb, ne_eqb, eqb-true}
+use borrow.Author.Tests.{eq-eqb, ne_eqb, eqb-true}
 use Rattle.tables.specs.declared.sending.Sending.{Sending}
 use Rattle.limits.specs.Bits.{bit}
 use Rattle.calendar.specs.Words.{word_of, put_word}
@@ -59,9 +59,6 @@ same_request : (t q u p : ℕ) → q < party_slots → p < party_slots → eqb (
 same_request t q u p hq hp = laws.eqb_both (request_word t q) (request_word u p) q p (u % 16) (t % 16) (λ e. (omega arith, omega arith)) (λ d e. omega arith)
 
 module _ (s : Sending) (p : ℕ) (hp : p < party_slots) where
-  pub asked_first_lem : (a : List ℕ) → Asked a a (asked_first s p 0)
-  asked_first_lem a = asked_none a _ (λ t q b. rw (le-ltb b 0 (omega arith)))
-
   -- server b's share
   to_server : (t q c b : ℕ) → (eqb q p && eqb (arrival_of s b % 16) (t % 16)) && eqb c b ≡ eqb c b && (eqb q p && eqb (arrival_of s c % 16) (t % 16))
   to_server t q c b = and_comm (eqb q p && eqb (arrival_of s b % 16) (t % 16)) (eqb c b) ∙ laws.under (eqb c b) _ _ (λ e. rw (eqb-true c b e))

@@ -6,7 +6,7 @@ ghost use Rattle.requests.specs.Requests.{requests_end, Asked};
 ghost use Rattle.requests.specs.Asking.{asked_by, Readers, asked_between, WroteOn};
 
 use super::{clear, post};
-use limits::{PLACES, size_of};
+use limits::PLACES;
 use tables::operations::TABLE_READS;
 use tables::sending::Sending;
 use tables::{Links, delays};
@@ -34,10 +34,8 @@ pub fn ask_all(
     requires { Linked plan.now links n (t + 1) × Readers by.now from to n links.parties × (requests_end ≤ length work.old) }
     ensures { Asked work.old work.new (asked_between plan.now links n t by.now from to) }
 {
-    let mut i = from;
-    while i < to {
-        ask(work, plan, links, n, t, size_of(by[i]));
-        i += 1;
+    for i in from..to {
+        ask(work, plan, links, n, t, usize::from(by[i]));
     }
 }
 
@@ -56,11 +54,8 @@ pub fn write_on(
     ensures { WroteOn plan.now links n t begun.now m number result work.old work.new }
 {
     clear(work, t);
-    let next = size_of(number) + 1;
-    if m <= next {
-        return number;
-    }
-    if size_of(begun[next]) != t {
+    let next = usize::from(number) + 1;
+    if m <= next || usize::from(begun[next]) != t {
         return number;
     }
     ask(work, plan, links, n, t, 0);

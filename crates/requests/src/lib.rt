@@ -30,6 +30,7 @@ fn word(t: usize, p: usize) -> usize
 }
 
 // No request is under way.
+#[tactic(auto, using(crate::proofs::Requesting::unasked))]
 pub fn start(work: &mut [u8])
     requires { requests_end ≤ length work.old }
     ensures { SameOutside work.old work.new × Unasked work.new }
@@ -42,11 +43,8 @@ pub fn post(work: &mut [u8], sending: Sending, p: usize)
     requires { Sendable sending × (p < party_slots) × (requests_end ≤ length work.old) }
     ensures { Asked work.old work.new (asked_first sending p sending.n) }
 {
-    let n = sending.n;
-    let mut b: usize = 0;
-    while b < n {
+    for b in 0..sending.n {
         words::add(work, word(sending.arrival(b), p), b);
-        b += 1;
     }
 }
 

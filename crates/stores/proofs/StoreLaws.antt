@@ -1,14 +1,15 @@
 -- Putting a pair into a store, what the pairs are worth then, and comparing two stores. It stands on the definition of insert.
 use mathlib.Core.Path.{◌≡◌, refl, sym, ap, ◌∙◌}
-use mathlib.Core.Bool.{Bool, true, false, ◌&&◌, ◌||◌, cond}
+use mathlib.Core.Bool.{Bool, true, false, ◌&&◌, ◌||◌}
 use mathlib.Core.Logic.{◌⊎◌, inl, inr, ◌≢◌}
 use mathlib.Core.List.{List, [], ◌∷◌}
 use Prim.Native.Nat.{ℕ, zero, suc, ◌+◌, ◌≤◌, ◌<◌}
-use native.Mathlib.Nat.{le_of_suc-le-suc, eq-or-lt_of_le, suc_inj}
+use native.Mathlib.Nat.{le_of_suc-le-suc, suc_inj}
 use native.Mathlib.Omega.{arith}
-use lib.Dec.{eqb, eqb-zero-suc, eqb-suc-zero, eqb-suc-suc}
-use lib.ListN.{length, take, drop, get_or, set, drop_of_length-le}
-use lib.Seq.{take_all, take_at, length-take-le, take-suc-set, drop-set-lt, drop-cons, append_snoc}
+use native.Mathlib.Decide.{ℕ_discrete}
+use lib.Dec.{eqb}
+use lib.ListN.{length, take, drop, get_or, drop_of_length-le}
+use lib.Seq.{take_all, take_at, length-take-le, drop-cons}
 use borrow.Author.Tests.{lt-ltb, le-ltb, eq-eqb, ne_eqb}
 use Rattle.register.specs.Lists.{In, any, member, same_list}
 use Rattle.register.specs.Server.{insert}
@@ -44,12 +45,6 @@ among_keys (p ∷ ps) j = rw (among_keys ps j, eqb_comm j p.number) (elim (eithe
 
 -- ---- the places from one on move by one
 
--- what is carried is put down, what stood there is carried on
-pub carried_on : (i : ℕ) (p : Stamped) (ps : List Stamped) → i < length ps → put_at (i + 1) (get_or ps i vacant) (set ps i p) ≡ put_at i p ps
-carried_on i p ps h =
-    let z : i + 1 ≡ suc i = omega arith in
-    rw (z, take-suc-set ps i p h, drop-set-lt (suc i) ps i p (omega arith), drop-cons ps i vacant h) (append_snoc (take i ps) p _)
-
 -- what is carried past the last place is dropped
 pub dropped : (n : ℕ) (p : Stamped) (ps : List Stamped) → length ps ≡ n → ps ≡ take n (put_at n p ps)
 dropped n p ps e = sym (take_at (take n ps) _ n (length-take-le n ps (omega arith)) ∙ take_all n ps (omega arith))
@@ -59,9 +54,6 @@ dropped n p ps e = sym (take_at (take n ps) _ n (length-take-le n ps (omega arit
 -- every place before i is higher than p's
 abbrev pub Above : Stamped → ℕ → List Stamped → Type 0
 Above p i ps = (j : ℕ) → j < i → place_of p < place_of (get_or ps j vacant)
-
-pub above_more : (p : Stamped) (i : ℕ) (ps : List Stamped) → Above p i ps → place_of p < place_of (get_or ps i vacant) → Above p (i + 1) ps
-above_more p i ps a h j l = elim (eq-or-lt_of_le l) [ inl e ↦ let z : j ≡ i = omega arith in rw z h | inr k ↦ a j (omega arith) ]
 
 module _ (p : Stamped) (is : eqb p.number no_pair ≡ false) where
   abbrev Put : List Stamped → List Stamped → Type 0
@@ -143,17 +135,18 @@ put_valued n i p ps r values e v f q h =
 -- ---- two stores with the same pairs
 
 same_level : (x y : Stamped) (xs ys : List Stamped)
-    → eqb (place_of x) (place_of y) && (eqb (place_of x) 0 || same_list (keys xs) (keys ys)) ≡ same_list (keys (x ∷ xs)) (keys (y ∷ ys))
+    → eqb x.number y.number && (empty x || same_list (keys xs) (keys ys)) ≡ same_list (keys (x ∷ xs)) (keys (y ∷ ys))
 unfolding keys same_list
-same_level x y xs ys = go (empty x) (empty y) x.number y.number
-  where
-    go : (a b : Bool) (m n : ℕ)
-        → eqb (cond a 0 (suc m)) (cond b 0 (suc n)) && (eqb (cond a 0 (suc m)) 0 || same_list (keys xs) (keys ys))
-        ≡ same_list (cond a [] (m ∷ keys xs)) (cond b [] (n ∷ keys ys))
-    go true true m n = refl
-    go true false m n = rw (eqb-zero-suc n)
-    go false true m n = rw (eqb-suc-zero m)
-    go false false m n = rw (eqb-suc-suc m n, eqb-suc-zero m)
+same_level x y xs ys = elim (ℕ_discrete x.number no_pair) [
+  | yes e ↦ elim (ℕ_discrete y.number no_pair) [
+    | yes d ↦ rw (eq-eqb x.number no_pair e, eq-eqb y.number no_pair d, eq-eqb x.number y.number (e ∙ sym d))
+    | no d ↦ rw (eq-eqb x.number no_pair e, ne_eqb y.number no_pair d, ne_eqb x.number y.number (λ q. d (sym q ∙ e)))
+  ]
+  | no e ↦ elim (ℕ_discrete y.number no_pair) [
+    | yes d ↦ rw (ne_eqb x.number no_pair e, eq-eqb y.number no_pair d, ne_eqb x.number y.number (λ q. e (q ∙ d)))
+    | no d ↦ rw (ne_eqb x.number no_pair e, ne_eqb y.number no_pair d)
+  ]
+]
 
 module _ (a b : List Stamped) where
   -- are they the same from place i on
@@ -166,22 +159,22 @@ module _ (a b : List Stamped) where
 
   module _ (i : ℕ) (h : i < length a) (k : i < length b) where
     abbrev x : ℕ
-    x = place_of (get_or a i vacant)
+    x = (get_or a i vacant).number
 
     abbrev y : ℕ
-    y = place_of (get_or b i vacant)
+    y = (get_or b i vacant).number
 
-    here : eqb x y && (eqb x 0 || same_from (suc i)) ≡ same_from i
+    here : eqb x y && (eqb x no_pair || same_from (suc i)) ≡ same_from i
     here = rw (drop-cons a i vacant h, drop-cons b i vacant k) (same_level (get_or a i vacant) (get_or b i vacant) (drop (suc i) a) (drop (suc i) b))
 
     pub same_no : x ≢ y → same_from i ≡ false
     same_no d = sym here ∙ rw (ne_eqb x y d)
 
-    pub same_end : x ≡ y → x ≡ 0 → same_from i ≡ true
-    same_end e z = sym here ∙ rw (eq-eqb x y e, eq-eqb x 0 z)
+    pub same_end : x ≡ y → x ≡ no_pair → same_from i ≡ true
+    same_end e z = sym here ∙ rw (eq-eqb x y e, eq-eqb x no_pair z)
 
-    pub same_on : x ≡ y → x ≢ 0 → same_from (i + 1) ≡ same_from i
-    same_on e d = let z : i + 1 ≡ suc i = omega arith in rw z (sym (sym here ∙ rw (eq-eqb x y e, ne_eqb x 0 d)))
+    pub same_on : x ≡ y → x ≢ no_pair → same_from (i + 1) ≡ same_from i
+    same_on e d = let z : i + 1 ≡ suc i = omega arith in rw z (sym (sym here ∙ rw (eq-eqb x y e, ne_eqb x no_pair d)))
 
 pub same_as_itself : (l : List ℕ) → same_list l l ≡ true
 unfolding same_list

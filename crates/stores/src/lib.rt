@@ -9,12 +9,13 @@ ghost use Rattle.stores.specs.Stores.{keys, place_of, put_at, Faithful, Valued};
 
 use calendar::Stamped;
 use limits::{DEPTH, NO_PAIR};
+use std::mem::swap;
 
 // A place as a number, by which places are compared: 0 if it is empty, else one more than its pair's.
-fn place(p: Stamped) -> u16
+fn place(p: Stamped) -> u8
     ensures { result ≡ place_of p }
 {
-    (p.number as u16 + 1) % 256
+    p.number.wrapping_add(1)
 }
 
 // The store with p at a place: what stood there and after it moves on by one, and the last of it is dropped.
@@ -24,12 +25,8 @@ fn put_at(kept: [Stamped; DEPTH], p: Stamped, at: usize) -> [Stamped; DEPTH]
 {
     let mut more = kept;
     let mut carried = p;
-    let mut q = at;
-    while q < DEPTH {
-        let here = more[q];
-        more[q] = carried;
-        carried = here;
-        q += 1;
+    for q in at..DEPTH {
+        swap(&mut more[q], &mut carried);
     }
     more
 }
@@ -40,8 +37,7 @@ pub fn insert(kept: [Stamped; DEPTH], p: Stamped) -> [Stamped; DEPTH]
     ensures { (keys result ≡ take store_depth (insert p.number (keys kept))) × ((values : List ℕ) → Valued values kept → Faithful values p → Valued values result) }
 {
     let mine = place(p);
-    let mut i: usize = 0;
-    while i < DEPTH {
+    for i in 0..DEPTH {
         let here = place(kept[i]);
         if here == mine {
             return kept;
@@ -49,7 +45,6 @@ pub fn insert(kept: [Stamped; DEPTH], p: Stamped) -> [Stamped; DEPTH]
         if here < mine {
             return put_at(kept, p, i);
         }
-        i += 1;
     }
     kept
 }
@@ -68,17 +63,13 @@ pub fn none() -> [Stamped; DEPTH]
 pub fn is_same(a: [Stamped; DEPTH], b: [Stamped; DEPTH]) -> bool
     ensures { result ≡ same_list (keys a) (keys b) }
 {
-    let mut i: usize = 0;
-    while i < DEPTH {
-        let x = place(a[i]);
-        let y = place(b[i]);
-        if x != y {
+    for i in 0..DEPTH {
+        if a[i].number != b[i].number {
             return false;
         }
-        if x == 0 {
+        if a[i].number == NO_PAIR {
             return true;
         }
-        i += 1;
     }
     true
 }

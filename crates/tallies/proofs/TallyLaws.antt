@@ -2,14 +2,14 @@
 -- It stands on the calendar's laws of sets.
 use mathlib.Core.Path.{◌≡◌, refl, sym, ◌∙◌, fun_ext}
 use mathlib.Core.Bool.{Bool, true, false, ◌&&◌, ◌||◌, cond, or-false}
-use mathlib.Core.Logic.{inl, inr}
+use mathlib.Core.Logic.{◌⊎◌, inl, inr}
 use mathlib.Core.List.{List}
 use Prim.Native.Nat.{ℕ, ◌+◌, ◌≤◌, ◌<◌}
 use native.Mathlib.Omega.{arith}
 use native.Mathlib.Decide.{ℕ_discrete, dec_le}
 use lib.Dec.{ltb}
-use lib.ListN.{length, get_or, set, length-set}
-use lib.Seq.{get_or-set_same, get_or-set_other, lt-length-set}
+use lib.ListN.{length, get_or, set}
+use lib.Seq.{get_or-set_same, get_or-set_other}
 use lib.Bits.{bit_or}
 use borrow.Author.Tests.{lt-ltb, ltb-true}
 use Rattle.register.proofs.Logic.{test, T_eq, F_eq}
@@ -19,7 +19,7 @@ use Rattle.calendar.specs.Layout.{rows, low_of, high_of, sender}
 use Rattle.calendar.specs.View.{Spanned, Zeroed}
 use Rattle.calendar.proofs.Laws.{under, never}
 use Rattle.limits.proofs.Bits.{bit_or_lem, bit_zero}
-use Rattle.tallies.specs.Tallies.{recent_at, named_at, table_size, of_server, holds, row_of_sets, Outside, Emptied, Aged, SameOthers, no_votes, joined}
+use Rattle.tallies.specs.Tallies.{recent_at, named_at, of_server, holds, row_of_sets, Outside, Emptied, Aged, SameOthers, no_votes, joined}
 
 -- ---- rows
 
@@ -146,42 +146,17 @@ module _ (sets mid r : List ℕ) (b : ℕ) (h : b < 16) (A : Emptied sets mid (o
 
 -- ---- a new period
 
-pub aged_none : (a : List ℕ) (two : Bool) → Aged a a 0 two
-aged_none a two = record { size = refl; fresh = λ c l. absurd (omega arith); recent = λ c l. absurd (omega arith); rest = λ c l h. refl }
-
--- one cell more
-module _ (a r : List ℕ) (c : ℕ) (two : Bool) (h : c < recent_at) (size : length r ≡ table_size) (A : Aged a r c two) (v : ℕ) (is : v ≡ cond two (get_or r c 0) 0)
-    (w : List ℕ) (after : w ≡ set r (recent_at + c) v) where
-  abbrev aged : List ℕ
-  aged = set (set r (recent_at + c) v) c 0
-
-  other : (d : ℕ) → (d ≡ c → ⊥) → (d ≡ recent_at + c → ⊥) → get_or aged d 0 ≡ get_or r d 0
-  other d p q = get_or-set_other (set r (recent_at + c) v) c d 0 0 p ∙ get_or-set_other r (recent_at + c) d v 0 q
-
-  aged-here : get_or aged c 0 ≡ 0
-  aged-here = get_or-set_same (set r (recent_at + c) v) c 0 0 (lt-length-set r (recent_at + c) v (omega arith))
-
-  aged-recent : get_or aged (recent_at + c) 0 ≡ cond two (get_or a c 0) 0
-  aged-recent =
-      get_or-set_other (set r (recent_at + c) v) c (recent_at + c) 0 0 (λ e. omega arith)
-      ∙ (get_or-set_same r (recent_at + c) v 0 (omega arith) ∙ (is ∙ rw (A.rest c (omega arith) (inl h))))
-
-  pub aged_size : length (set w c 0) ≡ table_size
-  aged_size = rw after (length-set (set r (recent_at + c) v) c 0 ∙ (length-set r (recent_at + c) v ∙ size))
-
-  pub aged_more : Aged a (set w c 0) (c + 1) two
-  aged_more = rw after (record {
-    size = length-set (set r (recent_at + c) v) c 0 ∙ (length-set r (recent_at + c) v ∙ A.size);
-    fresh = λ d l. elim (ℕ_discrete d c) [ yes e ↦ rw e aged-here | no e ↦ other d e (λ q. omega arith) ∙ A.fresh d (omega arith) ];
-    recent = λ d l. elim (ℕ_discrete d c) [
-      | yes e ↦ rw e aged-recent
-      | no e ↦ other (recent_at + d) (λ q. omega arith) (λ q. e (omega arith)) ∙ A.recent d (omega arith)
-    ];
-    rest = λ d l o. elim o [
-      | inl k ↦ other d (λ q. omega arith) (λ q. omega arith) ∙ A.rest d (omega arith) (inl k)
-      | inr k ↦ other d (λ q. omega arith) (λ q. omega arith) ∙ A.rest d (omega arith) (inr (omega arith))
-    ];
-  })
+-- the cells of the last k periods are told, then those of the present one are zeroed
+pub aged : (sets mid r : List ℕ) (end : ℕ) (two : Bool) → end ≤ recent_at → length mid ≡ length sets
+    → ((c : ℕ) → c < end → get_or mid (recent_at + c) 0 ≡ cond two (get_or sets c 0) 0)
+    → ((c : ℕ) → (c < recent_at) ⊎ (recent_at + end ≤ c) → get_or mid c 0 ≡ get_or sets c 0)
+    → Zeroed mid r 0 end → Aged sets r end two
+aged sets mid r end two h size recent rest Z = record {
+  size = Z.size ∙ size;
+  fresh = λ c l. Z.zero c (omega arith) l;
+  recent = λ c l. Z.above (recent_at + c) (omega arith) ∙ recent c l;
+  rest = λ c l o. Z.above c l ∙ rest c o;
+}
 
 pub aged_named : (sets r : List ℕ) (end : ℕ) (two : Bool) → Aged sets r end two → end ≤ recent_at → (c : ℕ) → named_at ≤ c → get_or r c 0 ≡ get_or sets c 0
 aged_named sets r end two A h c l = A.rest c (omega arith) (inr (omega arith))

@@ -5,7 +5,7 @@ ghost use Rattle.std.specs.Prelude.{◌≡◌, ◌+◌, ◌*◌, ◌≤◌, ◌<
 ghost use Rattle.std.specs.Int.Bits.{bit_or};
 ghost use Rattle.limits.specs.Limits.{most_servers, most_readers, places};
 ghost use Rattle.calendar.specs.Layout.{rows, calendar_size, sender};
-ghost use Rattle.calendar.specs.View.{Spanned};
+ghost use Rattle.calendar.specs.View.{Spanned, Zeroed};
 ghost use Rattle.tallies.specs.Tallies.{recent_at, table_size, of_server, of_reader, Joined, Emptied, Aged};
 
 use limits::{PLACES, READERS, SERVERS};
@@ -40,8 +40,7 @@ pub fn join(sets: &mut [u16], at: usize, got: u16)
     requires { at < length sets.old }
     ensures { sets.new ≡ set sets.old at (bit_or (get_or sets.old at 0) got) }
 {
-    let set = sets[at];
-    sets[at] = set | got;
+    sets[at] |= got;
 }
 
 // What arrives in a row of the calendar joins the row that begins at `at`.
@@ -49,25 +48,26 @@ pub fn join_row(sets: &mut [u16], at: usize, work: &[u8], row: usize)
     requires { (length sets.old ≡ table_size) × (at + places ≤ table_size) × (row < rows) × (calendar_size ≤ length work.now) × Spanned work.now }
     ensures { Joined sets.old sets.new at (sender work.now row) }
 {
-    let high = calendar::high(work, row);
-    let mut j = calendar::low(work, row);
-    while j < high {
+    for j in calendar::low(work, row)..calendar::high(work, row) {
         join(sets, at + j, calendar::senders(work, row, j));
-        j += 1;
     }
 }
 
+// Nobody in the cells from one to before another.
+fn zero(sets: &mut [u16], from: usize, to: usize)
+    requires { (from ≤ to) × (to ≤ length sets.old) }
+    ensures { Zeroed sets.old sets.new from to }
+{
+    sets[from..to].fill(0);
+}
+
 // Nobody in the row that begins at `at`.
+#[tactic(auto, using(crate::proofs::TallyLaws::emptied))]
 pub fn empty(sets: &mut [u16], at: usize)
     requires { (length sets.old ≡ table_size) × (at + places ≤ table_size) }
     ensures { Emptied sets.old sets.new at }
 {
-    let end = at + PLACES;
-    let mut c = at;
-    while c < end {
-        sets[c] = 0;
-        c += 1;
-    }
+    zero(sets, at, at + PLACES);
 }
 
 // A new voting period in the cells below `end`: what counts of the last k periods, the new one included, is the last one's if k is 2, and else nothing.
@@ -75,15 +75,10 @@ pub fn next_period(sets: &mut [u16], end: usize, two: bool)
     requires { (length sets.old ≡ table_size) × (end ≤ recent_at) }
     ensures { Aged sets.old sets.new end two }
 {
-    let mut c: usize = 0;
-    while c < end {
-        let fresh = sets[c];
-        if two {
-            sets[RECENT + c] = fresh;
-        } else {
-            sets[RECENT + c] = 0;
-        }
-        sets[c] = 0;
-        c += 1;
+    if two {
+        sets.copy_within(..end, RECENT);
+    } else {
+        zero(sets, RECENT, RECENT + end);
     }
+    zero(sets, 0, end);
 }

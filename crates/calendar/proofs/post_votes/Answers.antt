@@ -1,22 +1,14 @@
--- `post_votes` meets its contract. The loop's invariant: the pairs kept are posted to the servers before b; the span is theirs.
+-- `post_votes` meets its contract. The loop's invariant: the pairs kept are posted to the servers before b.
 use native.Mathlib.Omega.{arith}
 use Prim.Native.Nat.{◌<◌}
 use Rattle.calendar.proofs.Stores.{others_yes, others_self}
 use Rattle.calendar.proofs.post_votes.Goals.{then-b-i, else-b-i}
 use Rattle.calendar.proofs.post_votes.Goals as goal
 
-pub post_all-requires : goal.post_all-requires
-post_all-requires c = let p = c.requires in
-    let l = c.loop-b in
-    (c.row.ensures.1, omega (arith, p.0.servers, p.1, c.loop-b-test.true), omega (arith, l.invariant.1.rest.size), l.invariant.2)
-
 pub loop-b-preserved : goal.loop-b-preserved
 loop-b-preserved c = let l = c.loop-b in
-    let h : l.b < 16 = omega (arith, c.requires.0.servers, c.loop-b-test.true) in (
-      omega arith,
-      elim c.if-b-i.branch [
-        | then-b-i w ↦ (rw w.work-is (others_yes c.args.sending _ _ _ _ l.b h w.if-b-i.true l.invariant.1 (rw (w.row.ensures.0, w.arrival.ensures.0) at w.post_all.ensures)))
-        | else-b-i w ↦ (rw w.work-is (others_self c.args.sending _ _ _ l.b w.if-b-i.false l.invariant.1))
-      ],
-      l.invariant.2,
-    )
+    let h : l.b < 16 = omega (arith, c.requires.0.servers, c.loop-b-test.true) in
+    elim c.if-b-i.branch [
+      | then-b-i w ↦ (rw w.work-is (others_yes c.args.sending _ _ _ _ l.b h w.if-b-i.true l.invariant (rw (w.row.ensures.0, w.arrival.ensures.0) at w.post_all.ensures)))
+      | else-b-i w ↦ (rw w.work-is (others_self c.args.sending _ _ _ l.b w.if-b-i.false l.invariant))
+    ]

@@ -1,14 +1,9 @@
 -- `span_of` meets its contract. The loop's invariant: low and high are the span of the places before this one, none of them empty.
-use mathlib.Core.Path.{◌≡◌}
-use Prim.Native.Nat.{◌-◌, ◌≤◌}
+use Prim.Native.Nat.{◌≤◌}
 use lib.ListN.{length}
-use Rattle.plan.specs.Packed.{store_depth}
 use Rattle.calendar.specs.Posts.{among_first, SpanOf}
 use Rattle.calendar.proofs.Stores.{Full}
 use Rattle.calendar.proofs.span_of.Given as goal
 
-abbrev pub invariant-loop-place : goal.invariant-loop-place
-invariant-loop-place l = (l.place ≤ store_depth) × (length l.kept ≡ store_depth) × Full l.place l.kept × SpanOf (among_first l.place l.kept) l.low l.high
-
-abbrev pub decreases-loop-place : goal.decreases-loop-place
-decreases-loop-place l = store_depth - l.place
+abbrev pub invariant-loop-p : goal.invariant-loop-p
+invariant-loop-p l = (l.p-index ≤ length l.p-items) × Full l.p-index l.p-items × SpanOf (among_first l.p-index l.p-items) l.low l.high

@@ -8,4 +8,4 @@ use Rattle.calendar.proofs.widen.Goals as goal
 pub returns : goal.returns
 unfolding widened
 returns c = let a = c.args in
-    rw (c.higher-2.ensures, c.higher.ensures, get_or-set_other a.work.now (2 * a.row) (2 * a.row + 1) _ 0 (λ e. omega arith))
+    rw (c.max-2.ensures, c.max.ensures, get_or-set_other a.work.now (2 * a.row) (2 * a.row + 1) _ 0 (λ e. omega arith))

@@ -3,13 +3,8 @@ use native.Mathlib.Omega.{arith}
 use Rattle.requests.proofs.Requesting.{asked_more, reaching}
 use Rattle.requests.proofs.post.Goals as goal
 
-pub add-requires : goal.add-requires
-add-requires c = (omega (arith, c.word.ensures.1, c.loop-b.invariant.1.outside.rest.size, c.requires.2), omega (arith, c.requires.0.servers, c.loop-b-test.true))
-
 pub loop-b-preserved : goal.loop-b-preserved
 unfolding reaching
-loop-b-preserved c = let l = c.loop-b in (
-  omega arith,
-  rw (c.add.ensures, c.word.ensures.0, c.arrival.ensures.0)
-      (asked_more c.args.sending c.args.p c.requires.1 _ _ l.b (omega (arith, l.invariant.1.outside.rest.size, c.requires.2)) l.invariant.1),
-)
+loop-b-preserved c = let l = c.loop-b in
+    rw (c.add.ensures, c.word.ensures.0, c.arrival.ensures.0)
+    (asked_more c.args.sending c.args.p c.requires.1 _ _ l.b (omega (arith, l.invariant.outside.rest.size, c.requires.2)) l.invariant)

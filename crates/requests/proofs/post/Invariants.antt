@@ -1,10 +1,6 @@
 -- `post` meets its contract. The loop's invariant: the request reaches the servers before b.
-use Prim.Native.Nat.{◌-◌, ◌≤◌}
 use Rattle.requests.specs.Requests.{asked_first, Asked}
 use Rattle.requests.proofs.post.Given as goal
 
 abbrev pub invariant-loop-b : goal.invariant-loop-b
-invariant-loop-b l = (l.b ≤ l.n) × Asked l.initial.work l.work (asked_first l.sending l.p l.b)
-
-abbrev pub decreases-loop-b : goal.decreases-loop-b
-decreases-loop-b l = l.n - l.b
+invariant-loop-b l = Asked l.initial.work l.work (asked_first l.sending l.p l.b)

@@ -4,30 +4,18 @@ use native.Mathlib.Omega.{arith}
 use Rattle.stores.proofs.StoreLaws.{same_past, same_no, same_end, same_on}
 use Rattle.stores.proofs.is_same.Goals as goal
 
-pub returns-then-x-y : goal.returns-then-x-y
-returns-then-x-y c = let s = c.args in
-    let l = c.loop-i in
-    let h = c.loop-i-test.true in
-    let d = rw (c.place-x.ensures, c.place-y.ensures) at c.if-x-y.true in
-    sym (same_no s.a s.b l.i (omega (arith, h, l.invariant.1)) (omega (arith, h, l.invariant.2)) d) ∙ l.invariant.3
+pub returns-then-a-i : goal.returns-then-a-i
+returns-then-a-i c = let l = c.loop-i in
+    let t = c.loop-i-test.true in sym (same_no c.args.a c.args.b l.i (omega (arith, t)) (omega (arith, t)) c.if-a-i.true) ∙ l.invariant
 
-pub returns-then-x-eq0 : goal.returns-then-x-eq0
-returns-then-x-eq0 c = let s = c.args in
-    let l = c.loop-i in
-    let h = c.loop-i-test.true in
-    let e = rw (c.place-x.ensures, c.place-y.ensures) at c.if-x-y.false in
-    let z = rw c.place-x.ensures at c.if-x-eq0.true in
-    sym (same_end s.a s.b l.i (omega (arith, h, l.invariant.1)) (omega (arith, h, l.invariant.2)) e z) ∙ l.invariant.3
+pub returns-then-a-i-2 : goal.returns-then-a-i-2
+returns-then-a-i-2 c = let l = c.loop-i in
+    let t = c.loop-i-test.true in sym (same_end c.args.a c.args.b l.i (omega (arith, t)) (omega (arith, t)) c.if-a-i.false c.if-a-i-2.true) ∙ l.invariant
 
 pub loop-i-preserved : goal.loop-i-preserved
-loop-i-preserved c = let s = c.args in
-    let l = c.loop-i in
-    let h = c.loop-i-test.true in
-    let e = rw (c.place-x.ensures, c.place-y.ensures) at c.if-x-y.false in
-    let d = rw c.place-x.ensures at c.if-x-eq0.false in
-    (omega (arith, h), l.invariant.1, l.invariant.2, same_on s.a s.b l.i (omega (arith, h, l.invariant.1)) (omega (arith, h, l.invariant.2)) e d ∙ l.invariant.3)
+loop-i-preserved c = let l = c.loop-i in
+    let t = c.loop-i-test.true in same_on c.args.a c.args.b l.i (omega (arith, t)) (omega (arith, t)) c.if-a-i.false c.if-a-i-2.false ∙ l.invariant
 
 pub returns : goal.returns
-returns c = let s = c.args in
-    let l = c.loop-i in
-    sym (same_past s.a s.b l.i (omega (arith, l.invariant.1)) (omega (arith, l.invariant.2))) ∙ l.invariant.3
+returns c = let l = c.loop-i in
+    let t = c.loop-i-test.false in sym (same_past c.args.a c.args.b l.i (omega (arith, t)) (omega (arith, t))) ∙ l.invariant

@@ -1,28 +1,26 @@
--- `tallies::next_period` meets its contract. The loop's invariant: the new period has begun in the cells before c.
+-- `tallies::next_period` meets its contract: the cells of the last k periods are copied or zeroed, then those of the present one are zeroed.
+use mathlib.Core.Logic.{inl, inr}
 use mathlib.Core.Path.{◌≡◌}
-use Prim.Native.Nat.{◌<◌}
+use Prim.Native.Nat.{◌+◌, ◌-◌}
 use native.Mathlib.Omega.{arith}
-use lib.ListN.{length, length-set}
-use Rattle.tallies.specs.Tallies.{table_size, recent_at}
-use Rattle.tallies.proofs.TallyLaws.{aged_size, aged_more}
+use Rattle.tallies.specs.Tallies.{recent_at}
+use Rattle.tallies.proofs.TallyLaws.{aged}
+use Rattle.tallies.proofs.next_period.Goals.{then-two, else-two}
 use Rattle.tallies.proofs.next_period.Goals as goal
 
-pub loop-c-preserved : goal.loop-c-preserved
-loop-c-preserved c = let l = c.loop-c in
-    let a = c.args.sets.now in
-    let two = c.args.two in
-    let h : l.c < recent_at = omega arith in
-    elim c.if-two.branch [
-      | goal.then-two w ↦ (omega arith, l.invariant.1, aged_size a l.sets l.c two h l.invariant.2 l.invariant.3 _ (rw w.if-two.true) _ w.sets-is, aged_more a l.sets l.c two h l.invariant.2 l.invariant.3 _ (rw w.if-two.true) _ w.sets-is)
-      | goal.else-two w ↦ (omega arith, l.invariant.1, aged_size a l.sets l.c two h l.invariant.2 l.invariant.3 _ (rw w.if-two.false) _ w.sets-is, aged_more a l.sets l.c two h l.invariant.2 l.invariant.3 _ (rw w.if-two.false) _ w.sets-is)
-    ]
-
-pub bounds-sets-c-in-loop-c : goal.bounds-sets-c-in-loop-c
-bounds-sets-c-in-loop-c c = let l = c.loop-c in
-    let e : length c.if-two.sets ≡ table_size = elim c.if-two.branch [ goal.then-two w ↦ rw w.sets-is (simp length-set l.invariant.2) | goal.else-two w ↦ rw w.sets-is (simp length-set l.invariant.2) ] in
-    omega (arith, e)
-
 pub returns : goal.returns
-returns c = let l = c.loop-c in
-    let e : l.c ≡ c.args.end = omega arith in
-    rw e at l.invariant.3
+returns c = let h = c.requires.1 in
+    elim c.if-two.branch [
+      | then-two w ↦ (
+          let m = w.copy_within.ensures in
+          rw w.if-two.true
+          (aged _ _ _ _ _ h (rw w.sets-is m.len) (λ x l. let e : 0 + (recent_at + x - recent_at) ≡ x = omega arith in rw w.sets-is (rw e at (m.by_index.0 (recent_at + x) 0 (omega arith) (omega arith))))
+          (λ x o. rw w.sets-is (elim o [ inl l ↦ m.by_index.1 x 0 l | inr l ↦ m.by_index.2 x 0 (omega arith) ])) c.zero-2.ensures)
+          )
+      | else-two w ↦ (
+          let m = w.zero.ensures in
+          rw w.if-two.false
+          (aged _ _ _ _ _ h (rw w.sets-is m.size) (λ x l. rw w.sets-is (m.zero (recent_at + x) (omega arith) (omega arith)))
+          (λ x o. rw w.sets-is (elim o [ inl l ↦ m.below x l | inr l ↦ m.above x l ])) c.zero-2.ensures)
+          )
+    ]

@@ -1,11 +1,7 @@
 -- `entries::fill` meets its contract. The loop's invariant: the entries passed are the forged messages, and no byte outside them has changed.
-use Prim.Native.Nat.{◌-◌, ◌≤◌}
 use Rattle.forging.specs.Entries.{Filled, known_number}
 use Rattle.tables.specs.Forged.{forged_at, forged_delay}
 use Rattle.forging.proofs.entries.fill.Given as goal
 
 abbrev pub invariant-loop-e : goal.invariant-loop-e
-invariant-loop-e l = (l.e ≤ l.count) × Filled l.initial.work l.work l.e (forged_at l.width l.part l.offset) (λ i. forged_delay l.plan l.links (forged_at l.width l.part l.offset i)) (λ i. known_number l.width l.values l.m (forged_at l.width l.part l.offset i))
-
-abbrev pub decreases-loop-e : goal.decreases-loop-e
-decreases-loop-e l = l.count - l.e
+invariant-loop-e l = Filled l.initial.work l.work l.e (forged_at l.width l.part l.offset) (λ i. forged_delay l.plan l.links (forged_at l.width l.part l.offset i)) (λ i. known_number l.width l.values l.m (forged_at l.width l.part l.offset i))

@@ -1,10 +1,7 @@
 -- `entries::next_start` meets its contract. The loop's invariant: the entries passed were sent before the tick.
-use Prim.Native.Nat.{ℕ, ◌-◌, ◌≤◌, ◌<◌}
+use Prim.Native.Nat.{ℕ, ◌≤◌, ◌<◌}
 use Rattle.forging.specs.Entries.{entry_at}
 use Rattle.forging.proofs.entries.next_start.Given as goal
 
 abbrev pub invariant-loop-i : goal.invariant-loop-i
-invariant-loop-i l = (l.e ≤ l.i) × (l.i ≤ l.count) × ((k : ℕ) → l.e ≤ k → k < l.i → entry_at l.work k 0 < l.u)
-
-abbrev pub decreases-loop-i : goal.decreases-loop-i
-decreases-loop-i l = l.count - l.i
+invariant-loop-i l = (k : ℕ) → l.e ≤ k → k < l.i → entry_at l.work k 0 < l.u
