@@ -3,7 +3,7 @@
 use mathlib.Core.{Path.◌≡◌, Path.refl, Path.sym, Path.ap, Path.subst, Path.◌∙◌, Path.fun_ext, List.List}
 use mathlib.Core.Bool.{Bool, false, true, not, ◌&&◌, ◌||◌, and-false, or_assoc, or-false, and-or_distrib_left}
 use Prim.Native.Nat.{ℕ, ◌+◌, ◌/◌, ◌%◌, ◌≤◌, ◌<◌}
-use native.Mathlib.{Numerals.add-one, Omega.arith, Decide.dec_le, Decide.ℕ_discrete}
+use native.Mathlib.{Omega.arith, Decide.dec_le, Decide.ℕ_discrete}
 use lib.{Bits.bit_and, Dec.eqb, Dec.ltb, Dec.leb-zero, ListN.length, ListN.get_or, ListN.set, ListN.length-set, Seq.get_or-set_same, Seq.get_or-set_other, Seq.set-get_or}
 use borrow.Author.Tests.{le-ltb, eq-eqb, ne_eqb, eqb-true}
 use Rattle.register.specs.{Lists.member, Server.is_faulty}
@@ -18,19 +18,19 @@ use Rattle.serving.specs.declared.Server.{Server}
 use Rattle.serving.specs.declared.Turn.{Turn}
 use Rattle.sending.specs.declared.Sender.{Sender}
 use Rattle.serving.specs.declared as serving-structs
-use Rattle.tallies.specs.Tallies.{table_size, SameOthers}
-use Rattle.sending.specs.Sends.{Said, Ready, votes_for, sends_vote, sends_reply, sends}
+use Rattle.tallies.specs.Tallies.{SameOthers}
+use Rattle.sending.specs.Sends.{Said, votes_for, sends_vote, sends_reply, sends}
 use Rattle.serving.specs.Stored.{Both, server, status_of, absent}
 use Rattle.stores.specs.Stores.{keys, Valued}
 use Rattle.serving.specs.Stages.{silent, stage_one}
-use Rattle.serving.specs.{Settled.Settled, Methods.Reachable, Methods.DeliveredTo}
+use Rattle.serving.specs.{Settled.Settled, Methods.DeliveredTo}
 use Rattle.serving.proofs as serving-laws
 use Rattle.tallies.proofs as tallies-laws
 use Rattle.sending.proofs as sending-laws
 use Rattle.cluster.specs.declared.Feed.{Feed}
 use Rattle.cluster.specs.Inputs.{Tickable, is_asked, wrote_at, asks_at}
 use Rattle.cluster.specs.Tick.{Fed, feed_of, TurnOf, Reached, Delivered, sender_at, server_at, first_of, sent_by, Calm}
-use Rattle.cluster.proofs.RowLaws.{past_same, past_trans, Emptied, emptied_before, empty_row}
+use Rattle.cluster.proofs.RowLaws.{past_trans, Emptied, emptied_before, empty_row}
 use Rattle.cluster.proofs.IdleLaws.{silent_sends, none_drops, idle_one, quiet_sends}
 use Rattle.cluster.proofs.Asking.{none_wrote, none_asks}
 
@@ -129,19 +129,6 @@ module _ (plan work : List ℕ) (feed : Feed) (ends values : List ℕ) (b : ℕ)
       (subst (λ (y : Sender). Reached plan ends values (turn_to turn.asks) y s q sets then work mid) e
       (subst (λ (x : Turn). Reached plan ends values x from s q sets then work mid) T.turn R))
 
--- what it needs
-pub deliver_needs : (plan work : List ℕ) (feed : Feed) (values : List ℕ) (b : ℕ) (s : Server) (sets : List ℕ) (turn : Turn) (from : Sender)
-    → Tickable plan work feed.t feed.rules feed.m feed.links → b < feed.rules.n → length sets ≡ table_size → length values ≡ places
-    → Settled feed.m feed.rules.echo feed.rules.reply (server feed.m sets b s) → TurnOf feed b turn → from ≡ sender_at feed.links feed.rules feed.t b
-    → Reachable work sets values turn × Ready plan from × Settled turn.m turn.rules.echo turn.rules.reply (server turn.m sets turn.server s)
-deliver_needs plan work feed values b s sets turn from Z own size known K T e =
-    let few : b < 16 = omega (arith, Z.servers) in (
-      subst (λ (x : Turn). Reachable work sets values x) (sym T.turn)
-          (record { room = Z.room; spans = Z.spans; table = size; known = known; server = few; row = omega arith; pairs = Z.pairs }),
-      subst (λ (x : Sender). Ready plan x) (sym e) (record { linked = rw (add-one feed.t) Z.linked; tick = Z.tick; sender = own }),
-      subst (λ (x : Turn). Settled x.m x.rules.echo x.rules.reply (server x.m sets x.server s)) (sym T.turn) K,
-    )
-
 -- one that nothing reaches stays, and sends nothing
 pub served_idle : (F : Fed) (ends values : List ℕ) (b : ℕ) (s : Server) (sets : List ℕ) → b < 16 → F.m ≤ places → Spanned F.work → high_of F.work (row_of F.t b) ≡ 0
     → is_asked F.arrivals.requests b ≡ false → bit_and s.pending F.arrivals.live ≡ s.pending
@@ -195,23 +182,6 @@ module _ (F : Fed) (ends values : List ℕ) (c : List Server) (sets : List ℕ) 
     pub done : Delivered F ends values c r sets then work n
     pub rest : (k : ℕ) → n ≤ k → get_or r k absent ≡ get_or c k absent
     pub votes : (k : ℕ) (s : Server) → n ≤ k → k < 16 → server F.m then k s ≡ server F.m sets k s
-
-  pub serving_none : Spanned F.work → Serving c sets F.work 0
-  serving_none S = record {
-    done = record {
-      rest = past_same F.work;
-      spans = S;
-      size = refl;
-      servers = refl;
-      each = λ b l. absurd (omega arith);
-      named = λ k l. refl;
-      valued = λ v. v;
-      cells = λ x j i l m.
-          rw (le-ltb (x % receivers) 0 (omega arith), le-ltb i 0 (omega arith), and-false (eqb (x / receivers) (F.t % 16))) (sym (or-false (sender F.work x j i)));
-    };
-    rest = λ k l. refl;
-    votes = λ k s l m. refl;
-  }
 
   module _ (Z : Tickable F.plan F.work F.t F.rules F.m F.links) (r : List Server) (then work : List ℕ) (b : ℕ) (own : b < F.rules.n) (size : length c ≡ 16)
       (H : Serving r then work b) where

@@ -5,7 +5,7 @@ use Prim.Native.Nat.{ℕ, ◌+◌, ◌≤◌, ◌<◌}
 use native.Mathlib.{Omega.arith, Decide.ℕ_discrete}
 use lib.Dec.{eqb, ltb}
 use lib.{ListN.length, ListN.get_or, ListN.set, ListN.length-set, Seq.get_or-set_same, Seq.get_or-set_other}
-use borrow.Author.Tests.{le-ltb, ne_eqb}
+use borrow.Author.Tests.{ne_eqb}
 use Rattle.register.specs.Lists.{member}
 use Rattle.register.specs.Server.{faulty, is_faulty, is_correct, cured_at}
 use Rattle.limits.specs.Bits.{bit}
@@ -26,7 +26,7 @@ use Rattle.sending.specs.Sends.{sends_vote, sends_reply}
 use Rattle.serving.proofs.RowLaws.{others_same, aged_server}
 use Rattle.tallies.proofs.TallyLaws.{named_same, aged_named}
 use Rattle.cluster.specs.declared.Movement.{Movement}
-use Rattle.cluster.specs.Tick.{server_at, sender_at, SameNamed, Cured, cure_replies, is_seized, Moved, echoes}
+use Rattle.cluster.specs.Tick.{server_at, sender_at, SameNamed, Cured, cure_replies, is_seized, Moved}
 
 -- ---- posting one server after the other
 
@@ -37,9 +37,6 @@ module _ (g : ℕ → ℕ → ℕ → Bool) (a b : List ℕ) (n : ℕ) (A : Post
   -- one that sends nothing
   pub posted_skip : ((x j : ℕ) → g x j n ≡ false) → Posted a b (λ x j k. ltb k (n + 1) && g x j k)
   posted_skip e = posted_next b (λ x j. g x j n) (posted_none b _ (λ x j k l m. rw (e x j) (and-false (eqb k n)))) (λ x j. refl)
-
-pub posted_first : (g : ℕ → ℕ → ℕ → Bool) (a : List ℕ) → Posted a a (λ x j k. ltb k 0 && g x j k)
-posted_first g a = posted_none a _ (λ x j k l m. rw (le-ltb k 0 (omega arith)))
 
 -- ---- cures
 
@@ -57,15 +54,6 @@ module _ (plan : List ℕ) (links : Links) (rules : Rules) (m t : ℕ) (ends : L
     pub rest : (b : ℕ) → n ≤ b → get_or r b absent ≡ get_or c b absent
     pub kept : (b : ℕ) → (get_or r b absent).kept ≡ (get_or c b absent).kept
     pub posted : Posted work after (λ x j i. ltb i n && healed plan links rules t ends c x j i)
-
-  pub curing_none : Curing c work 0
-  curing_none = record {
-    servers = refl;
-    each = λ b l. absurd (omega arith);
-    rest = λ b l. refl;
-    kept = λ b. refl;
-    posted = posted_first (healed plan links rules t ends c) work;
-  }
 
   module _ (r : List Server) (now : List ℕ) (b : ℕ) (H : Curing r now b) where
     same : get_or r b absent ≡ get_or c b absent
@@ -119,17 +107,6 @@ pub record Moving (m t : ℕ) (movement : Movement) (c r : List Server) (sets th
   pub named : SameNamed sets then
   pub valued : (values : List ℕ) (b : ℕ) → Valued values (get_or c b absent).kept → Valued values (get_or r b absent).kept
 
-pub moving_none : (m t : ℕ) (movement : Movement) (c : List Server) (sets : List ℕ) → Moving m t movement c c sets sets 0
-moving_none m t movement c sets = record {
-  size = refl;
-  servers = refl;
-  each = λ b l. absurd (omega arith);
-  rest = λ b l. refl;
-  votes = λ b l h s. refl;
-  named = λ k l. refl;
-  valued = λ values b h. h;
-}
-
 module _ (m t : ℕ) (movement : Movement) (c r : List Server) (sets now : List ℕ) (b : ℕ) (H : Moving m t movement c r sets now b) where
   pub moving_more : b < most_servers → b < length c → m ≤ places → (is : Bool) → is ≡ is_seized movement b → (q : Server) (then : List ℕ) → MovedTo b is t (get_or r b absent) q now then
       → Moving m t movement c (set r b q) sets then (b + 1)
@@ -153,15 +130,6 @@ module _ (m t : ℕ) (movement : Movement) (c r : List Server) (sets now : List 
       }
 
 module _ (rules : Rules) (m t : ℕ) (movement : Movement) (c : List Server) (sets : List ℕ) where
-  pub moved_still : movement.moving ≡ false → Moved rules m t movement c c sets sets
-  moved_still e = record {
-    size = refl;
-    servers = refl;
-    each = λ b l. rw e;
-    named = λ k l. refl;
-    valued = λ values v. v;
-  }
-
   -- after the new period has begun
   pub moving_all : movement.moving ≡ true → rules.n ≤ most_servers → m ≤ places → (aged : List ℕ) → Aged sets aged (of_server rules.n) rules.two → (r : List Server) (then : List ℕ)
       → Moving m t movement c r aged then rules.n → Moved rules m t movement c r sets then
@@ -182,15 +150,9 @@ echoed plan links rules t movement c x j i =
     movement.moving && (is_correct (status_of (get_or c i absent).status) && sends_vote plan (sender_at links rules t i) (λ y. member y (keys (get_or c i absent).kept)) x j)
 
 module _ (plan : List ℕ) (links : Links) (rules : Rules) (t : ℕ) (movement : Movement) (c : List Server) (work : List ℕ) where
-  pub echoes_still : movement.moving ≡ false → Posted work work (echoes plan links rules t movement c)
-  echoes_still e = posted_none work _ (λ x j k l m. rw e (and-false (ltb k rules.n)))
-
   -- the first n servers have echoed
   pub record Echoing (after : List ℕ) (n : ℕ) : Type 0 where
     pub posted : Posted work after (λ x j i. ltb i n && echoed plan links rules t movement c x j i)
-
-  pub echoing_none : Echoing work 0
-  echoing_none = record { posted = posted_first (echoed plan links rules t movement c) work }
 
   module _ (now : List ℕ) (b : ℕ) (H : Echoing now b) where
     pub echoing_more : movement.moving ≡ true → is_correct (status_of (get_or c b absent).status) ≡ true → (from : Sender) → from ≡ sender_at links rules t b → (after : List ℕ)

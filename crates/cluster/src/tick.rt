@@ -15,7 +15,7 @@ ghost use Rattle.cluster.specs.Tick.{Heard, TurnOf, Reached, sender_at, feed_of,
 use super::{Arrivals, Cluster, Feed, REQUESTERS};
 use limits::{PLACES, READERS, SERVERS};
 use sending::Sender;
-use serving::{Server, Turn, servers};
+use serving::{Server, Status, Turn, servers};
 
 // Is b in the set.
 fn has(set: u16, b: usize) -> bool
@@ -29,14 +29,11 @@ fn has(set: u16, b: usize) -> bool
 fn together(arrivals: Arrivals) -> u16
     ensures { (λ b. bit b result) ≡ is_asked arrivals.requests }
 {
-    let requests = arrivals.requests;
-    let mut r: u16 = 0;
-    let mut p: usize = 0;
-    while p < REQUESTERS {
-        r = r | requests[p];
-        p += 1;
+    let mut all = 0;
+    for p in 0..REQUESTERS {
+        all |= arrivals.requests[p];
     }
-    r
+    all
 }
 
 // The number of the WRITE that reaches server b, or NO_PAIR.
@@ -55,15 +52,13 @@ fn asks_at(requests: [u16; REQUESTERS], b: usize) -> u8
     requires { b < most_servers }
     ensures { (λ x. bit x result) ≡ asks_at requests b }
 {
-    let mut r: u8 = 0;
-    let mut x: usize = 1;
-    while x < REQUESTERS {
+    let mut readers = 0;
+    for x in 1..REQUESTERS {
         if has(requests[x], b) {
-            r = r | (1 << x);
+            readers |= 1 << x;
         }
-        x += 1;
     }
-    r
+    readers
 }
 
 // 1. Deliveries to the readers: each notes the replies that arrive in tick t, which are then no longer under way.
@@ -71,14 +66,12 @@ pub fn hear_all(work: &mut [u8], sets: &mut [u16], t: usize)
     requires { (calendar_size ≤ length work.old) × Spanned work.old × (length sets.old ≡ table_size) }
     ensures { Heard work.old work.new sets.old sets.new t }
 {
-    let mut x: usize = 0;
-    while x < READERS {
+    for x in 0..READERS {
         let row = calendar::row(t, SERVERS + x);
         if calendar::high(work, row) != 0 {
             tallies::join_row(sets, tallies::of_reader(x), work, row);
             calendar::clear(work, row);
         }
-        x += 1;
     }
 }
 
@@ -88,22 +81,22 @@ fn turn_of(feed: Feed, due: u16, b: usize) -> Turn
     ensures { TurnOf feed b result }
 {
     let arrivals = feed.arrivals;
-    let rules = feed.rules;
-    let mut wrote = limits::NO_PAIR;
-    let mut asks: u8 = 0;
-    if has(due, b) {
-        let requests = arrivals.requests;
-        wrote = wrote_at(requests, arrivals.number, b);
-        asks = asks_at(requests, b);
-    }
+    let (wrote, asks) = if has(due, b) {
+        (
+            wrote_at(arrivals.requests, arrivals.number, b),
+            asks_at(arrivals.requests, b),
+        )
+    } else {
+        (limits::NO_PAIR, 0)
+    };
     Turn {
         server: b,
-        row: calendar::row(feed.t as usize, b),
+        row: calendar::row(usize::from(feed.t), b),
         wrote,
         asks,
         live: arrivals.live,
         m: feed.m,
-        rules,
+        rules: feed.rules,
     }
 }
 
@@ -111,13 +104,7 @@ fn turn_of(feed: Feed, due: u16, b: usize) -> Turn
 fn is_reached(high: usize, asked: bool, pending: u8, live: u8) -> bool
     ensures { result ≡ (not (eqb high 0) || (asked || not (eqb (bit_and pending live) pending))) }
 {
-    if high != 0 {
-        return true;
-    }
-    if asked {
-        return true;
-    }
-    pending & live != pending
+    high != 0 || asked || pending & live != pending
 }
 
 // What arrives at server b: a faulty one loses it.
@@ -135,29 +122,25 @@ fn deliver(
         × Settled turn.m turn.rules.echo turn.rules.reply (server turn.m sets.old turn.server s) }
     ensures { Reached plan.now ends values.now turn from s result sets.old sets.new work.old work.new }
 {
-    let status = s.status;
-    if servers::is_faulty(status) {
+    if servers::is_faulty(s.status) {
         return s;
     }
     let done = s.deliver(sets, work, values, turn);
-    let after = done.server;
-    let kept = after.kept;
     sending::vote(work, plan, from, turn.wrote);
     if done.readers != 0 {
-        sending::reply(work, plan, from, done.readers, kept, ends);
+        sending::reply(work, plan, from, done.readers, done.server.kept, ends);
     }
-    after
+    done.server
 }
 
 // Server b of those that are fed.
 fn sender(feed: Feed, b: usize) -> Sender
     ensures { result ≡ sender_at feed.links feed.rules feed.t b }
 {
-    let links = feed.links;
     Sender {
-        links,
+        links: feed.links,
         n: feed.rules.n,
-        t: feed.t as usize,
+        t: usize::from(feed.t),
         i: b,
     }
 }
@@ -176,17 +159,15 @@ pub fn deliver_all(
         × Calm (feed_of plan.now work.old feed) sets.old before }
     ensures { Delivered (feed_of plan.now work.old feed) ends values.now before result sets.old sets.new work.new feed.rules.n }
 {
+    let t = usize::from(feed.t);
     let due = together(feed.arrivals);
-    let live = feed.arrivals.live;
     let mut after = before;
-    let mut b: usize = 0;
-    while b < feed.rules.n {
-        let row = calendar::row(feed.t as usize, b);
+    for b in 0..feed.rules.n {
+        let row = calendar::row(t, b);
         let high = calendar::high(work, row);
-        let s = after[b];
-        if is_reached(high, has(due, b), s.pending, live) {
+        if is_reached(high, has(due, b), after[b].pending, feed.arrivals.live) {
             after[b] = deliver(
-                s,
+                after[b],
                 work,
                 plan,
                 sets,
@@ -199,7 +180,6 @@ pub fn deliver_all(
         if high != 0 {
             calendar::clear(work, row);
         }
-        b += 1;
     }
     after
 }
@@ -216,19 +196,14 @@ pub fn cure_all(
     ensures { Cured feed.rules feed.m feed.t before result
         × Posted work.old work.new (cure_replies plan.now feed.links feed.rules feed.t ends before) }
 {
-    let t = feed.t;
-    let rules = feed.rules;
+    let Feed { t, rules, .. } = feed;
     let mut after = before;
-    let mut b: usize = 0;
-    while b < rules.n {
+    for b in 0..rules.n {
         let s = after[b];
-        let status = s.status;
-        if servers::is_cured_at(status, t, rules.delta) {
+        if servers::is_cured_at(s.status, t, rules.delta) {
             after[b] = s.cure_end(t, rules.delta);
-            let kept = s.kept;
-            sending::reply(work, plan, sender(feed, b), s.pending, kept, ends);
+            sending::reply(work, plan, sender(feed, b), s.pending, s.kept, ends);
         }
-        b += 1;
     }
     after
 }
@@ -244,12 +219,9 @@ pub fn move_all(before: [Server; SERVERS], sets: &mut [u16], feed: Feed) -> [Ser
     let rules = feed.rules;
     tallies::next_period(sets, tallies::of_server(rules.n), rules.two);
     let mut after = before;
-    let mut b: usize = 0;
-    while b < rules.n {
-        let s = after[b];
+    for b in 0..rules.n {
         let faulty = has(feed.movement.faulty, SERVERS - 1 - b);
-        after[b] = s.moved(sets, b, faulty, feed.t);
-        b += 1;
+        after[b] = after[b].moved(sets, b, faulty, feed.t);
     }
     after
 }
@@ -262,15 +234,11 @@ pub fn echo_all(servers: [Server; SERVERS], work: &mut [u8], plan: &[u8], feed: 
     if !feed.movement.moving {
         return;
     }
-    let mut b: usize = 0;
-    while b < feed.rules.n {
+    for b in 0..feed.rules.n {
         let s = servers[b];
-        let status = s.status;
-        if servers::is_correct(status) {
-            let kept = s.kept;
-            sending::echo(work, plan, sender(feed, b), kept);
+        if servers::is_correct(s.status) {
+            sending::echo(work, plan, sender(feed, b), s.kept);
         }
-        b += 1;
     }
 }
 
@@ -282,15 +250,13 @@ pub fn start(initial: u32) -> Cluster
         number: 0,
         value: initial,
     };
-    let kept = stores::insert(stores::none(), first);
-    let correct = serving::Status::Correct;
     let s = Server {
-        status: correct,
-        kept,
+        status: Status::Correct,
+        kept: stores::insert(stores::none(), first),
         pending: 0,
     };
     Cluster {
         servers: [s; SERVERS],
-        ends: [0u8; READERS],
+        ends: [0; READERS],
     }
 }

@@ -1,7 +1,7 @@
 -- What the code chooses is the answer of the read: pairs that are not known have no quorum, since a pair with one is genuine.
 -- It stands on the safety of reads (register).
 use mathlib.Core.Path.{◌≡◌, refl, sym, ap, ◌∙◌}
-use mathlib.Core.Bool.{Bool, true, false, ◌&&◌}
+use mathlib.Core.Bool.{Bool, ◌&&◌}
 use mathlib.Core.Logic.{◌⊎◌, inl, inr}
 use mathlib.Core.List.{List, [], ◌∷◌}
 use Prim.Native.Nat.{ℕ, zero, suc, ◌≤◌, ◌<◌}
@@ -18,6 +18,7 @@ use Rattle.register.proofs.Good.{Good}
 use Rattle.register.proofs.ReadSafety.{quorum_genuine, answer_from_lem}
 use Rattle.tables.specs.Known.{Knows}
 use Rattle.limits.proofs.Bits.{count_cut}
+use Rattle.std.specs.Prelude.{Option, Some, None}
 use Rattle.reading.specs.declared.Choice.{Choice}
 use Rattle.reading.specs.Choosing.{highest_of, answer_by}
 
@@ -26,18 +27,18 @@ votes : (ℕ → ℕ → Bool) → ℕ → ℕ
 votes named j = count (named j) 16
 
 -- the choice: j is the highest pair below m with a quorum, or none has one
-record Found (named : ℕ → ℕ → Bool) (reply m j : ℕ) (c : Choice) : Type 0 where
+record Found (named : ℕ → ℕ → Bool) (reply m j : ℕ) (c : Option Choice) : Type 0 where
   below : j < m
-  is : c ≡ record { found = true; number = j; count = votes named j }
+  is : c ≡ Some (record { number = j; count = votes named j })
   enough : reply ≤ votes named j
   top : (k : ℕ) → k < m → reply ≤ votes named k → k ≤ j
 
-record Nothing (named : ℕ → ℕ → Bool) (reply m : ℕ) (c : Choice) : Type 0 where
-  is : c ≡ record { found = false; number = 0; count = 0 }
+record Nothing (named : ℕ → ℕ → Bool) (reply m : ℕ) (c : Option Choice) : Type 0 where
+  is : c ≡ None
   none : (k : ℕ) → k < m → reply ≤ votes named k → ⊥
 
 module _ (named : ℕ → ℕ → Bool) (reply : ℕ) where
-  abbrev Cases : ℕ → Choice → Type 0
+  abbrev Cases : ℕ → Option Choice → Type 0
   Cases m c = ((j : ℕ) × Found named reply m j c) ⊎ Nothing named reply m c
 
   choice-more : (m : ℕ) → Cases m (highest_of named reply m) → Cases (suc m) (highest_of named reply (suc m))

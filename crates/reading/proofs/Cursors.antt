@@ -2,13 +2,13 @@
 -- It stands on the definitions alone.
 use mathlib.Core.Path.{◌≡◌, refl, ap, ◌∙◌}
 use mathlib.Core.List.{List, [], ◌++◌, append-nil}
-use Prim.Native.Nat.{ℕ, zero, suc, ◌+◌, ◌*◌, ◌-◌, ◌≤◌, ◌<◌}
-use native.Mathlib.Nat.{zero-mul, mul-le-mul_left}
+use Prim.Native.Nat.{ℕ, zero, suc, ◌+◌, ◌-◌, ◌≤◌, ◌<◌}
+use native.Mathlib.Nat.{zero-mul}
 use native.Mathlib.Omega.{arith}
 use native.Mathlib.Decide.{dec_le, ℕ_discrete}
 use lib.ListN.{length, get_or, set, take, drop, length-set, length-drop, drop_of_length-le}
 use lib.Seq.{get_or-set_same, get_or-set_other}
-use mathlib.Core.Bool.{true, false}
+use mathlib.Core.Bool.{false}
 use mathlib.Core.Logic.{inl, inr}
 use borrow.Rule.Slice.PartMut.{put_mid}
 use borrow.Author.Tests.{lt-ltb, ltb-false}
@@ -17,9 +17,10 @@ use Rattle.tables.specs.declared.Known.{Known}
 use Rattle.tables.specs.Known.{pair_at}
 use Rattle.limits.specs.Limits.{places}
 use Rattle.tallies.specs.Tallies.{of_reader, Outside, Emptied}
+use Rattle.std.specs.Prelude.{Some, None}
 use Rattle.reading.specs.declared.Choice.{Choice}
 use Rattle.reading.specs.Choosing.{answer_by}
-use Rattle.reading.specs.Reading.{Until, There, is_before, placed_at, placed, begun_by, SetUp}
+use Rattle.reading.specs.Reading.{Until, is_before, placed_at, placed, begun_by, SetUp}
 
 -- ---- cursors
 
@@ -35,41 +36,20 @@ module _ (begun : List ℕ) (m : ℕ) where
     next = B.next;
   }
 
-  module _ (k u i : ℕ) (lo : k ≤ i) (below : (j : ℕ) → k ≤ j → j < i → get_or begun j 0 < u) where
-    pub until_found : i < m → u ≤ get_or begun i 0 → Until begun m k u i
-    until_found l h = record { from = lo; few = omega arith; below = below; next = λ n. h }
-
-    pub until_passed : get_or begun i 0 < u → (j : ℕ) → k ≤ j → j < i + 1 → get_or begun j 0 < u
-    until_passed h j a b = elim (ℕ_discrete j i) [ yes e ↦ rw e h | no d ↦ below j a (omega arith) ]
-
-    pub until_last : m ≤ i → i ≤ m → Until begun m k u m
-    until_last l h = record { from = omega arith; few = omega arith; below = λ j a b. below j a (omega arith); next = λ n. absurd (omega arith) }
-
   -- read k is not due yet
   pub until_still : (k u : ℕ) → k ≤ m → is_before begun m k u ≡ false → Until begun m k u k
   until_still k u h e = record { from = omega arith; few = h; below = λ i a b. absurd (omega arith); next = λ l. ltb-false (get_or begun k 0) u (rw (lt-ltb k m l) at e) }
 
-pub there_part : (by : List ℕ) (m : ℕ) → There by 0 m → (k r : ℕ) → k ≤ r → r ≤ m → There by k r
-there_part by m A k r h l = record { ordered = h; few = omega (arith, A.few); readers = λ i a b. A.readers i (omega arith) (omega arith) }
-
 -- ---- answers
 
-pub answer_none : (w : ℕ) (g : ℕ → ℕ) (c : Choice) → c.found ≡ false → answer_by g c ≡ record { pair = stamped w 0 0; count = 0 }
+pub answer_none : (w : ℕ) (g : ℕ → ℕ) → answer_by g None ≡ record { pair = stamped w 0 0; count = 0 }
 unfolding answer_by stamped
-answer_none w g c e = rw (e, zero-mul)
+answer_none w g = rw zero-mul
 
-pub answer_found : (w : ℕ) (known : Known) (c : Choice) → c.found ≡ true
-    → answer_by (pair_at w known) c ≡ record { pair = stamped w (get_or known.values c.number 0) c.number; count = c.count }
+pub answer_found : (w : ℕ) (known : Known) (c : Choice)
+    → answer_by (pair_at w known) (Some c) ≡ record { pair = stamped w (get_or known.values c.number 0) c.number; count = c.count }
 unfolding answer_by
-answer_found w known c e = rw e
-
--- fewer answers fit too
-pub fewer_fit : (size a b n : ℕ) → a ≤ b → size * b ≤ n → size * a ≤ n
-fewer_fit size a b n h l = omega (arith, mul-le-mul_left {m = a} {n = b} size h)
-
--- an answer before the last one lies in the buffer
-pub answer_room : (size i to n : ℕ) → i < to → size * to ≤ n → size * i + size ≤ n
-answer_room size i to n h l = omega (arith, mul-le-mul_left {m = suc i} {n = to} size h)
+answer_found w known c = refl
 
 -- the whole, when the part from place a on comes back from a callee
 pub part_back : (a : ℕ) (s t : List ℕ) → put_mid a (length s - a) s t ≡ take a s ++ t

@@ -7,25 +7,18 @@ ghost use Rattle.reading.specs.Choosing.{highest_of};
 use super::Choice;
 
 // The highest number below m that at least `reply` servers named: who named pair j stands in cell at + j.
-pub fn chosen(sets: &[u16], at: usize, m: usize, reply: u32) -> Choice
+pub fn chosen(sets: &[u16], at: usize, m: usize, reply: u32) -> Option<Choice>
     requires { (m ≤ places) × (at + m ≤ length sets.now) }
     ensures { result ≡ highest_of (λ j i. holds sets.now (at + j) i) reply m }
 {
-    let mut j = m;
-    while 0 < j {
-        j -= 1;
-        let count = u16::count_ones(sets[at + j]);
+    for j in (0..m).rev() {
+        let count = sets[at + j].count_ones();
         if reply <= count {
-            return Choice {
-                found: true,
+            return Some(Choice {
                 number: j as u8,
-                count: count,
-            };
+                count,
+            });
         }
     }
-    Choice {
-        found: false,
-        number: 0,
-        count: 0,
-    }
+    None
 }

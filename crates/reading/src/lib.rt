@@ -12,7 +12,7 @@ ghost use Rattle.requests.specs.Requests.{requests_end};
 ghost use Rattle.script.specs.Script.{width_in};
 ghost use Rattle.reading.specs.Reading.{Until, There, chosen_bytes, placed, begun_by, SetUp, is_before, Begun, WentOn};
 
-use limits::{READERS, size_of};
+use limits::READERS;
 use requests::asking::ask_all;
 use script::Script;
 use tables::Known;
@@ -28,10 +28,9 @@ pub struct Reading {
     pub answered: usize,
 }
 
-// The pair that a reader chooses, if there is one, and how many servers named it.
+// The pair that a reader chooses, and how many servers named it.
 #[derive(Clone, Copy)]
 pub struct Choice {
-    pub found: bool,
     pub number: u8,
     pub count: u32,
 }
@@ -41,12 +40,10 @@ pub fn first_from(begun: &[u8; TABLE_READS], m: usize, k: usize, u: usize) -> us
     requires { (k ≤ m) × (m ≤ 255) }
     ensures { Until begun.now m k u result }
 {
-    let mut i = k;
-    while i < m {
-        if u <= size_of(begun[i]) {
+    for i in k..m {
+        if u <= usize::from(begun[i]) {
             return i;
         }
-        i += 1;
     }
     m
 }
@@ -57,22 +54,19 @@ fn answer(out: &mut [u8], width: u8, sets: &[u16], known: Known, reply: u32, beg
     ensures { out.new ≡ answer_bytes width (record { begun = begun; reader = reader })
         (answer_by (pair_at width known) (highest_of (λ j k. holds sets.now (of_reader (reader - 1) + j) k) reply known.m)) ++ drop (answer_size width) out.old }
 {
-    let at = tallies::of_reader(size_of(reader) - 1);
-    let choice = choose::chosen(sets, at, known.m, reply);
-    if !choice.found {
-        answers::write(out, width, begun, reader, 0, 0, 0);
-        return;
+    let at = tallies::of_reader(usize::from(reader) - 1);
+    match choose::chosen(sets, at, known.m, reply) {
+        None => answers::write(out, width, begun, reader, 0, 0, 0),
+        Some(choice) => answers::write(
+            out,
+            width,
+            begun,
+            reader,
+            known.values[usize::from(choice.number)],
+            choice.number,
+            choice.count,
+        ),
     }
-    let number = choice.number as usize;
-    answers::write(
-        out,
-        width,
-        begun,
-        reader,
-        known.values[number],
-        choice.number,
-        choice.count,
-    );
 }
 
 // Writes the answers of the reads from .. to - 1, each at its own bytes.
@@ -81,26 +75,18 @@ pub fn end_all(answers: &mut [u8], sets: &[u16], script: Script, from: usize, to
         × (answer_size (width_in script) * to ≤ length answers.old) × (length sets.now ≡ table_size) }
     ensures { answers.new ≡ placed (width_in script) (chosen_bytes (width_in script) sets.now script.reads script.writes.known script.rules.reply) from (to - from) answers.old }
 {
-    let reads = script.reads;
-    let writes = script.writes;
-    let known = writes.known;
-    let reply = script.rules.reply;
     let width = script.shape.width;
     let size = answers::size(width);
-    let mut i = from;
-    while i < to {
-        let reader = reads.reader[i];
-        let begun = reads.begun[i];
+    for i in from..to {
         answer(
             &mut answers[size * i..],
             width,
             sets,
-            known,
-            reply,
-            begun,
-            reader,
+            script.writes.known,
+            script.rules.reply,
+            script.reads.begun[i],
+            script.reads.reader[i],
         );
-        i += 1;
     }
 }
 
@@ -117,12 +103,10 @@ pub fn begin_all(
     ensures { (result ≡ begun_by by.now end from (to - from) before) × SetUp by.now from (to - from) sets.old sets.new }
 {
     let mut ends = before;
-    let mut i = from;
-    while i < to {
-        let x = size_of(by[i]) - 1;
+    for i in from..to {
+        let x = usize::from(by[i]) - 1;
         tallies::empty(sets, tallies::of_reader(x));
         ends[x] = end;
-        i += 1;
     }
     ends
 }
@@ -131,12 +115,7 @@ pub fn begin_all(
 fn ended_by(t: u8, delta: u8) -> usize
     ensures { result ≡ t + 1 - 2 * delta }
 {
-    let next = size_of(t) + 1;
-    let lasts = 2 * size_of(delta);
-    if next < lasts {
-        return 0;
-    }
-    next - lasts
+    (usize::from(t) + 1).saturating_sub(2 * usize::from(delta))
 }
 
 // Does read k, of m, begin before tick u.
@@ -144,10 +123,7 @@ fn is_before(begun: &[u8; TABLE_READS], m: usize, k: usize, u: usize) -> bool
     requires { m ≤ 255 }
     ensures { result ≡ is_before begun.now m k u }
 {
-    if m <= k {
-        return false;
-    }
-    size_of(begun[k]) < u
+    k < m && usize::from(begun[k]) < u
 }
 
 // Does the next read begin in tick t, or the next one that is open end in it. In most ticks: no.
@@ -162,10 +138,7 @@ pub fn is_due(
     requires { m ≤ 255 }
     ensures { result ≡ is_before begun.now m next (t + 1) || is_before begun.now m first (t + 1 - 2 * delta) }
 {
-    if is_before(begun, m, next, size_of(t) + 1) {
-        return true;
-    }
-    is_before(begun, m, first, ended_by(t, delta))
+    is_before(begun, m, next, usize::from(t) + 1) || is_before(begun, m, first, ended_by(t, delta))
 }
 
 // 'Reads end, then reads begin' in tick t.
@@ -182,21 +155,19 @@ pub fn go_on(
         × (requests_end ≤ length work.old) × (length sets.old ≡ table_size) }
     ensures { WentOn plan.now script t r result answers.old answers.new work.old work.new sets.old sets.new }
 {
-    let rules = script.rules;
-    let delta = rules.delta;
-    let reads = script.reads;
+    let reads = &script.reads;
+    let delta = script.rules.delta;
     let ended = first_from(&reads.begun, reads.m, r.answered, ended_by(t, delta));
     end_all(answers, sets, script, r.answered, ended);
     let from = r.begun;
-    let before = r.ends;
-    let began = first_from(&reads.begun, reads.m, from, size_of(t) + 1);
-    let ends = begin_all(before, sets, &reads.reader, from, began, t + 2 * delta);
+    let began = first_from(&reads.begun, reads.m, from, usize::from(t) + 1);
+    let ends = begin_all(r.ends, sets, &reads.reader, from, began, t + 2 * delta);
     ask_all(
         work,
         plan,
         script.links,
-        rules.n,
-        t as usize,
+        script.rules.n,
+        usize::from(t),
         &reads.reader,
         from,
         began,

@@ -16,29 +16,25 @@ fn reached(work: &[u8], t: usize) -> [u16; REQUESTERS]
     requires { requests_end ≤ length work.now }
     ensures { Reached work.now t result }
 {
-    let mut r = [0u16; REQUESTERS];
-    let mut p: usize = 0;
-    while p < REQUESTERS {
-        r[p] = requests::reached(work, t, p);
-        p += 1;
+    let mut reached = [0; REQUESTERS];
+    for p in 0..REQUESTERS {
+        reached[p] = requests::reached(work, t, p);
     }
-    r
+    reached
 }
 
 // The readers whose last read did not begin in the tick before t: `ends` has the ticks in which these reads end, 2δ after their begins.
 fn live(ends: [u8; READERS], t: u8, delta: u8) -> u8
     ensures { (λ x. bit x result) ≡ live_at ends t delta }
 {
-    let fresh = t as usize + 2 * (delta as usize);
-    let mut r: u8 = 0;
-    let mut x: usize = 1;
-    while x < REQUESTERS {
-        if limits::size_of(ends[x - 1]) + 1 != fresh {
-            r = r | (1 << x);
+    let fresh = usize::from(t) + 2 * usize::from(delta);
+    let mut readers = 0;
+    for x in 1..REQUESTERS {
+        if usize::from(ends[x - 1]) + 1 != fresh {
+            readers |= 1 << x;
         }
-        x += 1;
     }
-    r
+    readers
 }
 
 // The requests that arrive in tick t; `number` is that of the last write begun.
@@ -46,12 +42,10 @@ pub fn arrivals(work: &[u8], number: u8, ends: [u8; READERS], t: u8, delta: u8) 
     requires { requests_end ≤ length work.now }
     ensures { Arrive work.now number ends t delta result }
 {
-    let requests = reached(work, t as usize);
-    let live = live(ends, t, delta);
     Arrivals {
-        requests,
+        requests: reached(work, usize::from(t)),
         number,
-        live,
+        live: live(ends, t, delta),
     }
 }
 
@@ -89,16 +83,12 @@ pub fn feed_of(
     requires { Decoded plan.now script × (t < script.shape.ticks) × (requests_end ≤ length work.now) }
     ensures { FedBy plan.now work.now script written ends t result }
 {
-    let rules = script.rules;
-    let links = script.links;
-    let arrivals = arrivals(work, written, ends, t, rules.delta);
-    let movement = movement(plan, script.shape, t);
     Feed {
-        t: t,
-        rules: rules,
+        t,
+        rules: script.rules,
         m: script.writes.known.m,
-        links: links,
-        arrivals: arrivals,
-        movement: movement,
+        links: script.links,
+        arrivals: arrivals(work, written, ends, t, script.rules.delta),
+        movement: movement(plan, script.shape, t),
     }
 }

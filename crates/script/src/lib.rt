@@ -36,21 +36,18 @@ fn enter(plan: &[u8], work: &mut [u8], header: Shape, links: Links, writes: Writ
     ensures { Entered header.width plan.now work.old work.new writes.known.values writes.known.m result }
 {
     let at = header.forgeries_at();
-    let byte = at / 8;
-    let count = header.forgeries as usize;
-    let known = writes.known;
-    let values = known.values;
+    let count = usize::from(header.forgeries);
     entries::fill(
         work,
-        &plan[byte..],
+        &plan[at / 8..],
         at % 8,
         header.width,
         count,
         plan,
         links,
-        header.n as usize,
-        &values,
-        known.m,
+        usize::from(header.n),
+        &writes.known.values,
+        writes.known.m,
     );
     entries::starts(work, count)
 }
@@ -64,16 +61,16 @@ pub fn read(plan: &[u8], width: u8, work: &mut [u8]) -> Script
     let rules = rules_of(header);
     let links = links_of(header);
     let at = header.operations_at();
-    let count = header.operations as usize;
+    let count = usize::from(header.operations);
     let writes = operations::writes_of(plan, at, width, count, header.initial);
     let reads = operations::reads_of(plan, at, width, count);
     let starts = enter(plan, work, header, links, writes);
     Script {
         shape: header,
-        rules: rules,
-        links: links,
-        writes: writes,
-        reads: reads,
-        starts: starts,
+        rules,
+        links,
+        writes,
+        reads,
+        starts,
     }
 }

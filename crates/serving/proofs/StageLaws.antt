@@ -9,7 +9,7 @@ use lib.Dec.{leb, ltb}
 use lib.ListN.{take}
 use lib.Bits.{bit_or, bit_and}
 use lib.Count.{ones}
-use borrow.Author.Tests.{lt-ltb, le-leb, lt-leb, ltb-true}
+use borrow.Author.Tests.{lt-ltb, le-leb, ltb-true}
 use Rattle.register.specs.Lists.{same_list, one_if}
 use Rattle.register.specs.Server.{Status, faulty, cured, correct, is_correct, insert}
 use Rattle.register.proofs as register-laws
@@ -31,11 +31,8 @@ zero_set = fun_ext bit_zero
 -- ---- quorums
 
 module _ (e r f o : ℕ) (h : f < 2 ^ 16) (g : o < 2 ^ 16) where
-  pub quorate_yes : e ≤ ones f → true ≡ quorate e r (λ i. bit i f) (λ i. bit i o)
-  quorate_yes l = rw (← ones_count 16 f h, le-leb e (ones f) l)
-
-  pub quorate_no : ones f < e → leb r (ones o) ≡ quorate e r (λ i. bit i f) (λ i. bit i o)
-  quorate_no l = rw (← ones_count 16 f h, lt-leb e (ones f) l, ones_count 16 o g)
+  pub quorate_law : quorate e r (λ i. bit i f) (λ i. bit i o) ≡ (leb e (ones f) || leb r (ones o))
+  quorate_law = rw (ones_count 16 f h, ones_count 16 o g)
 
 -- a pair in the span
 pub in_span_lem : (low high j : ℕ) (b v : Bool) → low ≤ j → j < high → v ≡ b → in_span low high j && v ≡ b

@@ -31,7 +31,3 @@ module _ (v : ℕ → Bool) (low high : ℕ) where
     | yes d ↦ sym (taken_past (λ j. in_span low high j && v j) n m l d (λ j a b. rw (le-ltb j high (omega (arith, e (omega arith))), and-false (leb low j))))
     | no d ↦ taken_below n l (f (omega arith)) ∙ sym (taken_below m l (omega (arith, f (omega arith))))
   ]
-
--- the lower of two numbers, below the second, is the first
-pub lower_first : (a b r : ℕ) → (a ≤ b → a ≤ r) → (b ≤ a → b ≤ r) → r < b → a ≤ r
-lower_first a b r e f h = elim (dec_le a b) [ yes d ↦ e d | no d ↦ absurd (omega (arith, f (omega arith))) ]

@@ -24,13 +24,11 @@ pub struct Delivered {
 fn replied(correct: bool, same: bool, asks: u8, pending: u8) -> u8
     ensures { result ≡ cond correct (cond same asks pending) 0 }
 {
-    if correct {
-        if same {
-            return asks;
-        }
-        return pending;
+    match (correct, same) {
+        (false, _) => 0,
+        (true, true) => asks,
+        (true, false) => pending,
     }
-    0
 }
 
 impl Server {
@@ -39,13 +37,12 @@ impl Server {
         requires { (m ≤ places) × (length values.now ≡ places) }
         ensures { Becomes (with_write m wrote) self result × (Valued values.now self.kept → Valued values.now result.kept) }
     {
-        let at = wrote as usize;
+        let at = usize::from(wrote);
         if at < m {
-            let p = Stamped {
+            return self.write(Stamped {
                 number: wrote,
                 value: values[at],
-            };
-            return self.write(p);
+            });
         }
         self
     }
@@ -62,18 +59,14 @@ impl Server {
             × Settled turn.m turn.rules.echo turn.rules.reply (server turn.m sets.old turn.server self) }
         ensures { DeliveredTo work.now values.now turn self result sets.old sets.new }
     {
-        let before = self.kept;
-        let status = self.status;
         let written = self.take_write(turn.wrote, values, turn.m);
         let mut server = written.vote(sets, work, values, turn);
-        let kept = server.kept;
-        let pending = (self.pending & turn.live) | turn.asks;
-        server.pending = pending;
+        server.pending = (self.pending & turn.live) | turn.asks;
         let readers = replied(
-            servers::is_correct(status),
-            stores::is_same(before, kept),
+            servers::is_correct(self.status),
+            stores::is_same(self.kept, server.kept),
             turn.asks,
-            pending,
+            server.pending,
         );
         Delivered { server, readers }
     }
@@ -83,12 +76,13 @@ impl Server {
         requires { (length sets.old ≡ table_size) × (b < most_servers) }
         ensures { MovedTo b faulty t self result sets.old sets.new }
     {
-        let status = self.status;
         if faulty {
-            let blank = self.wipe(sets, b, t);
-            return blank.restated(Status::Faulty);
+            return Server {
+                status: Status::Faulty,
+                ..self.wipe(sets, b, t)
+            };
         }
-        if servers::is_faulty(status) {
+        if servers::is_faulty(self.status) {
             return self.wipe(sets, b, t);
         }
         self

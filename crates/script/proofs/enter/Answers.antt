@@ -8,16 +8,16 @@ pub slice_bounds-fill-count : goal.slice_bounds-fill-count
 slice_bounds-fill-count c = part_starts c.args.header.width c.args.plan.now c.requires.0 c.args.header c.requires.2 _ c.forgeries_at-at.ensures.0
 
 pub fill-requires : goal.fill-requires
-fill-requires c = fillable c.args.header.width c.args.plan.now c.requires.0 c.args.header c.requires.2 _ c.forgeries_at-at.ensures.0
-    c.args.links c.requires.3 c.requires.1 _ _ c.requires.4 c.requires.5
+fill-requires c = rw (c.from-count.ensures, c.from.ensures) (fillable c.args.header.width c.args.plan.now c.requires.0 c.args.header c.requires.2 _ c.forgeries_at-at.ensures.0
+    c.args.links c.requires.3 c.requires.1 _ _ c.requires.4 c.requires.5)
 
 pub starts-requires : goal.starts-requires
-starts-requires c = ((shape_ranged c.args.header.width c.args.plan.now c.requires.0 c.args.header c.requires.2).forgeries_hi, omega (arith, c.requires.4, c.fill.ensures.size))
+starts-requires c = (rw c.from-count.ensures (shape_ranged c.args.header.width c.args.plan.now c.requires.0 c.args.header c.requires.2).forgeries_hi, omega (arith, c.requires.4, c.fill.ensures.size))
 
 pub returns : goal.returns
 returns c = let f = c.forgeries_at-at in
     forged c.args.header.width c.args.plan.now c.requires.0 c.args.header c.requires.2 _ f.ensures.0 c.args.links c.requires.3 _ _ _ _ _
-    c.fill.ensures c.starts.ensures
+    (rw c.from-count.ensures at c.fill.ensures) (rw c.from-count.ensures at c.starts.ensures)
 
 pub forgeries_at-at-requires : goal.forgeries_at-at-requires
 forgeries_at-at-requires c = (shape_ranged c.args.header.width c.args.plan.now c.requires.0 c.args.header c.requires.2, c.requires.1)

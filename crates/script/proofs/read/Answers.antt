@@ -18,12 +18,12 @@ pub writes_of-writes-requires : goal.writes_of-writes-requires
 writes_of-writes-requires c = let x = c.read-header in
     let w = c.args.width in
     let at = rw x.ensures.1 at c.operations_at-at.ensures.0 in
-    (operations_room w c.args.plan.now c.requires.0 x.result x.ensures.0 _ at c.requires.1, initial_narrow w _ x.result x.ensures.0)
+    (rw c.from-count.ensures (operations_room w c.args.plan.now c.requires.0 x.result x.ensures.0 _ at c.requires.1), initial_narrow w _ x.result x.ensures.0)
 
 pub reads_of-reads-requires : goal.reads_of-reads-requires
 reads_of-reads-requires c = let x = c.read-header in
     let at = rw x.ensures.1 at c.operations_at-at.ensures.0 in
-    operations_room c.args.width c.args.plan.now c.requires.0 x.result x.ensures.0 _ at c.requires.1
+    rw c.from-count.ensures (operations_room c.args.width c.args.plan.now c.requires.0 x.result x.ensures.0 _ at c.requires.1)
 
 pub enter-starts-requires : goal.enter-starts-requires
 enter-starts-requires c = let x = c.read-header in
@@ -42,8 +42,8 @@ returns c = let x = c.read-header in
         header = rw e same;
         rules = rw (e, ← same) c.rules_of-rules.ensures;
         links = rw (e, ← same) (rw e at c.links_of-links.ensures);
-        writes = rw e (rw (writes_same w plan c.requires.0 x.result same _ at, ap (λ (h : Header). h.initial) same) at c.writes_of-writes.ensures);
-        reads = rw e (rw (reads_same w plan c.requires.0 x.result same _ at) at c.reads_of-reads.ensures);
+        writes = rw e (rw (writes_same w plan c.requires.0 x.result same _ at, ap (λ (h : Header). h.initial) same) at (rw c.from-count.ensures at c.writes_of-writes.ensures));
+        reads = rw e (rw (reads_same w plan c.requires.0 x.result same _ at) at (rw c.from-count.ensures at c.reads_of-reads.ensures));
         forged = c.enter-starts.ensures;
       },
       e,

@@ -1,10 +1,6 @@
 -- `tick::cure_all` meets its contract. The loop's invariant: the cures of the servers before b have ended.
-use Prim.Native.Nat.{◌-◌, ◌≤◌}
 use Rattle.cluster.proofs.StageRuns.{Curing}
 use Rattle.cluster.proofs.tick.cure_all.Given as goal
 
 abbrev pub invariant-loop-b : goal.invariant-loop-b
-invariant-loop-b l = (l.b ≤ l.rules.n) × Curing l.plan l.feed.links l.rules l.feed.m l.t l.ends l.initial.after l.initial.work l.after l.work l.b
-
-abbrev pub decreases-loop-b : goal.decreases-loop-b
-decreases-loop-b l = l.rules.n - l.b
+invariant-loop-b l = Curing l.plan l.feed.links l.rules l.feed.m l.t l.ends l.initial.after l.initial.work l.after l.work l.b

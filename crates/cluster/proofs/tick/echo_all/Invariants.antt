@@ -1,10 +1,6 @@
 -- `tick::echo_all` meets its contract. The loop's invariant: the servers before b have echoed.
-use Prim.Native.Nat.{◌-◌, ◌≤◌}
 use Rattle.cluster.proofs.StageRuns.{Echoing}
 use Rattle.cluster.proofs.tick.echo_all.Given as goal
 
 abbrev pub invariant-loop-b : goal.invariant-loop-b
-invariant-loop-b l = (l.b ≤ l.feed.rules.n) × Echoing l.plan l.feed.links l.feed.rules l.feed.t l.feed.movement l.servers l.initial.work l.work l.b
-
-abbrev pub decreases-loop-b : goal.decreases-loop-b
-decreases-loop-b l = l.feed.rules.n - l.b
+invariant-loop-b l = Echoing l.plan l.feed.links l.feed.rules l.feed.t l.feed.movement l.servers l.initial.work l.work l.b

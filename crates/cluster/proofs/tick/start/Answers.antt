@@ -7,5 +7,5 @@ use Rattle.cluster.proofs.tick.start.Goals as goal
 pub returns : goal.returns
 unfolding insert
 returns c = let n = c.none.ensures in
-    let k = c.insert-kept.ensures in
+    let k = c.insert.ensures in
     started _ _ (k.0 ∙ rw n.0) (λ values e. k.1 values (n.1 values) (λ h. sym e))

@@ -2,17 +2,16 @@
 use mathlib.Core.Path.{◌≡◌, fun_ext}
 use native.Mathlib.Numerals.{add-one}
 use native.Mathlib.Omega.{arith}
-use borrow.Author.Rules.{rules}
 use Rattle.cluster.specs.Inputs.{requesters, is_asked}
 use Rattle.cluster.proofs.Asking.{joined_none, joined_more}
 use Rattle.cluster.proofs.tick.together.Goals as goal
 
 pub loop-p-init : goal.loop-p-init
-loop-p-init c = (search rules, joined_none c.args.arrivals.requests)
+loop-p-init c = joined_none c.args.arrivals.requests
 
 pub loop-p-preserved : goal.loop-p-preserved
-loop-p-preserved c = let h = c.loop-p in (omega arith, rw (add-one h.p) (joined_more c.args.arrivals.requests h.r h.p h.invariant.1))
+loop-p-preserved c = let h = c.loop-p in rw (add-one h.p) (joined_more c.args.arrivals.requests h.all h.p h.invariant)
 
 pub returns : goal.returns
 unfolding is_asked
-returns c = let e : c.loop-p.p ≡ requesters = omega (arith, c.loop-p-test.false, c.loop-p.invariant.0) in fun_ext (rw e at c.loop-p.invariant.1)
+returns c = let e : c.loop-p.p ≡ requesters = omega arith in fun_ext (rw e at c.loop-p.invariant)

@@ -1,6 +1,6 @@
 -- `choose::chosen` meets its contract. The loop's invariant: no pair from j on has a quorum.
 use native.Mathlib.Omega.{arith}
-use mathlib.Core.Path.{◌≡◌, refl, sym, ap, ◌∙◌}
+use mathlib.Core.Path.{◌≡◌, sym, ap, ◌∙◌}
 use mathlib.Core.Bool.{Bool}
 use Prim.Native.Nat.{ℕ, suc, ◌<◌, ◌+◌, ◌-◌, ◌^◌}
 use lib.ListN.{get_or}
@@ -19,7 +19,7 @@ module _ (c : In-loop-j) where
   named y i = holds c.args.sets.now (c.args.at + y) i
 
   above : highest_of named c.args.reply c.args.m ≡ highest_of named c.args.reply (suc (c.loop-j.j - 1))
-  above = let z : c.loop-j.j ≡ suc (c.loop-j.j - 1) = omega (arith, c.loop-j-test.true) in c.loop-j.invariant.3 ∙ ap (highest_of named c.args.reply) z
+  above = let z : c.loop-j.j ≡ suc (c.loop-j.j - 1) = omega arith in c.loop-j.invariant ∙ ap (highest_of named c.args.reply) z
 
   size : get_or c.args.sets.now (c.args.at + (c.loop-j.j - 1)) 0 < 2 ^ 16 → ones (get_or c.args.sets.now (c.args.at + (c.loop-j.j - 1)) 0) ≡ count (named (c.loop-j.j - 1)) 16
   size fits = ones_count 16 (get_or c.args.sets.now (c.args.at + (c.loop-j.j - 1)) 0) fits
@@ -29,13 +29,9 @@ returns-then-reply-count c = let d = (goal.at.returns-then-reply-count c).In-loo
     highest_here (named d) _ _ _ _ (above d) (size d (omega (arith, c.type_inv.sets (c.args.at + (c.loop-j.j - 1))))) c.if-reply-count.true
 
 pub loop-j-preserved : goal.loop-j-preserved
-loop-j-preserved c = let h = c.loop-j.invariant in
-    let d = (goal.at.loop-j-preserved c).In-loop-j in
-    (omega (arith, h.0), h.1, h.2, highest_below (named d) _ _ _ _ (above d) (size d (omega (arith, c.type_inv.sets (c.args.at + (c.loop-j.j - 1))))) c.if-reply-count.false)
+loop-j-preserved c = let d = (goal.at.loop-j-preserved c).In-loop-j in
+    highest_below (named d) _ _ _ _ (above d) (size d (omega (arith, c.type_inv.sets (c.args.at + (c.loop-j.j - 1))))) c.if-reply-count.false
 
 pub returns : goal.returns
 unfolding highest_of
-returns c = let l = c.loop-j in let e : l.j ≡ 0 = omega (arith, c.loop-j-test.false) in sym (l.invariant.3 ∙ rw e)
-
-pub loop-j-init : goal.loop-j-init
-loop-j-init c = (omega arith, c.requires.0, c.requires.1, refl)
+returns c = let l = c.loop-j in let e : l.j ≡ 0 = omega arith in sym (l.invariant ∙ rw e)

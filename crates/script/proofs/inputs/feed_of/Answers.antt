@@ -3,8 +3,8 @@ use mathlib.Core.Path.{refl}
 use Rattle.script.proofs.Feeding.{movement_there}
 use Rattle.script.proofs.inputs.feed_of.Goals as goal
 
-pub movement-movement-requires : goal.movement-movement-requires
-movement-movement-requires c = movement_there _ _ c.requires.0 _ c.requires.1
+pub movement-requires : goal.movement-requires
+movement-requires c = movement_there _ _ c.requires.0 _ c.requires.1
 
 pub returns : goal.returns
-returns c = record { same = refl; comes = c.arrivals-arrivals.ensures; moves = c.movement-movement.ensures }
+returns c = record { same = refl; comes = c.arrivals.ensures; moves = c.movement.ensures }

@@ -9,7 +9,7 @@ use Rattle.script.proofs.inputs.reached.Goals as goal
 pub loop-p-preserved : goal.loop-p-preserved
 loop-p-preserved c = let h = c.loop-p in
     let a = c.args in
-    (omega arith, search rules, each_more (λ k v. v ≡ reached_of a.work.now a.t k) h.r h.p _ (omega arith) c.reached.ensures h.invariant.2)
+    (search rules, each_more (λ k v. v ≡ reached_of a.work.now a.t k) h.reached h.p _ (omega arith) c.reached.ensures h.invariant.1)
 
 pub returns : goal.returns
-returns c = record { each = λ p l. c.loop-p.invariant.2 p (omega (arith, c.loop-p-test.false)) }
+returns c = record { each = λ p l. c.loop-p.invariant.1 p (omega arith) }
