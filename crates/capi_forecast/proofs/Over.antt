@@ -1,9 +1,9 @@
--- As many figures as fit, at the start of a list: where the list ends first, and where the figures do; and that a caller can tell them from a refusal.
+-- As many figures as fit, at the start of a list; and that a caller can tell them from a refusal.
 -- It stands on the definitions alone.
 use mathlib.Core.Path.{◌≡◌}
 use mathlib.Core.List.{List, [], ◌++◌}
-use Prim.Native.Nat.{ℕ, ◌≤◌, ◌<◌}
-use native.Mathlib.Omega.{arith}
+use Prim.Native.Nat.{ℕ, min, ◌<◌}
+use native.Mathlib.{Decide.dec_le, Omega.arith}
 use lib.Dec.{lit<}
 use lib.ListN.{length, take, drop, drop_of_length-le}
 use lib.Seq.{take_all}
@@ -12,14 +12,13 @@ use Rattle.forecast.specs.Forecast.{Counts}
 use Rattle.codes.specs.Codes.{refused_from, in_numbers}
 use Rattle.capi_forecast.specs.Figures.{figure_count, figures_over}
 
-module _ (figures lent : List ℕ) (i : ℕ) where
-  pub list_ends : i ≡ length lent → i ≤ length figures → take i figures ++ drop i lent ≡ figures_over figures lent
-  unfolding figures_over
-  list_ends e l = rw (e, drop_of_length-le lent {i = length lent} (omega arith), drop_of_length-le lent {i = length figures} (omega arith))
-
-  pub figures_end : i ≡ length figures → i ≤ length lent → take i figures ++ drop i lent ≡ figures_over figures lent
-  unfolding figures_over
-  figures_end e l = rw (e, take_all (length figures) figures (omega arith), take_all (length lent) figures (omega arith))
+-- so many figures as there are, and as the list has room for
+pub fitting : (figures lent : List ℕ) (n : ℕ) → n ≡ min (length lent) (length figures) → take n figures ++ drop n lent ≡ figures_over figures lent
+unfolding figures_over
+fitting figures lent n e = elim (dec_le (length figures) (length lent)) [
+  | yes h ↦ (let m : n ≡ length figures = omega arith in rw (m, take_all (length figures) figures (omega arith), take_all (length lent) figures (omega arith)))
+  | no h ↦ (let m : n ≡ length lent = omega arith in rw (m, drop_of_length-le lent {i = length lent} (omega arith), drop_of_length-le lent {i = length figures} (omega arith)))
+]
 
 -- a refusal leaves the list
 pub none_over : (lent : List ℕ) → figures_over [] lent ≡ lent

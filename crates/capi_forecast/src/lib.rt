@@ -27,14 +27,8 @@ fn put(numbers: &mut [u32], figures: &[u32; FIGURES])
     requires { length figures.now ≡ figure_count }
     ensures { numbers.new ≡ figures_over figures.now numbers.old }
 {
-    let mut i: usize = 0;
-    while i < FIGURES {
-        if numbers.len() <= i {
-            return;
-        }
-        numbers[i] = figures[i];
-        i += 1;
-    }
+    let count = numbers.len().min(FIGURES);
+    numbers[..count].copy_from_slice(&figures[..count]);
 }
 
 // How many numbers there are, or the refusal. As many as fit stand at the start of `numbers`; a refusal writes none.

@@ -9,7 +9,6 @@ ghost use Rattle.carrying.specs.Carrying.{values_fit};
 
 use plan::forgeries::Forged;
 use plan::header::Shape;
-use plan::logic::both;
 use plan::operations::Operation;
 
 // Are so many fields of the plan, the first at bit `at` and each `step` bits behind the one before, all below the limit.
@@ -17,13 +16,11 @@ fn values_fit(plan: &[u8], at: usize, step: usize, count: usize, width: usize, l
     requires { (width ≤ most_width) × ((i : ℕ) → i < count → (at + step * i + width ≤ 8 * length plan.now) × (at + step * i < 2 ^ 60)) }
     ensures { result ≡ all_up_to count (λ i. ltb (field_of plan.now (at + step * i) width) limit) }
 {
-    let mut i = 0;
-    while i < count {
+    for i in 0..count {
         let value = bits::field(plan, at + step * i, width);
         if limit <= value {
             return false;
         }
-        i += 1;
     }
     true
 }
@@ -57,24 +54,20 @@ pub fn all_fit(plan: &[u8], h: Shape, width: u8) -> bool
         return true;
     }
     let limit = 1u64 << width;
-    let had = h.width as usize;
-    let operations = h.operations as usize;
-    let forgeries = h.forgeries as usize;
+    let had = usize::from(h.width);
+    let operations = usize::from(h.operations);
+    let forgeries = usize::from(h.forgeries);
     let written = h.operations_at() + Operation::VALUE_AT;
     let forged = h.forgeries_at();
-    both(
-        (h.initial as u64) < limit,
-        both(
-            values_fit(plan, written, h.operation_bits(), operations, had, limit),
-            forged_fit(
-                plan,
-                forged,
-                Forged::VALUE_AT,
-                h.forgery_bits(),
-                forgeries,
-                had,
-                limit,
-            ),
-        ),
-    )
+    u64::from(h.initial) < limit
+        && values_fit(plan, written, h.operation_bits(), operations, had, limit)
+        && forged_fit(
+            plan,
+            forged,
+            Forged::VALUE_AT,
+            h.forgery_bits(),
+            forgeries,
+            had,
+            limit,
+        )
 }

@@ -22,13 +22,7 @@ fn is_fitting(answers: &[u8], width: u8, i: usize, begun: u8, reader: u8) -> boo
     ensures { result ≡ fits_read width answers.now i begun reader }
 {
     let answer = answers::read(answers, width, i);
-    if answer.begin != begun {
-        return false;
-    }
-    if answer.reader != reader {
-        return false;
-    }
-    answer.zero == 0
+    answer.begin == begun && answer.reader == reader && answer.zero == 0
 }
 
 // The same of all answers. Both tables are fields of one struct, so they share a lifetime.
@@ -42,12 +36,10 @@ fn all_fit<'a>(
     requires { (count ≤ 255) × (width ≤ most_width) × (answer_size width * count ≤ length answers.now) }
     ensures { result ≡ all_up_to count (λ i. fits_read width answers.now i (get_or begun.now i 0) (get_or reader.now i 0)) }
 {
-    let mut i: usize = 0;
-    while i < count {
+    for i in 0..count {
         if !is_fitting(answers, width, i, begun[i], reader[i]) {
             return false;
         }
-        i += 1;
     }
     true
 }

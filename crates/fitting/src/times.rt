@@ -21,9 +21,10 @@ pub fn of_plan(plan: &[u8], width: u8) -> Times
 {
     let shape = Shape::read(plan, width);
     let at = shape.operations_at();
-    let writes = writes_of(plan, at, width, shape.operations as usize, shape.initial);
+    let operations = usize::from(shape.operations);
+    let writes = writes_of(plan, at, width, operations, shape.initial);
     Times {
-        writes: writes,
+        writes,
         delta: shape.delta,
     }
 }

@@ -27,12 +27,10 @@ fn counted(
 {
     let bits = Forged::bits(width);
     let mut r = [0u16; ARRIVALS];
-    let mut e: usize = 0;
-    while e < count {
+    for e in 0..count {
         let g = forged::message_at(part, offset + bits * e, width);
-        let t = g.at as usize + forged::delay_of(plan, links, n, g);
+        let t = usize::from(g.at) + forged::delay_of(plan, links, n, g);
         r[t] += 1;
-        e += 1;
     }
     r
 }
@@ -43,13 +41,8 @@ fn highest(table: &[u16; ARRIVALS], ticks: usize) -> u16
     ensures { result ≡ largest (λ t. get_or table.now t 0) ticks }
 {
     let mut r: u16 = 0;
-    let mut t: usize = 0;
-    while t < ticks {
-        let x = table[t];
-        if r < x {
-            r = x;
-        }
-        t += 1;
+    for x in &table[..ticks] {
+        r = r.max(*x);
     }
     r
 }

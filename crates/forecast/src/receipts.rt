@@ -9,7 +9,7 @@ ghost use Rattle.regular.specs.Tables.{Tables};
 ghost use Rattle.forecast.specs.Steps.{most_ticks, InForce, all_receipts, most_receipts};
 
 use fitting::times;
-use limits::{SERVERS, size_of};
+use limits::SERVERS;
 use plan::header::Shape;
 use tables::operations::Writes;
 use tables::sending::Sending;
@@ -23,11 +23,9 @@ fn in_force(plan: &[u8], h: Shape) -> [u16; TICKS]
     ensures { InForce h.width plan.now (shape h) h.ticks result }
 {
     let mut r = [0u16; TICKS];
-    let mut t: u8 = 0;
-    while t < h.ticks {
-        let at = h.placement_at((t / h.period) as usize);
-        r[t as usize] = bits::field(plan, at, Shape::PLACEMENT_BITS) as u16;
-        t += 1;
+    for t in 0..h.ticks {
+        let at = h.placement_at(usize::from(t / h.period));
+        r[usize::from(t)] = bits::field(plan, at, Shape::PLACEMENT_BITS) as u16;
     }
     r
 }
@@ -46,13 +44,10 @@ fn receipts(sending: Sending, placements: &[u16; TICKS]) -> u32
         × ((b : ℕ) → b < sending.n → (1 ≤ arrival_of sending b) × (arrival_of sending b < most_ticks)) }
     ensures { (result ≡ count (λ b. not (bit (most_servers - 1 - b) (get_or placements.now (arrival_of sending b - 1) 0))) sending.n) × (result ≤ most_servers) }
 {
-    let n = sending.n;
     let mut r: u32 = 0;
-    let mut b: usize = 0;
-    while b < n {
+    for b in 0..sending.n {
         let before = sending.arrival(b) - 1;
         r += free(placements[before], b);
-        b += 1;
     }
     r
 }
@@ -66,14 +61,11 @@ fn of_writes(plan: &[u8], h: Shape, writes: Writes) -> u32
     let n = h.n as usize;
     let links = links_of(h);
     let placements = in_force(plan, h);
-    let count = writes.known.m - 1;
     let mut r: u32 = 0;
-    let mut j: usize = 0;
-    while j < count {
-        let t = size_of(writes.begun[j + 1]);
+    for j in 1..writes.known.m {
+        let t = usize::from(writes.begun[j]);
         let sending = Sending::of(plan, delays::row_bit(links, t, n), n, t, 0);
         r += receipts(sending, &placements);
-        j += 1;
     }
     r
 }
@@ -84,6 +76,5 @@ pub fn all(plan: &[u8], h: Shape) -> u32
     ensures { (result ≡ all_receipts (plan_of h.width plan.now)) × (result ≤ most_receipts) }
 {
     let times = times::of_plan(plan, h.width);
-    let writes = times.writes;
-    of_writes(plan, h, writes)
+    of_writes(plan, h, times.writes)
 }

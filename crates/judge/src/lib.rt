@@ -30,8 +30,7 @@ fn all_allowed(
         → ((i : ℕ) → i < count → (read_of P i).begun ≡ begin_in width answers.now i)
         → result ≡ all_up_to count (λ i. allowed P (read_of P i) (pair_in width answers.now i))) }
 {
-    let mut i: usize = 0;
-    while i < count {
+    for i in 0..count {
         let answer = answers::read(answers, width, i);
         if !is_allowed(
             values,
@@ -44,7 +43,6 @@ fn all_allowed(
         ) {
             return false;
         }
-        i += 1;
     }
     true
 }

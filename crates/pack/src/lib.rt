@@ -8,7 +8,6 @@ ghost use Rattle.pack.specs.{Pack.lengths_implied, Pack.part_tests, Pack.pack_of
 
 use plan::forgeries::Forged;
 use plan::header::Shape;
-use plan::logic::both;
 use plan::operations::Operation;
 use plan::{Outcome, Refusal, form};
 
@@ -23,16 +22,10 @@ fn are_implied(
     requires { Ranged (shape h) }
     ensures { result ≡ lengths_implied h.width (shape h) (parts_from placements.now operations.now forgeries.now delays.now) }
 {
-    both(
-        placements.len() == h.moves(),
-        both(
-            operations.len() == Operation::FIELDS * (h.operations as usize),
-            both(
-                forgeries.len() == Forged::FIELDS * (h.forgeries as usize),
-                delays.len() == h.delay_count(),
-            ),
-        ),
-    )
+    placements.len() == h.moves()
+        && operations.len() == Operation::FIELDS * usize::from(h.operations)
+        && forgeries.len() == Forged::FIELDS * usize::from(h.forgeries)
+        && delays.len() == h.delay_count()
 }
 
 // The plan at the start of the buffer.
@@ -40,11 +33,7 @@ fn copy(out: &mut [u8], plan: &[u8])
     requires { length plan.now ≤ length out.old }
     ensures { out.new ≡ plan.now ++ drop (length plan.now) out.old }
 {
-    let mut i = 0;
-    while i < plan.len() {
-        out[i] = plan[i];
-        i += 1;
-    }
+    out[..plan.len()].copy_from_slice(plan);
 }
 
 // The bits of all lists, from the first bit on.
@@ -94,10 +83,8 @@ fn placements_pass(plan: &[u8], h: Shape, placements: &[u32]) -> bool
     requires { Sized h.width plan.now (shape h) × (length placements.now ≡ length placement_widths * moves (shape h)) }
     ensures { result ≡ fits (placements_widths (shape h)) placements.now && placements_stand h.width plan.now (shape h) }
 {
-    both(
-        packing::fits_all(&Shape::PLACEMENT_WIDTHS, placements, h.moves()),
-        placements::all_stand(plan, h),
-    )
+    packing::fits_all(&Shape::PLACEMENT_WIDTHS, placements, h.moves())
+        && placements::all_stand(plan, h)
 }
 
 fn operations_pass(plan: &[u8], h: Shape, operations: &[u32]) -> bool
@@ -105,10 +92,8 @@ fn operations_pass(plan: &[u8], h: Shape, operations: &[u32]) -> bool
     ensures { result ≡ fits (operations_widths h.width (shape h)) operations.now && operations_stand h.width plan.now (shape h) }
 {
     let widths = Operation::widths(h.width);
-    both(
-        packing::fits_all(&widths, operations, h.operations as usize),
-        operations::all_stand(plan, h),
-    )
+    packing::fits_all(&widths, operations, usize::from(h.operations))
+        && operations::all_stand(plan, h)
 }
 
 fn forgeries_pass(plan: &[u8], h: Shape, forgeries: &[u32]) -> bool
@@ -117,17 +102,14 @@ fn forgeries_pass(plan: &[u8], h: Shape, forgeries: &[u32]) -> bool
     ensures { result ≡ fits (forgeries_widths h.width (shape h)) forgeries.now && forgeries_stand h.width plan.now (shape h) }
 {
     let widths = Forged::widths(h.width);
-    both(
-        packing::fits_all(&widths, forgeries, h.forgeries as usize),
-        forgeries::all_stand(plan, h),
-    )
+    packing::fits_all(&widths, forgeries, usize::from(h.forgeries)) && forgeries::all_stand(plan, h)
 }
 
 fn delays_pass(plan: &[u8], h: Shape, delays: &[u32]) -> bool
     requires { Sized h.width plan.now (shape h) × (length delays.now ≡ length delay_widths * delay_count (shape h)) }
     ensures { result ≡ fits (delays_widths (shape h)) delays.now && delays_stand h.width plan.now (shape h) }
 {
-    both(nibbles::fit(delays), delays::all_stand(plan, h))
+    nibbles::fit(delays) && delays::all_stand(plan, h)
 }
 
 // The tests of the parts, then that of the buffer; a plan that passes them all is copied out.

@@ -89,9 +89,10 @@ fn value_columns(width: u8) -> usize
     ensures { result ≡ value_columns width }
 {
     if width <= form::width(form::ONE) {
-        return VALUE_COLUMNS;
+        VALUE_COLUMNS
+    } else {
+        WIDE_COLUMNS
     }
-    WIDE_COLUMNS
 }
 
 // The rule under the heading: a dash for each column of a field.
@@ -117,12 +118,12 @@ pub fn read_line(x: Row) -> [u8; COLUMNS]
         → result ≡ row_of w (x.begin ∷ x.reader ∷ x.end ∷ x.value ∷ x.number ∷ x.count ∷ []) x.marked }
 {
     let mut line = [32u8; 80];
-    decimal::put_right(&mut line, AFTER_BEGIN, x.begin as u64);
-    decimal::put_right(&mut line, AFTER_READER, x.reader as u64);
-    decimal::put_right(&mut line, AFTER_END, x.end as u64);
-    decimal::put_right(&mut line, AFTER_VALUE, x.value as u64);
-    decimal::put_right(&mut line, AFTER_NUMBER, x.number as u64);
-    decimal::put_right(&mut line, AFTER_COUNT, x.count as u64);
+    decimal::put_right(&mut line, AFTER_BEGIN, u64::from(x.begin));
+    decimal::put_right(&mut line, AFTER_READER, u64::from(x.reader));
+    decimal::put_right(&mut line, AFTER_END, u64::from(x.end));
+    decimal::put_right(&mut line, AFTER_VALUE, u64::from(x.value));
+    decimal::put_right(&mut line, AFTER_NUMBER, u64::from(x.number));
+    decimal::put_right(&mut line, AFTER_COUNT, u64::from(x.count));
     decimal::put_byte(&mut line, COLUMNS - 1, mark(x.marked));
     line
 }

@@ -12,14 +12,14 @@ use limits::PLACES;
 fn is_finished(begun: u8, delta: u8, read: u8) -> bool
     ensures { (P : Plan) (x : Read) (w : Write) → P.delta ≡ delta → x.begun ≡ read → w.begun ≡ begun → result ≡ finished P x w }
 {
-    (begun as u16) + (delta as u16) <= (read as u16)
+    u16::from(begun) + u16::from(delta) <= u16::from(read)
 }
 
 // Did a write begun in tick `begun` begin by the end of a read begun in tick `read`?
 fn is_begun_by_end(begun: u8, delta: u8, read: u8) -> bool
     ensures { result ≡ leb begun (read + 2 * delta) }
 {
-    (begun as u16) <= (read as u16) + 2 * (delta as u16)
+    u16::from(begun) <= u16::from(read) + 2 * u16::from(delta)
 }
 
 // The highest number of a write that finished before the read; 0, the initial pair's, if none did.
@@ -29,12 +29,10 @@ fn last_finished(begun: &[u8; PLACES], m: usize, delta: u8, read: u8) -> usize
         → ((j : ℕ) → (w j).begun ≡ get_or begun.now j 0) → Last (λ j. finished P x (w j)) m result) }
 {
     let mut last: usize = 0;
-    let mut j: usize = 1;
-    while j < m {
+    for j in 1..m {
         if is_finished(begun[j], delta, read) {
             last = j;
         }
-        j += 1;
     }
     last
 }
@@ -46,10 +44,7 @@ pub fn has_concurrent(begun: &[u8; PLACES], m: usize, delta: u8, read: u8) -> bo
         → result ≡ any (concurrent P x) P.writes }
 {
     let next = last_finished(begun, m, delta, read) + 1;
-    if m <= next {
-        return false;
-    }
-    is_begun_by_end(begun[next], delta, read)
+    next < m && is_begun_by_end(begun[next], delta, read)
 }
 
 // Does the regular register allow this value and number as an answer to the read?
@@ -67,18 +62,6 @@ pub fn is_allowed(
         → result ≡ allowed P x (stamped w value number) }
 {
     let last = last_finished(begun, m, delta, read);
-    let j = number as usize;
-    if m <= j {
-        return false;
-    }
-    if values[j] != value {
-        return false;
-    }
-    if j == last {
-        return true;
-    }
-    if j < last {
-        return false;
-    }
-    is_begun_by_end(begun[j], delta, read)
+    let j = usize::from(number);
+    j < m && values[j] == value && (j == last || last < j && is_begun_by_end(begun[j], delta, read))
 }

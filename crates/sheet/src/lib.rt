@@ -36,7 +36,7 @@ fn line_of(
     page::read_line(Row {
         begin: answer.begin,
         reader: answer.reader,
-        end: (answer.begin as u16) + 2 * (delta as u16),
+        end: u16::from(answer.begin) + 2 * u16::from(delta),
         value: answer.value,
         number: answer.number,
         count: answer.count,
@@ -60,11 +60,9 @@ fn put_reads(
     let writes = times.writes;
     let m = writes.known.m;
     let mut next = start;
-    let mut i: usize = 0;
-    while i < count {
+    for i in 0..count {
         let line = line_of(answers, width, i, &writes.begun, m, times.delta);
         next = put_line(page, next, &line);
-        i += 1;
     }
     next
 }

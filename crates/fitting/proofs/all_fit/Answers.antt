@@ -1,7 +1,6 @@
 -- `all_fit` tests every answer's read. The invariant: all answers passed fit.
 use mathlib.Core.Path.{sym, ◌∙◌}
 use native.Mathlib.Omega.{arith}
-use borrow.Author.Rules.{rules}
 use borrow.Author.Tests.{not-true, not-false}
 use Rattle.plan.proofs.Laws.{all_none, all_more, all_stop, all_end}
 use Rattle.bits.proofs.Records.{record_inside}
@@ -10,7 +9,7 @@ use Rattle.fitting.proofs.all_fit.Invariants.{fits}
 use Rattle.fitting.proofs.all_fit.Goals as goal
 
 pub loop-i-init : goal.loop-i-init
-loop-i-init c = (search rules, all_none _)
+loop-i-init c = all_none _
 
 pub is_fitting-requires : goal.is_fitting-requires
 is_fitting-requires c = let i = c.loop-i.i in
@@ -25,13 +24,10 @@ returns-then-not-is_fitting c = let a = c.args in
 
 pub loop-i-preserved : goal.loop-i-preserved
 loop-i-preserved c = let a = c.args in
-    let l = c.loop-i in (
-      search rules,
-      all_more (fits a.width a.answers.now a.begun.now a.reader.now) l.i l.invariant.1
-          (sym c.is_fitting.ensures ∙ not-false _ c.if-not-is_fitting.false-raw),
-    )
+    let l = c.loop-i in
+    all_more (fits a.width a.answers.now a.begun.now a.reader.now) l.i l.invariant (sym c.is_fitting.ensures ∙ not-false _ c.if-not-is_fitting.false-raw)
 
 pub returns : goal.returns
 returns c = let a = c.args in
     let l = c.loop-i in
-    all_end (fits a.width a.answers.now a.begun.now a.reader.now) l.i a.count (omega arith) (omega arith) l.invariant.1
+    all_end (fits a.width a.answers.now a.begun.now a.reader.now) l.i a.count (omega arith) (omega arith) l.invariant

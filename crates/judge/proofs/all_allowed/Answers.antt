@@ -2,7 +2,6 @@
 use mathlib.Core.Path.{◌≡◌, sym, ◌∙◌}
 use Prim.Native.Nat.{◌+◌, ◌*◌, ◌≤◌}
 use native.Mathlib.Omega.{arith}
-use borrow.Author.Rules.{rules}
 use borrow.Author.Tests.{not-true, not-false}
 use lib.ListN.{length}
 use Rattle.register.specs.Plan.{Plan}
@@ -30,7 +29,7 @@ inside : (c : In-loop-i) → let a = c.args in
 inside c = omega (arith, c.requires.4, record_inside (answer_size c.args.width) c.loop-i.i c.args.count c.loop-i-test.true)
 
 pub loop-i-init : goal.loop-i-init
-loop-i-init c = (search rules, λ P W d b. all_none (allowed_at c.args.width P c.args.answers.now))
+loop-i-init c = λ P W d b. all_none (allowed_at c.args.width P c.args.answers.now)
 
 pub read-answer-requires : goal.read-answer-requires
 read-answer-requires c = (inside (goal.at.read-answer-requires c).In-loop-i, omega (arith, c.requires.2, c.loop-i-test.true), c.requires.3)
@@ -44,10 +43,10 @@ returns-then-not-is_allowed c = λ P W d b.
 pub loop-i-preserved : goal.loop-i-preserved
 loop-i-preserved c = let a = c.args in
     let l = c.loop-i in
-    (search rules, λ P W d b. all_more (allowed_at a.width P a.answers.now) l.i (l.invariant.1 P W d b) (tested (goal.at.loop-i-preserved c).After-is_allowed P W d b ∙ not-false _ c.if-not-is_allowed.false-raw))
+    λ P W d b. all_more (allowed_at a.width P a.answers.now) l.i (l.invariant P W d b) (tested (goal.at.loop-i-preserved c).After-is_allowed P W d b ∙ not-false _ c.if-not-is_allowed.false-raw)
 
 pub returns : goal.returns
 returns c = λ P W d b.
     let a = c.args in
     let l = c.loop-i in
-    all_end (allowed_at a.width P a.answers.now) l.i a.count (omega arith) (omega arith) (l.invariant.1 P W d b)
+    all_end (allowed_at a.width P a.answers.now) l.i a.count (omega arith) (omega arith) (l.invariant P W d b)

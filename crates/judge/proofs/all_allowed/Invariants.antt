@@ -2,7 +2,7 @@
 use mathlib.Core.Path.{◌≡◌}
 use mathlib.Core.Bool.{Bool, true}
 use mathlib.Core.List.{List}
-use Prim.Native.Nat.{ℕ, ◌-◌, ◌≤◌, ◌<◌}
+use Prim.Native.Nat.{ℕ, ◌<◌}
 use Rattle.register.specs.Lists.{all_up_to}
 use Rattle.register.specs.Plan.{Plan}
 use Rattle.register.specs.Regular.{allowed}
@@ -24,7 +24,4 @@ Passed answers width values begun m delta count i =
     (P : Plan) → Tables width P values begun m → P.delta ≡ delta → Begun width P answers count → all_up_to i (allowed_at width P answers) ≡ true
 
 abbrev pub invariant-loop-i : goal.invariant-loop-i
-invariant-loop-i l = (l.i ≤ l.count) × Passed l.answers l.width l.values l.begun l.m l.delta l.count l.i
-
-abbrev pub decreases-loop-i : goal.decreases-loop-i
-decreases-loop-i l = l.count - l.i
+invariant-loop-i l = Passed l.answers l.width l.values l.begun l.m l.delta l.count l.i

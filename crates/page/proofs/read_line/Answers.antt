@@ -36,30 +36,30 @@ fits : (s : Start) (w : ℕ) → w ≤ most_width → s.args.x.value < 2 ^ w
 fits s w narrow h = record { narrow = narrow; begin_hi = omega arith; reader_hi = omega arith; end_hi = omega arith; value_hi = h; number_hi = omega arith; count_hi = omega arith }
 
 pub put_right-requires : goal.put_right-requires
-put_right-requires c = omega (arith, begin-fits (goal.at.put_right-requires c).Start)
+put_right-requires c = rw c.from.ensures (omega (arith, begin-fits (goal.at.put_right-requires c).Start))
 
 pub put_right-requires-2 : goal.put_right-requires-2
-put_right-requires-2 c = omega (arith, reader_fits (goal.at.put_right-requires-2 c).Start)
+put_right-requires-2 c = rw c.from-2.ensures (omega (arith, reader_fits (goal.at.put_right-requires-2 c).Start))
 
 pub put_right-requires-3 : goal.put_right-requires-3
-put_right-requires-3 c = omega (arith, end_fits (goal.at.put_right-requires-3 c).Start)
+put_right-requires-3 c = rw c.from-3.ensures (omega (arith, end_fits (goal.at.put_right-requires-3 c).Start))
 
 pub put_right-requires-4 : goal.put_right-requires-4
-put_right-requires-4 c = omega (arith, value-fits (goal.at.put_right-requires-4 c).Start)
+put_right-requires-4 c = rw c.from-4.ensures (omega (arith, value-fits (goal.at.put_right-requires-4 c).Start))
 
 pub put_right-requires-5 : goal.put_right-requires-5
-put_right-requires-5 c = omega (arith, number_fits (goal.at.put_right-requires-5 c).Start)
+put_right-requires-5 c = rw c.from-5.ensures (omega (arith, number_fits (goal.at.put_right-requires-5 c).Start))
 
 pub put_right-requires-6 : goal.put_right-requires-6
-put_right-requires-6 c = omega (arith, count_fits (goal.at.put_right-requires-6 c).Start)
+put_right-requires-6 c = rw c.from-6.ensures (omega (arith, count_fits (goal.at.put_right-requires-6 c).Start))
 
 pub returns : goal.returns
 returns c = λ w narrow value_hi.
-    let begin = one_more 7 73 none_yet (omega (arith, begin-fits (goal.at.returns c).Start)) refl c.put_right.ensures in
-    let reader = one_more 12 61 begin (omega (arith, reader_fits (goal.at.returns c).Start)) refl c.put_right-2.ensures in
-    let end = one_more 9 52 reader (omega (arith, end_fits (goal.at.returns c).Start)) refl c.put_right-3.ensures in
-    let value = one_more 14 38 end (omega (arith, value-fits (goal.at.returns c).Start)) refl c.put_right-4.ensures in
-    let number = one_more 12 26 value (omega (arith, number_fits (goal.at.returns c).Start)) refl c.put_right-5.ensures in
-    let count = one_more 12 14 number (omega (arith, count_fits (goal.at.returns c).Start)) refl c.put_right-6.ensures in
+    let begin = one_more 7 73 none_yet (omega (arith, begin-fits (goal.at.returns c).Start)) refl (rw c.from.ensures at c.put_right.ensures) in
+    let reader = one_more 12 61 begin (omega (arith, reader_fits (goal.at.returns c).Start)) refl (rw c.from-2.ensures at c.put_right-2.ensures) in
+    let end = one_more 9 52 reader (omega (arith, end_fits (goal.at.returns c).Start)) refl (rw c.from-3.ensures at c.put_right-3.ensures) in
+    let value = one_more 14 38 end (omega (arith, value-fits (goal.at.returns c).Start)) refl (rw c.from-4.ensures at c.put_right-4.ensures) in
+    let number = one_more 12 26 value (omega (arith, number_fits (goal.at.returns c).Start)) refl (rw c.from-5.ensures at c.put_right-5.ensures) in
+    let count = one_more 12 14 number (omega (arith, count_fits (goal.at.returns c).Start)) refl (rw c.from-6.ensures at c.put_right-6.ensures) in
     let marked = one_more 14 0 count (lit≤ tt) c.put_byte.ensures.next_is c.put_byte.ensures in
     all_filled marked ∙ rw c.mark.ensures (row_is (fits (goal.at.returns c).Start w narrow value_hi) c.args.x.marked)

@@ -4,6 +4,7 @@ use mathlib.Core.List.{List}
 use Prim.Native.Nat.{ℕ}
 use native.Mathlib.Numerals.{add-one}
 use native.Mathlib.Omega.{arith}
+use Rattle.std.proofs.lemmas.Bool.Decides.{nat_tests}
 use Rattle.register.specs.Plan.{Plan, Read}
 use Rattle.regular.specs.Tables.{Tables}
 use Rattle.regular.proofs.Laws.{Sought, write_at, none_concurrent, next_concurrent}
@@ -16,10 +17,12 @@ known : (c : After-last_finished-next) (w : ℕ) (P : Plan) (x : Read) (values :
 known c w P x values W d r =
     record { tables = W; found = c.last_finished-next.ensures.1 P x (write_at w values c.args.begun.now) d r (λ j. refl) }
 
-pub returns-then-m-next : goal.returns-then-m-next
-returns-then-m-next c = λ w P x values W d r. sym (none_concurrent (known (goal.at.returns-then-m-next c).After-last_finished-next w P x values W d r) (omega arith))
-
-pub returns : goal.returns
-returns c = λ w P x values W d r.
-    let next = next_concurrent (known (goal.at.returns c).After-last_finished-next w P x values W d r) (omega arith) in
+pub returns-then-next-m : goal.returns-then-next-m
+returns-then-next-m c = λ w P x values W d r.
+    let next = next_concurrent (known (goal.at.returns-then-next-m c).After-last_finished-next w P x values W d r) (omega arith) in
     c.is_begun_by_end.ensures ∙ rw (← d, ← r, add-one c.last_finished-next.result) (sym next)
+
+pub returns-else-next-m : goal.returns-else-next-m
+returns-else-next-m c = λ w P x values W d r.
+    let none = none_concurrent (known (goal.at.returns-else-next-m c).After-last_finished-next w P x values W d r) (omega arith) in
+    grind (arith, nat_tests, none)

@@ -2,10 +2,12 @@
 use mathlib.Core.Path.{◌≡◌, refl, sym, ◌∙◌}
 use Prim.Native.Nat.{ℕ}
 use native.Mathlib.Omega.{arith}
+use lib.ListN.{get_or}
+use Rattle.std.proofs.lemmas.Bool.Decides.{nat_tests}
 use Rattle.register.specs.Plan.{Plan, Read}
 use Rattle.regular.specs.Tables.{Tables}
 use Rattle.regular.proofs.Laws.{Sought, write_at, unknown_number, other_value, is_last, too_early, later_by_end}
-use Rattle.regular.proofs.is_allowed.Goals.{After-last_finished-last}
+use Rattle.regular.proofs.is_allowed.Goals.{After-last_finished-last, then-j-m, else-j-m}
 use Rattle.regular.proofs.is_allowed.Goals as goal
 
 known : (c : After-last_finished-last) (w : ℕ) (P : Plan) (x : Read) → Tables w P c.args.values.now c.args.begun.now c.args.m
@@ -15,23 +17,41 @@ known c w P x W d r =
     let a = c.args in
     record { tables = W; found = c.last_finished-last.ensures.1 P x (write_at w a.values.now a.begun.now) d r (λ j. refl) }
 
-pub returns-then-m-j : goal.returns-then-m-j
-returns-then-m-j c = λ w P x l W d r.
-    sym (unknown_number (known (goal.at.returns-then-m-j c).After-last_finished-last w P x W d r) c.args.value c.args.number l c.if-m-j.true)
-
-pub returns-then-values-j : goal.returns-then-values-j
-returns-then-values-j c = λ w P x l W d r.
-    sym (other_value (known (goal.at.returns-then-values-j c).After-last_finished-last w P x W d r) c.args.value c.args.number l c.if-values-j.true)
-
 pub returns-then-j-last : goal.returns-then-j-last
-returns-then-j-last c = λ w P x l W d r.
-    sym (is_last (known (goal.at.returns-then-j-last c).After-last_finished-last w P x W d r) c.args.value c.args.number c.if-values-j.false c.if-j-last.true)
+returns-then-j-last c = λ w P x l W d r. elim c.if-j-m.branch [
+  | then-j-m b ↦
+      let v : get_or c.args.values.now c.from-j.result 0 ≡ c.args.value = grind (arith, nat_tests) in
+      let e = is_last (known (goal.at.returns-then-j-last c).After-last_finished-last w P x W d r) c.args.value c.from-j.result v c.if-j-last.true in
+      rw (← c.from-j.ensures) (grind (arith, nat_tests, e))
+  | else-j-m b ↦ absurd (grind (arith, nat_tests))
+]
 
-pub returns-then-j-last-2 : goal.returns-then-j-last-2
-returns-then-j-last-2 c = λ w P x l W d r.
-    sym (too_early (known (goal.at.returns-then-j-last-2 c).After-last_finished-last w P x W d r) c.args.value c.args.number c.if-values-j.false c.if-j-last-2.true)
+pub returns-then-last-j : goal.returns-then-last-j
+returns-then-last-j c = λ w P x l W d r. elim c.if-j-m.branch [
+  | then-j-m b ↦
+      let v : get_or c.args.values.now c.from-j.result 0 ≡ c.args.value = grind (arith, nat_tests) in
+      let later = later_by_end (known (goal.at.returns-then-last-j c).After-last_finished-last w P x W d r) c.args.value c.from-j.result v (omega arith) (omega arith) in
+      c.is_begun_by_end.ensures ∙ rw (← c.from-j.ensures, ← d, ← r) (sym later)
+  | else-j-m b ↦ absurd (grind (arith, nat_tests))
+]
 
-pub returns : goal.returns
-returns c = λ w P x l W d r.
-    let later = later_by_end (known (goal.at.returns c).After-last_finished-last w P x W d r) c.args.value c.args.number c.if-values-j.false (omega arith) (omega arith) in
-    c.is_begun_by_end.ensures ∙ rw (← d, ← r) (sym later)
+pub returns-else-last-j : goal.returns-else-last-j
+returns-else-last-j c = λ w P x l W d r. elim c.if-j-m.branch [
+  | then-j-m b ↦
+      let v : get_or c.args.values.now c.from-j.result 0 ≡ c.args.value = grind (arith, nat_tests) in
+      let e = too_early (known (goal.at.returns-else-last-j c).After-last_finished-last w P x W d r) c.args.value c.from-j.result v (omega arith) in
+      rw (← c.from-j.ensures) (grind (arith, nat_tests, e))
+  | else-j-m b ↦ absurd (grind (arith, nat_tests))
+]
+
+pub returns-else-values-j : goal.returns-else-values-j
+returns-else-values-j c = λ w P x l W d r.
+    let K = known (goal.at.returns-else-values-j c).After-last_finished-last w P x W d r in
+    elim c.if-j-m.branch [
+      | then-j-m b ↦
+          let e = other_value K c.args.value c.from-j.result l (λ v. grind (arith, nat_tests)) in
+          rw (← c.from-j.ensures) (grind (arith, nat_tests, e))
+      | else-j-m b ↦
+          let e = unknown_number K c.args.value c.from-j.result l b.if-j-m.false in
+          rw (← c.from-j.ensures) (grind (arith, nat_tests, e))
+    ]

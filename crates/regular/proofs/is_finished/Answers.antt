@@ -5,4 +5,4 @@ use Rattle.regular.proofs.is_finished.Goals as goal
 
 pub returns : goal.returns
 unfolding finished
-returns c = λ P x w d b e. rw (d, b, e)
+returns c = λ P x w d b e. cc

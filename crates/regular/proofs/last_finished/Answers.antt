@@ -9,7 +9,7 @@ use Rattle.regular.proofs.last_finished.Goals.{then-is_finished, else-is_finishe
 use Rattle.regular.proofs.last_finished.Goals as goal
 
 pub loop-j-init : goal.loop-j-init
-loop-j-init c = (search rules, search rules, search rules, λ P x w d b e. last_none (λ j. finished P x (w j)))
+loop-j-init c = (search rules, search rules, λ P x w d b e. last_none (λ j. finished P x (w j)))
 
 pub loop-j-preserved : goal.loop-j-preserved
 loop-j-preserved c = let h = c.loop-j in
@@ -18,19 +18,17 @@ loop-j-preserved c = let h = c.loop-j in
       | then-is_finished g ↦ (
         omega arith,
         omega arith,
-        omega arith,
         λ P x w d b e.
             rw g.last-is (last_taken (λ k. finished P x (w k)) h.j (sym (t.ensures P x (w h.j) d b (e h.j)) ∙ g.if-is_finished.true)),
       )
       | else-is_finished g ↦ (
         omega arith,
         omega arith,
-        omega arith,
         λ P x w d b e.
-            rw g.last-is (last_left (λ k. finished P x (w k)) h.j h.last (sym (t.ensures P x (w h.j) d b (e h.j)) ∙ g.if-is_finished.false) (h.invariant.3 P x w d b e)),
+            rw g.last-is (last_left (λ k. finished P x (w k)) h.j h.last (sym (t.ensures P x (w h.j) d b (e h.j)) ∙ g.if-is_finished.false) (h.invariant.2 P x w d b e)),
       )
     ]
 
 pub returns : goal.returns
 returns c = let e : c.loop-j.j ≡ c.args.m = omega arith in
-    (omega arith, rw e at c.loop-j.invariant.3)
+    (omega arith, rw e at c.loop-j.invariant.2)

@@ -2,7 +2,7 @@
 -- It stands on the laws of one turn more.
 use mathlib.Core.Path.{◌≡◌}
 use mathlib.Core.List.{List}
-use Prim.Native.Nat.{ℕ, ◌-◌, ◌≤◌, ◌<◌}
+use Prim.Native.Nat.{ℕ, ◌≤◌, ◌<◌}
 use lib.ListN.{get_or}
 use Rattle.register.specs.Plan.{Plan, Read, Write}
 use Rattle.register.specs.Regular.{finished}
@@ -15,7 +15,4 @@ Sought begun delta read j last = (P : Plan) (x : Read) (w : ℕ → Write) → P
     → ((k : ℕ) → (w k).begun ≡ get_or begun k 0) → Last (λ k. finished P x (w k)) j last
 
 abbrev pub invariant-loop-j : goal.invariant-loop-j
-invariant-loop-j l = (1 ≤ l.j) × (l.j ≤ l.m) × (l.last < l.j) × Sought l.begun l.delta l.read l.j l.last
-
-abbrev pub decreases-loop-j : goal.decreases-loop-j
-decreases-loop-j l = l.m - l.j
+invariant-loop-j l = (1 ≤ l.j) × (l.last < l.j) × Sought l.begun l.delta l.read l.j l.last

@@ -18,7 +18,7 @@ of_plan-times-requires c = (playable c.args.width _ c.args.count c.requires.2.ch
 
 pub loop-i-init : goal.loop-i-init
 unfolding read_lines
-loop-i-init c = (search rules, refl, stored_none _ _ refl)
+loop-i-init c = (refl, stored_none _ _ refl)
 
 pub line_of-line-requires : goal.line_of-line-requires
 line_of-line-requires c = let W = c.of_plan-times.ensures.tables.written in
@@ -34,7 +34,7 @@ line_of-line-requires c = let W = c.of_plan-times.ensures.tables.written in
 pub put_line-next-requires : goal.put_line-next-requires
 put_line-next-requires c = let l = c.loop-i in
     let few = few_answers c.args.width _ c.args.count c.requires.2.checked in
-    (omega (arith, l.invariant.2.next_is, few, lines_length c.args.width c.args.plan.now c.args.answers.now c.requires.1 l.i), search rules)
+    (omega (arith, l.invariant.1.next_is, few, lines_length c.args.width c.args.plan.now c.args.answers.now c.requires.1 l.i), search rules)
 
 pub loop-i-preserved : goal.loop-i-preserved
 unfolding read_lines
@@ -42,7 +42,7 @@ loop-i-preserved c = let T = c.of_plan-times.ensures in
     let p = c.put_line-next in
     let more : c.loop-i.i < c.args.count = c.loop-i-test.true in
     let line = c.line_of-line.ensures c.args.plan.now _ c.args.count c.requires.2 more T.tables T.delta_is in
-    (omega (arith, more), p.auto.page ∙ c.loop-i.invariant.1, rw (add-one c.loop-i.i) (stored_then c.loop-i.invariant.2 (rw line at p.ensures)))
+    (p.auto.page ∙ c.loop-i.invariant.0, rw (add-one c.loop-i.i) (stored_then c.loop-i.invariant.1 (rw line at p.ensures)))
 
 pub returns : goal.returns
-returns c = let all : c.loop-i.i ≡ c.args.count = omega arith in rw all at c.loop-i.invariant.2
+returns c = let all : c.loop-i.i ≡ c.args.count = omega arith in rw all at c.loop-i.invariant.1

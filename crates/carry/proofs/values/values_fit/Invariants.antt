@@ -1,13 +1,9 @@
 -- `values::values_fit` meets its contract: the first i values are below the limit.
 use mathlib.Core.Bool.{true}
 use mathlib.Core.Path.{◌≡◌}
-use Prim.Native.Nat.{◌-◌, ◌≤◌}
 use Rattle.register.specs.Lists.{all_up_to}
 use Rattle.carry.proofs.Fields.{below}
 use Rattle.carry.proofs.values.values_fit.Given as goal
 
 abbrev pub invariant-loop-i : goal.invariant-loop-i
-invariant-loop-i l = (l.i ≤ l.count) × (all_up_to l.i (below l.plan l.at l.step l.width l.limit) ≡ true)
-
-abbrev pub decreases-loop-i : goal.decreases-loop-i
-decreases-loop-i l = l.count - l.i
+invariant-loop-i l = all_up_to l.i (below l.plan l.at l.step l.width l.limit) ≡ true

@@ -21,13 +21,14 @@ operations_at-at-requires c = (shape_ranged c.args.width c.args.plan.now c.requi
 
 pub writes_of-writes-requires : goal.writes_of-writes-requires
 writes_of-writes-requires c = let h = c.read-shape in (
-  operations_room c.args.width c.args.plan.now c.requires.0 h.result h.ensures.0 c.operations_at-at.result (starts (goal.at.writes_of-writes-requires c).After-operations_at-at) c.requires.1,
+  rw c.from-operations.ensures (operations_room c.args.width c.args.plan.now c.requires.0 h.result h.ensures.0 c.operations_at-at.result
+      (starts (goal.at.writes_of-writes-requires c).After-operations_at-at) c.requires.1),
   initial_narrow _ _ h.result h.ensures.0,
 )
 
 pub returns : goal.returns
 returns c = let h = c.read-shape in
     record {
-      tables = write_tables c.args.width c.args.plan.now c.requires.0 h.result h.ensures.0 c.operations_at-at.result (starts (goal.at.returns c).After-operations_at-at) _ _ _ c.writes_of-writes.ensures;
+      tables = write_tables c.args.width c.args.plan.now c.requires.0 h.result h.ensures.0 c.operations_at-at.result (starts (goal.at.returns c).After-operations_at-at) _ _ _ (rw c.from-operations.ensures at c.writes_of-writes.ensures);
       delta_is = delta_same c.args.width c.args.plan.now h.result h.ensures.0;
     }

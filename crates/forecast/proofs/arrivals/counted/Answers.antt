@@ -2,7 +2,6 @@
 use mathlib.Core.Path.{◌≡◌, ap}
 use Prim.Native.Nat.{ℕ, ◌+◌, ◌<◌}
 use native.Mathlib.Omega.{arith}
-use borrow.Author.Rules.{rules}
 use Rattle.register.specs.Plan.{Forgery}
 use Rattle.plan.specs.{Header.forgery_bits, Steps.forgery}
 use Rattle.plan.proofs.Sizes.{forgeries_few}
@@ -27,11 +26,11 @@ message : (c : After-message_at-g) → forgery c.args.width c.message_at-g.resul
 message c = rw c.bits-bits.ensures at c.message_at-g.ensures.0
 
 -- the tick of its arrival is in the table
-in_table : (c : After-delay_of) → c.message_at-g.result.at + c.delay_of.result < most_arrivals
-in_table c = omega (arith, c.message_at-g.ensures.1, c.delay_of.ensures.1)
+in_table : (c : After-delay_of) → c.from.result + c.delay_of.result < most_arrivals
+in_table c = omega (arith, c.from.ensures, c.message_at-g.ensures.1, c.delay_of.ensures.1)
 
 pub loop-e-init : goal.loop-e-init
-loop-e-init c = (search rules, arrived_none _)
+loop-e-init c = arrived_none _
 
 pub overflow_mul-bits : goal.overflow_mul-bits
 overflow_mul-bits c = let bits = c.bits-bits in
@@ -61,7 +60,7 @@ pub bounds-r-t : goal.bounds-r-t
 bounds-r-t c = in_table (goal.at.bounds-r-t c).After-delay_of
 
 pub overflow_add-r : goal.overflow_add-r
-overflow_add-r c = omega (arith, arrived_few _ _ _ c.loop-e.invariant.1 _ (in_table (goal.at.overflow_add-r c).After-delay_of), c.requires.few, c.loop-e-test.true)
+overflow_add-r c = omega (arith, arrived_few _ _ _ c.loop-e.invariant _ (in_table (goal.at.overflow_add-r c).After-delay_of), c.requires.few, c.loop-e-test.true)
 
 pub bounds-r-t-in-loop-e : goal.bounds-r-t-in-loop-e
 bounds-r-t-in-loop-e c = in_table (goal.at.bounds-r-t-in-loop-e c).After-delay_of
@@ -69,8 +68,8 @@ bounds-r-t-in-loop-e c = in_table (goal.at.bounds-r-t-in-loop-e c).After-delay_o
 pub loop-e-preserved : goal.loop-e-preserved
 loop-e-preserved c = let h = c.loop-e in
     let E = message (goal.at.loop-e-preserved c).After-message_at-g in
-    (search rules, arrived_more _ h.e h.r h.invariant.1 _ (in_table (goal.at.loop-e-preserved c).After-delay_of) (rw (c.delay_of.ensures.0, ap at E, ap from E, ap to E)))
+    arrived_more _ h.e h.r h.invariant _ (in_table (goal.at.loop-e-preserved c).After-delay_of) (rw (c.from.ensures, c.delay_of.ensures.0, ap at E, ap from E, ap to E))
 
 pub returns : goal.returns
 returns c = let e : c.loop-e.e ≡ c.args.count = omega arith in
-    rw e at c.loop-e.invariant.1
+    rw e at c.loop-e.invariant

@@ -1,10 +1,6 @@
 -- `counted` meets its contract: after e turns the table has the arrivals of the first e messages.
-use Prim.Native.Nat.{◌-◌, ◌≤◌}
 use Rattle.forecast.specs.Steps.{arrival_at, Arrived}
 use Rattle.forecast.proofs.arrivals.counted.Given as goal
 
 abbrev pub invariant-loop-e : goal.invariant-loop-e
-invariant-loop-e l = (l.e ≤ l.count) × Arrived (arrival_at l.width l.part l.offset l.plan l.links) l.e l.r
-
-abbrev pub decreases-loop-e : goal.decreases-loop-e
-decreases-loop-e l = l.count - l.e
+invariant-loop-e l = Arrived (arrival_at l.width l.part l.offset l.plan l.links) l.e l.r

@@ -1,24 +1,20 @@
--- `highest` meets its contract: after t turns it has the largest of the first t numbers.
-use mathlib.Core.Path.{◌≡◌, refl, ◌∙◌}
+-- `highest` meets its contract: behind the first numbers it has the largest of them.
+-- It stands on the definition alone.
+use mathlib.Core.Path.{refl}
+use Prim.Native.Nat.{ℕ, ◌<◌}
 use native.Mathlib.Numerals.{add-one}
 use native.Mathlib.Omega.{arith}
-use borrow.Author.Rules.{rules}
+use Rattle.std.proofs.lemmas.List.{get_or-take, length-take-le}
 use Rattle.traffic.specs.Traffic.{largest}
-use Rattle.forecast.proofs.arrivals.highest.Goals.{then-r-x, else-r-x}
 use Rattle.forecast.proofs.arrivals.highest.Goals as goal
 
-pub loop-t-init : goal.loop-t-init
+pub loop-x-init : goal.loop-x-init
 unfolding largest
-loop-t-init c = (search rules, refl)
+loop-x-init c = refl
 
-pub loop-t-preserved : goal.loop-t-preserved
+pub loop-x-preserved : goal.loop-x-preserved
 unfolding largest
-loop-t-preserved c = let l = c.loop-t in
-    elim c.if-r-x.branch [
-      | then-r-x w ↦ (search rules, w.r-is ∙ rw (add-one l.t) (omega (arith, w.if-r-x.true, l.invariant.1)))
-      | else-r-x w ↦ (search rules, w.r-is ∙ rw (add-one l.t) (omega (arith, w.if-r-x.false, l.invariant.1)))
-    ]
-
-pub returns : goal.returns
-returns c = let e : c.loop-t.t ≡ c.args.ticks = omega arith in
-    rw e at c.loop-t.invariant.1
+loop-x-preserved c =
+    let l = c.loop-x in
+    let below : l.x-index < c.args.ticks = omega (arith, length-take-le {A = ℕ}, c.loop-x-test.true) in
+    rw (add-one l.x-index) (omega (arith, c.max-r.ensures, get_or-take c.args.ticks c.args.table.now l.x-index 0 below, l.invariant))

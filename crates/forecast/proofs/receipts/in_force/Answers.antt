@@ -2,17 +2,13 @@
 use mathlib.Core.Path.{◌≡◌}
 use native.Mathlib.Nat.{div-le_self}
 use native.Mathlib.Omega.{arith}
-use borrow.Author.Rules.{rules}
 use Rattle.plan.specs.{Header.moves, Shape.shape}
 use Rattle.plan.proofs.Ranges.{movement_of}
 use Rattle.forecast.proofs.Tables.{in_force_none, in_force_more}
 use Rattle.forecast.proofs.receipts.in_force.Goals as goal
 
 pub loop-t-init : goal.loop-t-init
-loop-t-init c = (search rules, in_force_none _ _ _)
-
-pub overflow_cast-t : goal.overflow_cast-t
-overflow_cast-t c = omega (arith, div-le_self c.loop-t.t c.args.h.period)
+loop-t-init c = in_force_none _ _ _
 
 pub placement_at-at-requires : goal.placement_at-at-requires
 placement_at-at-requires c = omega (arith, div-le_self c.loop-t.t c.args.h.period)
@@ -25,9 +21,9 @@ field-requires c = let l = c.loop-t in
 
 pub loop-t-preserved : goal.loop-t-preserved
 loop-t-preserved c = let l = c.loop-t in
-    (search rules, in_force_more c.args.h.width c.args.plan.now (shape c.args.h) l.t l.r _ (omega arith) (rw c.placement_at-at.ensures at c.field.ensures.0) l.invariant.1)
+    rw c.from-in-loop-t.ensures (in_force_more c.args.h.width c.args.plan.now (shape c.args.h) l.t l.r _ (omega arith) (rw (c.placement_at-at.ensures, c.from.ensures) at c.field.ensures.0) l.invariant)
 
 pub returns : goal.returns
 returns c = let l = c.loop-t in
     let e : l.t ≡ c.args.h.ticks = omega arith in
-    rw e at l.invariant.1
+    rw e at l.invariant

@@ -8,7 +8,7 @@ use Rattle.forecast.proofs.receipts.receipts.Goals as goal
 
 pub loop-b-init : goal.loop-b-init
 unfolding count
-loop-b-init c = (search rules, search rules, refl)
+loop-b-init c = (search rules, refl)
 
 pub arrival-before-requires : goal.arrival-before-requires
 arrival-before-requires c = (c.requires.0, c.loop-b-test.true)
@@ -26,9 +26,9 @@ pub loop-b-preserved : goal.loop-b-preserved
 unfolding count
 loop-b-preserved c = let l = c.loop-b in
     let f = rw c.arrival-before.ensures.0 at c.free-r.ensures.0 in
-    (search rules, omega (arith, c.free-r.ensures.1), rw (add-one l.b) (omega (arith, f, l.invariant.2)))
+    (omega (arith, c.free-r.ensures.1), rw (add-one l.b) (omega (arith, f, l.invariant.1)))
 
 pub returns : goal.returns
 returns c = let l = c.loop-b in
     let e : l.b ≡ c.args.sending.n = omega arith in
-    (rw e at l.invariant.2, omega (arith, c.requires.0.servers))
+    (rw e at l.invariant.1, omega (arith, c.requires.0.servers))

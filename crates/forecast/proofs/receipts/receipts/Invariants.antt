@@ -16,7 +16,4 @@ abbrev isFree : Sending → List ℕ → ℕ → Bool
 isFree sending placements b = not (bit (most_servers - 1 - b) (get_or placements (arrival_of sending b - 1) 0))
 
 abbrev pub invariant-loop-b : goal.invariant-loop-b
-invariant-loop-b l = (l.b ≤ l.n) × (l.r ≤ l.b) × (l.r ≡ count (isFree l.sending l.placements) l.b)
-
-abbrev pub decreases-loop-b : goal.decreases-loop-b
-decreases-loop-b l = l.n - l.b
+invariant-loop-b l = (l.r ≤ l.b) × (l.r ≡ count (isFree l.sending l.placements) l.b)
