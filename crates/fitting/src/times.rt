@@ -1,18 +1,12 @@
-// The writes of a plan, and how long one lasts.
+// The writes of a plan by number, and δ.
 ghost use Rattle.std.specs.Prelude.{◌≤◌};
 ghost use Rattle.plan.specs.Form.{most_width};
 ghost use Rattle.plan.specs.Playable.{Playable};
 ghost use Rattle.fitting.specs.Times.{Timed};
 
 use plan::header::Shape;
-use tables::operations::{Writes, writes_of};
-
-// The writes by number, and δ.
-#[derive(Clone, Copy)]
-pub struct Times {
-    pub writes: Writes,
-    pub delta: u8,
-}
+use regular::Times;
+use tables::operations::writes_of;
 
 // Those of a plan that can be played.
 pub fn of_plan(plan: &[u8], width: u8) -> Times

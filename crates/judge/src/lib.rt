@@ -10,37 +10,20 @@ ghost use Rattle.regular.specs.Tables.{Tables};
 ghost use Rattle.fitting.specs.Answered.{Answered};
 
 use fitting::times;
-use limits::PLACES;
 use plan::{Outcome, form};
-use regular::is_allowed;
+use regular::Times;
 use results::judge::Judged;
 
 // Do all answers hold allowed pairs?
-fn all_allowed(
-    answers: &[u8],
-    width: u8,
-    values: &[u32; PLACES],
-    begun: &[u8; PLACES],
-    m: usize,
-    delta: u8,
-    count: usize,
-) -> bool
-    requires { (1 ≤ m) × (m ≤ 65) × (count ≤ 255) × (width ≤ most_width) × (answer_size width * count ≤ length answers.now) }
-    ensures { ((P : Plan) → Tables width P values.now begun.now m → P.delta ≡ delta
+fn all_allowed(answers: &[u8], width: u8, times: &Times, count: usize) -> bool
+    requires { (count ≤ 255) × (width ≤ most_width) × (answer_size width * count ≤ length answers.now) }
+    ensures { ((P : Plan) → Tables width P times.now.writes.known.values times.now.writes.begun times.now.writes.known.m → P.delta ≡ times.now.delta
         → ((i : ℕ) → i < count → (read_of P i).begun ≡ begin_in width answers.now i)
         → result ≡ all_up_to count (λ i. allowed P (read_of P i) (pair_in width answers.now i))) }
 {
     for i in 0..count {
         let answer = answers::read(answers, width, i);
-        if !is_allowed(
-            values,
-            begun,
-            m,
-            delta,
-            answer.begin,
-            answer.value,
-            answer.number,
-        ) {
+        if !times.is_allowed(answer.begin, answer.value, answer.number) {
             return false;
         }
     }
@@ -53,17 +36,7 @@ fn judge_answers(plan: &[u8], width: u8, answers: &[u8], count: usize) -> Judged
     ensures { judged result ≡ returned (all_up_to count (answer_allowed width plan.now answers.now)) }
 {
     let times = times::of_plan(plan, width);
-    let writes = times.writes;
-    let known = writes.known;
-    if all_allowed(
-        answers,
-        width,
-        &known.values,
-        &writes.begun,
-        known.m,
-        times.delta,
-        count,
-    ) {
+    if all_allowed(answers, width, &times, count) {
         Judged::Yes
     } else {
         Judged::No

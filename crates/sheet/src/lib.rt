@@ -11,36 +11,29 @@ ghost use Rattle.page.specs.Page.{read_line, read_lines, page_of};
 ghost use Rattle.sheet.specs.Sheet.{sheet_after, sheet_in};
 
 use fitting::times;
-use limits::PLACES;
 use page::{COLUMNS, Row, put_line};
 use plan::{Outcome, Refusal, form};
-use regular::has_concurrent;
+use regular::Times;
 
 // The lines that are no read's: heading, rule and closing line.
 const OTHER_LINES: usize = 3;
 
 // The line of read i.
-fn line_of(
-    answers: &[u8],
-    width: u8,
-    i: usize,
-    begun: &[u8; PLACES],
-    m: usize,
-    delta: u8,
-) -> [u8; COLUMNS]
-    requires { (answer_size width * i + answer_size width ≤ length answers.now) × (i < 256) × (width ≤ most_width) × (1 ≤ m) × (m ≤ 65) }
-    ensures { (s values : List ℕ) (count : ℕ) → Answered width s answers.now count → i < count → Tables width (plan_of width s) values begun.now m
-        → (plan_of width s).delta ≡ delta → result ≡ read_line width s answers.now i }
+fn line_of(answers: &[u8], width: u8, i: usize, times: &Times) -> [u8; COLUMNS]
+    requires { (answer_size width * i + answer_size width ≤ length answers.now) × (i < 256) × (width ≤ most_width) }
+    ensures { (s values : List ℕ) (count : ℕ) → Answered width s answers.now count → i < count
+        → Tables width (plan_of width s) values times.now.writes.begun times.now.writes.known.m
+        → (plan_of width s).delta ≡ times.now.delta → result ≡ read_line width s answers.now i }
 {
     let answer = answers::read(answers, width, i);
     page::read_line(Row {
         begin: answer.begin,
         reader: answer.reader,
-        end: u16::from(answer.begin) + 2 * u16::from(delta),
+        end: u16::from(answer.begin) + 2 * u16::from(times.delta),
         value: answer.value,
         number: answer.number,
         count: answer.count,
-        marked: has_concurrent(begun, m, delta, answer.begin),
+        marked: times.has_concurrent(answer.begin),
     })
 }
 
@@ -57,11 +50,9 @@ fn put_reads(
     ensures { Stored page.old start (read_lines width plan.now answers.now count) page.new result }
 {
     let times = times::of_plan(plan, width);
-    let writes = times.writes;
-    let m = writes.known.m;
     let mut next = start;
     for i in 0..count {
-        let line = line_of(answers, width, i, &writes.begun, m, times.delta);
+        let line = line_of(answers, width, i, &times);
         next = put_line(page, next, &line);
     }
     next

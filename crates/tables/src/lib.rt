@@ -1,6 +1,7 @@
 #![tactic(auto)]
 // The tables of a plan, decoded: what a header gives, the delays of the links, the writes and the reads, and one forged message.
 ghost use Rattle.std.specs.Prelude.{◌≤◌};
+ghost use Rattle.limits.specs.Limits.{places};
 ghost use Rattle.plan.specs.Form.{most_width};
 ghost use Rattle.plan.specs.Shape.{Ranged, shape};
 ghost use Rattle.tables.specs.Rules.{RulesOf, LinksOf};
@@ -30,11 +31,13 @@ pub struct Links {
     pub parties: usize,
 }
 
-// The values of the pairs 0 .. m - 1.
+// The values of the pairs 0 .. m - 1: of the initial pair, and of as many more as have a place.
 #[derive(Clone, Copy)]
 pub struct Known {
     pub values: [u32; PLACES],
     pub m: usize,
+    pub ghost some: { 1 ≤ m },
+    pub ghost few: { m ≤ places },
 }
 
 // The rules of the plan with this header.

@@ -15,7 +15,7 @@ use Rattle.judge.proofs.all_allowed.Goals.{After-is_allowed, In-loop-i}
 use Rattle.judge.proofs.all_allowed.Goals as goal
 
 tested : (c : After-is_allowed) (P : Plan)
-    → Tables c.args.width P c.args.values.now c.args.begun.now c.args.m → P.delta ≡ c.args.delta
+    → Tables c.args.width P c.args.times.now.writes.known.values c.args.times.now.writes.begun c.args.times.now.writes.known.m → P.delta ≡ c.args.times.now.delta
     → Begun c.args.width P c.args.answers.now c.args.count
     → allowed_at c.args.width P c.args.answers.now c.loop-i.i ≡ c.is_allowed.result
 tested c P W d b =
@@ -26,13 +26,13 @@ tested c P W d b =
 -- answer i lies in the buffer
 inside : (c : In-loop-i) → let a = c.args in
     answer_size a.width * c.loop-i.i + answer_size a.width ≤ length a.answers.now
-inside c = omega (arith, c.requires.4, record_inside (answer_size c.args.width) c.loop-i.i c.args.count c.loop-i-test.true)
+inside c = omega (arith, c.requires.2, record_inside (answer_size c.args.width) c.loop-i.i c.args.count c.loop-i-test.true)
 
 pub loop-i-init : goal.loop-i-init
 loop-i-init c = λ P W d b. all_none (allowed_at c.args.width P c.args.answers.now)
 
 pub read-answer-requires : goal.read-answer-requires
-read-answer-requires c = (inside (goal.at.read-answer-requires c).In-loop-i, omega (arith, c.requires.2, c.loop-i-test.true), c.requires.3)
+read-answer-requires c = (inside (goal.at.read-answer-requires c).In-loop-i, omega (arith, c.requires.0, c.loop-i-test.true), c.requires.1)
 
 pub returns-then-not-is_allowed : goal.returns-then-not-is_allowed
 returns-then-not-is_allowed c = λ P W d b.

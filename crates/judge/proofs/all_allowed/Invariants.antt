@@ -9,6 +9,7 @@ use Rattle.register.specs.Regular.{allowed}
 use Rattle.answers.specs.Answers.{begin_in, pair_in}
 use Rattle.results.specs.Judge.{read_of}
 use Rattle.regular.specs.Tables.{Tables}
+use Rattle.regular.specs.declared.Times.{Times}
 use Rattle.judge.proofs.all_allowed.Given as goal
 
 -- answer i is allowed
@@ -19,9 +20,9 @@ allowed_at w P answers i = allowed P (read_of P i) (pair_in w answers i)
 abbrev pub Begun : ℕ → Plan → List ℕ → ℕ → Type 0
 Begun w P answers count = (i : ℕ) → i < count → (read_of P i).begun ≡ begin_in w answers i
 
-abbrev pub Passed : List ℕ → ℕ → List ℕ → List ℕ → ℕ → ℕ → ℕ → ℕ → Type 0
-Passed answers width values begun m delta count i =
-    (P : Plan) → Tables width P values begun m → P.delta ≡ delta → Begun width P answers count → all_up_to i (allowed_at width P answers) ≡ true
+abbrev pub Passed : List ℕ → ℕ → Times → ℕ → ℕ → Type 0
+Passed answers width times count i =
+    (P : Plan) → Tables width P times.writes.known.values times.writes.begun times.writes.known.m → P.delta ≡ times.delta → Begun width P answers count → all_up_to i (allowed_at width P answers) ≡ true
 
 abbrev pub invariant-loop-i : goal.invariant-loop-i
-invariant-loop-i l = Passed l.answers l.width l.values l.begun l.m l.delta l.count l.i
+invariant-loop-i l = Passed l.answers l.width l.times l.count l.i

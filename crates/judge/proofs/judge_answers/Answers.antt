@@ -24,8 +24,8 @@ pub of_plan-times-requires : goal.of_plan-times-requires
 of_plan-times-requires c = (playable c.args.width _ c.args.count c.requires.0.checked, c.requires.1)
 
 pub all_allowed-requires : goal.all_allowed-requires
-all_allowed-requires c = let W = c.of_plan-times.ensures.tables.written in
-    (omega (arith, W.count), W.few, few_answers c.args.width c.args.plan.now c.args.count c.requires.0.checked, c.requires.1, omega (arith, c.requires.0.size))
+all_allowed-requires c =
+    (few_answers c.args.width c.args.plan.now c.args.count c.requires.0.checked, c.requires.1, omega (arith, c.requires.0.size))
 
 pub returns-then-all_allowed : goal.returns-then-all_allowed
 returns-then-all_allowed c = ap (λ (v : Bool). result v) (sym c.if-all_allowed.true ∙ sym (allows (goal.at.returns-then-all_allowed c).After-all_allowed))

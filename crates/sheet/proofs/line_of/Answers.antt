@@ -19,4 +19,4 @@ returns c = λ s values count A l W d.
     let x = c.args in
     let P : Plan = plan_of x.width s in
     let marked = c.has_concurrent.ensures x.width P (read_of P x.i) values W d (begun_is answer.ensures A l) in
-    rw (c.from.ensures, c.from-2.ensures) at (c.read_line.ensures x.width (omega arith) answer.ensures.value_hi) ∙ line_is answer.ensures A l x.delta _ d marked
+    rw (c.from.ensures, c.from-2.ensures) at (c.read_line.ensures x.width (omega arith) answer.ensures.value_hi) ∙ line_is answer.ensures A l x.times.now.delta _ d marked

@@ -21,14 +21,12 @@ unfolding read_lines
 loop-i-init c = (refl, stored_none _ _ refl)
 
 pub line_of-line-requires : goal.line_of-line-requires
-line_of-line-requires c = let W = c.of_plan-times.ensures.tables.written in
+line_of-line-requires c =
     let l = c.loop-i-test.true in
     let few = few_answers c.args.width _ c.args.count c.requires.2.checked in (
       omega (arith, c.requires.2.size, record_inside (answer_size c.args.width) c.loop-i.i c.args.count l),
       omega (arith, few),
       c.requires.1,
-      omega (arith, W.count),
-      W.few,
     )
 
 pub put_line-next-requires : goal.put_line-next-requires

@@ -5,8 +5,8 @@ use native.Mathlib.Omega.{arith}
 use borrow.Author.Rules.{rules}
 use Rattle.register.specs.Regular.{finished}
 use Rattle.regular.proofs.Steps.{last_none, last_taken, last_left}
-use Rattle.regular.proofs.last_finished.Goals.{then-is_finished, else-is_finished}
-use Rattle.regular.proofs.last_finished.Goals as goal
+use Rattle.regular.proofs.Times.last_finished.Goals.{then-is_finished, else-is_finished}
+use Rattle.regular.proofs.Times.last_finished.Goals as goal
 
 pub loop-j-init : goal.loop-j-init
 loop-j-init c = (search rules, search rules, λ P x w d b e. last_none (λ j. finished P x (w j)))
@@ -30,5 +30,5 @@ loop-j-preserved c = let h = c.loop-j in
     ]
 
 pub returns : goal.returns
-returns c = let e : c.loop-j.j ≡ c.args.m = omega arith in
+returns c = let e : c.loop-j.j ≡ c.args.self.now.writes.known.m = omega arith in
     (omega arith, rw e at c.loop-j.invariant.2)

@@ -7,7 +7,7 @@ use lib.ListN.{get_or}
 use Rattle.register.specs.Plan.{Plan, Read, Write}
 use Rattle.register.specs.Regular.{finished}
 use Rattle.regular.specs.Tables.{Last}
-use Rattle.regular.proofs.last_finished.Given as goal
+use Rattle.regular.proofs.Times.last_finished.Given as goal
 
 -- the last of the first j writes that finished
 abbrev Sought : List ℕ → ℕ → ℕ → ℕ → ℕ → Type 0
@@ -15,4 +15,4 @@ Sought begun delta read j last = (P : Plan) (x : Read) (w : ℕ → Write) → P
     → ((k : ℕ) → (w k).begun ≡ get_or begun k 0) → Last (λ k. finished P x (w k)) j last
 
 abbrev pub invariant-loop-j : goal.invariant-loop-j
-invariant-loop-j l = (1 ≤ l.j) × (l.last < l.j) × Sought l.begun l.delta l.read l.j l.last
+invariant-loop-j l = (1 ≤ l.j) × (l.last < l.j) × Sought l.self.writes.begun l.self.delta l.read l.j l.last
