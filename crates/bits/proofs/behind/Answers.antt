@@ -1,13 +1,10 @@
 use mathlib.Core.Path.{◌≡◌}
 use Prim.Native.Nat.{◌+◌, ◌-◌, ◌^◌, ◌<◌}
 use native.Mathlib.Omega.{arith}
-use lib.Pow.{pow_pos, shl_exact}
+use lib.Pow.{shl_exact}
 use Rattle.bits.proofs.Laws.{one_shl}
 use Rattle.bits.proofs.Written.{behind_lt}
 use Rattle.bits.proofs.behind.Goals as goal
-
-pub nonzero_rem-result : goal.nonzero_rem-result
-nonzero_rem-result c = rw (one_shl c.args.width 64 (omega arith)) (pow_pos _)
 
 pub overflow_add-result : goal.overflow_add-result
 overflow_add-result c = let a = c.args in

@@ -1,4 +1,3 @@
-use mathlib.Core.Path.{◌≡◌}
 use Prim.Native.Nat.{◌+◌, ◌*◌}
 use borrow.Author.Rules.{rules}
 use native.Mathlib.Omega.{arith}
@@ -23,6 +22,3 @@ loop-k-preserved c = let a = c.args in
     let k = c.loop-k.k in
     let m = bytes_more a.s.now a.b k (omega (arith, c.type_inv.s (a.b + k))) in
     omega (arith, m)
-
-pub returns : goal.returns
-returns c = let e : c.loop-k.k ≡ c.args.n = omega arith in rw (← e) c.loop-k.invariant

@@ -9,12 +9,6 @@ pub returns-then-width-eq0 : goal.returns-then-width-eq0
 returns-then-width-eq0 c = let a = c.args in
     rw c.if-width-eq0.true (sym (field_zero a.s.now a.at), lit< tt)
 
-pub overflow_sub-n : goal.overflow_sub-n
-overflow_sub-n c = omega (arith, c.bytes_for-n.ensures)
-
-pub overflow_sub-n-then-s-first : goal.overflow_sub-n-then-s-first
-overflow_sub-n-then-s-first c = omega (arith, c.bytes_for-n.ensures)
-
 pub returns-then-s-first : goal.returns-then-s-first
 returns-then-s-first c = let a = c.args in
     let n = c.bytes_for-n in

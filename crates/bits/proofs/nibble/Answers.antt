@@ -7,12 +7,6 @@ pub returns-then-off-le4 : goal.returns-then-off-le4
 returns-then-off-le4 c = let a = c.args in
     (nibble_one a.s.now a.at (omega (arith, c.type_inv.s (a.at / 8))) (omega arith), omega arith)
 
-pub overflow_mul-both : goal.overflow_mul-both
-overflow_mul-both c = omega (arith, c.type_inv.s (c.args.at / 8))
-
-pub overflow_add-both : goal.overflow_add-both
-overflow_add-both c = omega (arith, c.type_inv.s (c.args.at / 8), c.type_inv.s (c.args.at / 8 + 1))
-
 pub returns-else-off-le4 : goal.returns-else-off-le4
 returns-else-off-le4 c = let a = c.args in
     (rw (c.from.ensures, c.from-else-off-le4.ensures) (nibble_two a.s.now a.at (omega (arith, c.type_inv.s (a.at / 8))) (omega (arith, c.type_inv.s (a.at / 8 + 1)))), omega arith)

@@ -3,7 +3,6 @@ use Prim.Native.Nat.{◌+◌, ◌-◌, ◌*◌, ◌/◌, ◌^◌}
 use borrow.Author.Rules.{rules}
 use native.Mathlib.Omega.{arith}
 use lib.Pow.{shr-shr}
-use native.Mathlib.Nat.{pow-zero, div-one}
 use Rattle.bits.proofs.Bits.{bits_zero}
 use Rattle.bits.proofs.Written.{wrote_nothing, wrote_more}
 use Rattle.bits.proofs.put_bytes.Goals as goal
@@ -18,9 +17,3 @@ loop-k-preserved c = let a = c.args in
     let above : 8 * (a.n - k) ≡ 8 * (a.n - 1 - k) + 8 = omega arith in
     let same : a.n - (k + 1) ≡ a.n - 1 - k = omega arith in
     rw same (wrote_more a.b k x (search rules) (rw (above, ← shr-shr a.value (8 * (a.n - 1 - k)) 8) at c.loop-k.invariant))
-
-pub returns : goal.returns
-returns c = let a = c.args in
-    let e : c.loop-k.k ≡ a.n = omega arith in
-    let none : 8 * (a.n - a.n) ≡ 0 = omega arith in
-    rw (e, none, pow-zero, div-one) at c.loop-k.invariant

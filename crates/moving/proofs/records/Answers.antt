@@ -1,23 +1,11 @@
 -- `records` meets its contract: record behind record, the first are there.
 use native.Mathlib.Numerals.{add-one}
 use native.Mathlib.Omega.{arith}
-use Rattle.bits.specs.Layout.{total}
-use Rattle.bits.proofs.Records.{record_inside}
 use Rattle.moving.proofs.Moving.{follow_none, follow_more, follow_all}
 use Rattle.moving.proofs.records.Goals as goal
 
 pub loop-init : goal.loop-init
 loop-init c = follow_none _ _ _ _ _ _ _
-
-pub record-next-requires : goal.record-next-requires
-record-next-requires c = let a = c.args in
-    let l = c.loop in
-    let read = record_inside (total a.had.now) l.counter a.count (omega arith) in
-    let written = record_inside (total a.wanted.now) l.counter a.count (omega arith) in (
-      record { inside = omega (arith, l.invariant); near = omega (arith, l.invariant); narrow = c.requires.0 },
-      record { inside = omega (arith, l.invariant); near = omega (arith, l.invariant); narrow = c.requires.1 },
-      c.requires.2,
-    )
 
 pub loop-preserved : goal.loop-preserved
 loop-preserved c = let a = c.args in

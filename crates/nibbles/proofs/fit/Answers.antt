@@ -1,9 +1,7 @@
 -- `fit` meets its contract: the loop has compared the numbers below i.
-use mathlib.Core.Path.{◌≡◌, refl, sym}
+use mathlib.Core.Path.{refl, sym}
 use native.Mathlib.Numerals.{add-one}
 use native.Mathlib.Omega.{arith}
-use lib.ListN.{length}
-use lib.Seq.{take_all}
 use Rattle.bits.specs.Layout.{records, fits}
 use Rattle.nibbles.proofs.Numbers.{fits_more}
 use Rattle.nibbles.proofs.fit.Goals as goal
@@ -16,8 +14,3 @@ pub loop-number-preserved : goal.loop-number-preserved
 loop-number-preserved c = let xs = c.args.numbers.now in
     let l = c.loop-number in
     rw (l.invariant, add-one) (sym (fits_more xs l.number-index (omega arith)))
-
-pub returns : goal.returns
-returns c = let xs = c.args.numbers.now in
-    let e : c.loop-number.number-index ≡ length xs = omega arith in
-    rw (c.loop-number.invariant, e, take_all (length xs) xs (omega arith))

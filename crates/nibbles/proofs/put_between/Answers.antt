@@ -24,7 +24,3 @@ loop-k-preserved c = let a = c.args in
           (part_then {lo = 8 * l.k - off} (omega arith) (omega arith) (omega arith) l.invariant.3
           (part_of 8 x (omega arith) (omega arith) byte (between_at xs l.k off (omega arith) (omega arith) (omega arith)))),
     )
-
-pub returns : goal.returns
-returns c = let e : c.loop-k.k ≡ c.args.pairs = omega arith in
-    rw e at c.loop-k.invariant.3

@@ -1,15 +1,11 @@
 -- `fits_one` meets its contract: what is left fits as the whole does.
 use mathlib.Core.Path.{◌∙◌, sym}
-use native.Mathlib.Nat.{sub-zero}
 use native.Mathlib.Numerals.{add-one}
 use native.Mathlib.Omega.{arith}
 use borrow.Author.Tests.{not-true, not-false}
 use Rattle.records.proofs.Underway.{narrow_at}
 use Rattle.packing.proofs.Fitting as fitting
 use Rattle.packing.proofs.fits_one.Goals as goal
-
-pub loop-j-init : goal.loop-j-init
-loop-j-init c = rw sub-zero
 
 pub is_narrow-requires : goal.is_narrow-requires
 is_narrow-requires c = narrow_at 32 _ _ c.requires.0 (omega arith)

@@ -4,7 +4,7 @@ use native.Mathlib.Numerals.{add-one}
 use native.Mathlib.Omega.{arith}
 use lib.Pow.{pow_mono}
 use Rattle.records.proofs.Underway.{total_inside}
-use Rattle.packing.proofs.Writing.{join_none, join_more, join_all}
+use Rattle.packing.proofs.Writing.{join_none, join_more}
 use Rattle.packing.proofs.joined.Goals as goal
 
 pub loop-j-init : goal.loop-j-init
@@ -20,8 +20,3 @@ pub loop-j-preserved : goal.loop-j-preserved
 loop-j-preserved c = let a = c.args in
     let l = c.loop-j in
     rw (add-one l.j, c.behind-acc.ensures, c.from.ensures, c.from-in-loop-j.ensures) (join_more a.widths.now a.numbers.now (omega arith) l.invariant (omega arith))
-
-pub returns : goal.returns
-returns c = let a = c.args in
-    let l = c.loop-j in
-    join_all a.widths.now a.numbers.now (omega arith) l.invariant (omega arith)

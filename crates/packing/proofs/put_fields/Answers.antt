@@ -2,7 +2,7 @@
 use native.Mathlib.Numerals.{add-one}
 use native.Mathlib.Omega.{arith}
 use Rattle.records.proofs.Underway.{narrow_at, total_inside}
-use Rattle.packing.proofs.Writing.{write_none, write_more, write_all}
+use Rattle.packing.proofs.Writing.{write_none, write_more}
 use Rattle.packing.proofs.put_fields.Goals as goal
 
 pub loop-j-init : goal.loop-j-init
@@ -25,6 +25,3 @@ loop-j-preserved c = let a = c.args in
     let l = c.loop-j in
     let w = rw (c.from-width.ensures, c.from.ensures) at c.put.ensures in
     rw (add-one l.j, c.from-width.ensures) (write_more a.widths.now a.numbers.now (omega arith) l.invariant (omega arith) w)
-
-pub returns : goal.returns
-returns c = write_all c.loop-j.invariant (omega arith) (omega arith)
