@@ -13,6 +13,7 @@ use plan::operations::Operation;
 pub mod reads;
 
 // Operation i of the plan, whose operations begin at bit `first`: a loop works that out once.
+#[inline(always)]
 fn operation_of(plan: &[u8], h: Shape, first: usize, i: usize) -> Operation
     requires { Sized h.width plan.now (shape h) × (first ≡ operation_at h.width (shape h) 0) × (i < h.operations) }
     ensures { IsOperation h.width plan.now (operation_at h.width (shape h) i) result }
