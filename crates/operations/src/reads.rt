@@ -20,8 +20,9 @@ pub fn count(plan: &[u8], h: Shape) -> usize
     ensures { result ≡ length (reads_from (operations_of h.width plan.now (shape h))) }
 {
     let mut reads = 0;
+    let first = h.operations_at();
     for i in 0..usize::from(h.operations) {
-        if operation_of(plan, h, i).party != 0 {
+        if operation_of(plan, h, first, i).party != 0 {
             reads += 1;
         }
     }
@@ -43,8 +44,9 @@ pub fn opened(plan: &[u8], h: Shape) -> [bool; PLACES]
     ensures { (length result ≡ 1024) × Opened h.width plan.now (shape h) h.operations result }
 {
     let mut table = [false; PLACES];
+    let first = h.operations_at();
     for i in 0..usize::from(h.operations) {
-        let o = operation_of(plan, h, i);
+        let o = operation_of(plan, h, first, i);
         if o.party != 0 {
             mark(
                 &mut table,

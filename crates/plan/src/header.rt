@@ -287,21 +287,13 @@ impl Shape {
         self.placement_at(self.moves())
     }
 
-    // The first bit of operation i.
-    #[tactic(auto, using(crate::proofs::Sizes::operations_few))]
-    pub fn operation_at(self, i: usize) -> usize
-        requires { Ranged (shape self) × (self.width ≤ most_width) × (i ≤ 255) }
-        ensures { (result ≡ operation_at self.width (shape self) i) × (result ≤ most_forgeries_at) }
-    {
-        self.operations_at() + self.operation_bits() * i
-    }
-
     // The first bit of the forgeries.
+    #[tactic(auto, using(crate::proofs::Sizes::operations_few))]
     pub fn forgeries_at(self) -> usize
         requires { Ranged (shape self) × (self.width ≤ most_width) }
         ensures { (result ≡ operation_at self.width (shape self) self.operations) × (result ≤ most_forgeries_at) }
     {
-        self.operation_at(usize::from(self.operations))
+        self.operations_at() + self.operation_bits() * usize::from(self.operations)
     }
 
     // The first bit of the delays.

@@ -30,6 +30,7 @@ pub struct Reads {
 }
 
 // Operation i of those that stand from bit `at` on.
+#[inline(always)]
 fn operation_of(plan: &[u8], at: usize, width: u8, i: usize) -> Operation
     requires { (at + operation_bits width * i + operation_bits width ≤ 8 * length plan.now) × (at < 4096) × (i ≤ 255) × (width ≤ most_width) }
     ensures { IsOperation width plan.now (at + operation_bits width * i) result }
