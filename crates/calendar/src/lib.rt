@@ -153,8 +153,7 @@ pub fn post_kept(work: &mut [u8], row: usize, kept: [Stamped; DEPTH], i: usize)
     requires { (row < rows) × (i < most_servers) × (calendar_size ≤ length work.old) }
     ensures { Posted work.old work.new (in_row row i (among kept)) }
 {
-    let span = span_of(kept);
-    post_all(work, row, kept, span, i);
+    post_all(work, row, kept, span_of(kept), i);
 }
 
 // A server's vote for pair j is under way to all others.

@@ -13,7 +13,7 @@ use tables::forged::{delay_of, message_at};
 pub const ENTRIES: usize = requests::END;
 
 // How many bytes an entry has.
-pub const ENTRY_BYTES: usize = 8;
+pub const ENTRY: usize = 8;
 
 // How many ticks the starts are told for: one more than a plan may have.
 pub const STARTS: usize = 129;
@@ -33,7 +33,7 @@ fn known_number(values: &[u32; PLACES], m: usize, value: u32, number: u8) -> u8
 
 // A forged message in the workspace: the ticks in which it is sent and arrives, whom it goes to and who sends it, the number of its pair or NO_PAIR.
 #[derive(Clone, Copy)]
-pub struct Entry {
+pub struct ForgedEntry {
     pub sent: u8,
     pub arrival: u8,
     pub receiver: u8,
@@ -41,9 +41,9 @@ pub struct Entry {
     pub number: u8,
 }
 
-impl Entry {
+impl ForgedEntry {
     // Entry e.
-    pub fn of(work: &[u8], e: usize) -> Entry
+    pub fn of(work: &[u8], e: usize) -> ForgedEntry
         requires { (e < most_entries) × (entries_end ≤ length work.now) }
         ensures sent { result.sent ≡ entry_at work.now e 0 }
         ensures arrival { result.arrival ≡ entry_at work.now e 1 }
@@ -51,8 +51,8 @@ impl Entry {
         ensures sender { result.sender ≡ entry_at work.now e 3 }
         ensures number { result.number ≡ entry_at work.now e 4 }
     {
-        let at = ENTRIES + ENTRY_BYTES * e;
-        Entry {
+        let at = ENTRIES + ENTRY * e;
+        ForgedEntry {
             sent: work[at],
             arrival: work[at + 1],
             receiver: work[at + 2],
@@ -96,14 +96,14 @@ pub fn fill(
     let bits = Forged::bits(width);
     for e in 0..count {
         let g = message_at(part, offset + bits * e, width);
-        let entry = Entry {
+        let entry = ForgedEntry {
             sent: g.at,
             arrival: g.at + delay_of(plan, links, n, g) as u8,
             receiver: g.to,
             sender: g.from,
             number: known_number(values, m, g.value, g.number),
         };
-        entry.put(work, ENTRIES + ENTRY_BYTES * e);
+        entry.put(work, ENTRIES + ENTRY * e);
     }
 }
 
@@ -113,7 +113,7 @@ fn next_start(work: &[u8], e: usize, count: usize, u: u8) -> usize
     ensures { (e ≤ result) × Start work.now e count u result }
 {
     for i in e..count {
-        if u <= Entry::of(work, i).sent {
+        if u <= ForgedEntry::of(work, i).sent {
             return i;
         }
     }

@@ -8,7 +8,7 @@ ghost use Rattle.tables.specs.Forged.{most_entries};
 ghost use Rattle.forging.specs.Forging.{forged_entry, SentIn, forges};
 
 use calendar::READERS_AT;
-use entries::{Entry, STARTS};
+use entries::{ForgedEntry, STARTS};
 use limits::READERS;
 
 pub mod entries;
@@ -18,7 +18,7 @@ fn post_entry(work: &mut [u8], ends: [u8; READERS], n: usize, e: usize)
     requires { (n ≤ most_servers) × (e < most_entries) × (entries_end ≤ length work.old) × (entry_at work.old e 3 < most_servers) }
     ensures { Posted work.old work.new (forged_entry ends n work.old e) }
 {
-    let entry = Entry::of(work, e);
+    let entry = ForgedEntry::of(work, e);
     let arrival = usize::from(entry.arrival);
     let receiver = usize::from(entry.receiver);
     let sender = usize::from(entry.sender);

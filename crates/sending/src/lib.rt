@@ -41,11 +41,9 @@ pub fn vote(work: &mut [u8], plan: &[u8], from: Sender, wrote: u8)
     requires { (calendar_size ≤ length work.old) × Ready plan.now from }
     ensures { Posted work.old work.new (λ x j k. eqb k from.i && sends_vote plan.now from (λ y. eqb y wrote) x j) }
 {
-    if PLACES <= wrote as usize {
-        return;
+    if usize::from(wrote) < PLACES {
+        calendar::post_vote(work, to_servers(plan, from), wrote);
     }
-    let sending = to_servers(plan, from);
-    calendar::post_vote(work, sending, wrote);
 }
 
 // Votes for the pairs that it keeps.
@@ -53,8 +51,7 @@ pub fn echo(work: &mut [u8], plan: &[u8], from: Sender, kept: [Stamped; DEPTH])
     requires { (calendar_size ≤ length work.old) × Ready plan.now from }
     ensures { Posted work.old work.new (λ x j k. eqb k from.i && sends_vote plan.now from (λ y. member y (keys kept)) x j) }
 {
-    let sending = to_servers(plan, from);
-    calendar::post_votes(work, sending, kept);
+    calendar::post_votes(work, to_servers(plan, from), kept);
 }
 
 // Its pairs to some readers, if they arrive by the reads' ends.
@@ -69,18 +66,12 @@ pub fn reply(
     requires { (calendar_size ≤ length work.old) × Ready plan.now from }
     ensures { Posted work.old work.new (λ x j k. eqb k from.i && sends_reply plan.now from ends (λ y. bit y readers) (λ y. member y (keys kept)) x j) }
 {
-    let links = from.links;
-    let n = from.n;
-    let mut y: usize = 1;
-    while y < PAST_READERS {
-        if (readers >> y) % 2 == 1 {
-            if n + y < links.parties {
-                let at = from.t + delays::delay(plan, links, n, from.t, from.i, n + y);
-                if at <= ends[y - 1] as usize {
-                    calendar::post_kept(work, calendar::row(at, READERS_AT + y), kept, from.i);
-                }
+    for y in 1..PAST_READERS {
+        if (readers >> y) % 2 == 1 && from.n + y < from.links.parties {
+            let at = from.t + delays::delay(plan, from.links, from.n, from.t, from.i, from.n + y);
+            if at <= usize::from(ends[y - 1]) {
+                calendar::post_kept(work, calendar::row(at, READERS_AT + y), kept, from.i);
             }
         }
-        y += 1;
     }
 }

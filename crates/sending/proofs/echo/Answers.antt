@@ -4,4 +4,4 @@ use Rattle.sending.proofs.echo.Goals as goal
 
 pub returns : goal.returns
 returns c = let a = c.args in
-    echo_sent _ a.from _ c.to_servers-sending.ensures a.kept _ _ c.post_votes.ensures
+    echo_sent _ a.from _ c.to_servers.ensures a.kept _ _ c.post_votes.ensures

@@ -10,6 +10,3 @@ of-requires c = let f = c.args.from in
       omega (arith, c.row_bit-bit.ensures, link_inside _ f.links f.n f.t L f.i (omega (arith, c.requires.sender, L.writer)), L.writer),
       omega (arith, c.row_bit-bit.ensures, link_small _ f.links f.n f.t L f.i (omega (arith, c.requires.sender, L.writer))),
     )
-
-pub returns : goal.returns
-returns c = rw c.row_bit-bit.ensures at c.of.ensures
