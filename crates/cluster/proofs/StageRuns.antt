@@ -25,8 +25,10 @@ use Rattle.serving.specs.Methods.{MovedTo}
 use Rattle.sending.specs.Sends.{sends_vote, sends_reply}
 use Rattle.serving.proofs.RowLaws.{others_same, aged_server}
 use Rattle.tallies.proofs.TallyLaws.{named_same, aged_named}
-use Rattle.cluster.specs.declared.Movement.{Movement}
-use Rattle.cluster.specs.Tick.{server_at, sender_at, SameNamed, Cured, cure_replies, is_seized, Moved}
+use Rattle.std.specs.Prelude.{Option}
+use Rattle.std.specs.Option.{is_some}
+use Rattle.cluster.specs.Inputs.{is_seized}
+use Rattle.cluster.specs.Tick.{server_at, sender_at, SameNamed, Cured, cure_replies, Moved}
 
 -- ---- posting one server after the other
 
@@ -94,11 +96,11 @@ module _ (plan : List ℕ) (links : Links) (rules : Rules) (m t : ℕ) (ends : L
 -- ---- the movement
 
 -- a server that the movement meets in its new voting period
-abbrev pub met_by : Movement → ℕ → ℕ → Plain → Plain
+abbrev pub met_by : Option ℕ → ℕ → ℕ → Plain → Plain
 met_by movement t b s = cond (is_seized movement b) (blank_as faulty) (cond (is_faulty s.status) (reset_at t) s)
 
 -- the movement has met the first n servers
-pub record Moving (m t : ℕ) (movement : Movement) (c r : List Server) (sets then : List ℕ) (n : ℕ) : Type 0 where
+pub record Moving (m t : ℕ) (movement : Option ℕ) (c r : List Server) (sets then : List ℕ) (n : ℕ) : Type 0 where
   pub size : length then ≡ length sets
   pub servers : length r ≡ length c
   pub each : (b : ℕ) → b < n → server_at m then r b ≡ met_by movement t b (server_at m sets c b)
@@ -107,7 +109,7 @@ pub record Moving (m t : ℕ) (movement : Movement) (c r : List Server) (sets th
   pub named : SameNamed sets then
   pub valued : (values : List ℕ) (b : ℕ) → Valued values (get_or c b absent).kept → Valued values (get_or r b absent).kept
 
-module _ (m t : ℕ) (movement : Movement) (c r : List Server) (sets now : List ℕ) (b : ℕ) (H : Moving m t movement c r sets now b) where
+module _ (m t : ℕ) (movement : Option ℕ) (c r : List Server) (sets now : List ℕ) (b : ℕ) (H : Moving m t movement c r sets now b) where
   pub moving_more : b < most_servers → b < length c → m ≤ places → (is : Bool) → is ≡ is_seized movement b → (q : Server) (then : List ℕ) → MovedTo b is t (get_or r b absent) q now then
       → Moving m t movement c (set r b q) sets then (b + 1)
   moving_more l long few is e q then M =
@@ -129,9 +131,9 @@ module _ (m t : ℕ) (movement : Movement) (c r : List Server) (sets now : List 
         ];
       }
 
-module _ (rules : Rules) (m t : ℕ) (movement : Movement) (c : List Server) (sets : List ℕ) where
+module _ (rules : Rules) (m t : ℕ) (movement : Option ℕ) (c : List Server) (sets : List ℕ) where
   -- after the new period has begun
-  pub moving_all : movement.moving ≡ true → rules.n ≤ most_servers → m ≤ places → (aged : List ℕ) → Aged sets aged (of_server rules.n) rules.two → (r : List Server) (then : List ℕ)
+  pub moving_all : is_some movement ≡ true → rules.n ≤ most_servers → m ≤ places → (aged : List ℕ) → Aged sets aged (of_server rules.n) rules.two → (r : List Server) (then : List ℕ)
       → Moving m t movement c r aged then rules.n → Moved rules m t movement c r sets then
   unfolding moved_on
   moving_all e few known aged A r then H = record {
@@ -145,19 +147,19 @@ module _ (rules : Rules) (m t : ℕ) (movement : Movement) (c : List Server) (se
 -- ---- the echo
 
 -- what server i echoes
-abbrev pub echoed : List ℕ → Links → Rules → ℕ → Movement → List Server → ℕ → ℕ → ℕ → Bool
+abbrev pub echoed : List ℕ → Links → Rules → ℕ → Option ℕ → List Server → ℕ → ℕ → ℕ → Bool
 echoed plan links rules t movement c x j i =
-    movement.moving && (is_correct (status_of (get_or c i absent).status) && sends_vote plan (sender_at links rules t i) (λ y. member y (keys (get_or c i absent).kept)) x j)
+    is_some movement && (is_correct (status_of (get_or c i absent).status) && sends_vote plan (sender_at links rules t i) (λ y. member y (keys (get_or c i absent).kept)) x j)
 
-module _ (plan : List ℕ) (links : Links) (rules : Rules) (t : ℕ) (movement : Movement) (c : List Server) (work : List ℕ) where
+module _ (plan : List ℕ) (links : Links) (rules : Rules) (t : ℕ) (movement : Option ℕ) (c : List Server) (work : List ℕ) where
   -- the first n servers have echoed
   pub record Echoing (after : List ℕ) (n : ℕ) : Type 0 where
     pub posted : Posted work after (λ x j i. ltb i n && echoed plan links rules t movement c x j i)
 
   module _ (now : List ℕ) (b : ℕ) (H : Echoing now b) where
-    pub echoing_more : movement.moving ≡ true → is_correct (status_of (get_or c b absent).status) ≡ true → (from : Sender) → from ≡ sender_at links rules t b → (after : List ℕ)
+    pub echoing_more : is_some movement ≡ true → is_correct (status_of (get_or c b absent).status) ≡ true → (from : Sender) → from ≡ sender_at links rules t b → (after : List ℕ)
         → Posted now after (λ x j k. eqb k from.i && sends_vote plan from (λ y. member y (keys (get_or c b absent).kept)) x j) → Echoing after (b + 1)
     echoing_more f e from is after P = record { posted = posted_next (echoed plan links rules t movement c) work now b H.posted after _ (rw is at P) (λ x j. rw (f, e)) }
 
     pub echoing_same : is_correct (status_of (get_or c b absent).status) ≡ false → Echoing now (b + 1)
-    echoing_same e = record { posted = posted_skip (echoed plan links rules t movement c) work now b H.posted (λ x j. rw e (and-false movement.moving)) }
+    echoing_same e = record { posted = posted_skip (echoed plan links rules t movement c) work now b H.posted (λ x j. rw e (and-false (is_some movement))) }

@@ -31,7 +31,9 @@ use Rattle.serving.proofs.RowLaws.{votes_eq}
 use Rattle.tallies.proofs.TallyLaws.{same_row}
 use Rattle.sending.proofs.SendLaws.{vote_or, reply_none}
 use Rattle.cluster.specs.declared.Feed.{Feed}
-use Rattle.cluster.specs.Tick.{server_at, sender_at, Heard, Delivered, Cured, cure_replies, is_seized, Moved, echoes, Fed, feed_of, got, first_of, all_of, sent_by, Values, present, Ticked, Started}
+use Rattle.std.specs.Option.{is_some}
+use Rattle.cluster.specs.Inputs.{is_seized}
+use Rattle.cluster.specs.Tick.{server_at, sender_at, Heard, Delivered, Cured, cure_replies, Moved, echoes, Fed, feed_of, got, first_of, all_of, sent_by, Values, present, Ticked, Started}
 use Rattle.cluster.proofs.RowLaws.{past_trans}
 
 decided : (b : Bool) → (b ≡ true) ⊎ (b ≡ false)
@@ -191,7 +193,7 @@ module _ (plan work noted work₁ work₂ work₃ : List ℕ) (f : Feed) (ends v
 
   abbrev votes : ℕ → ℕ → ℕ → Bool
   votes b x j =
-      f.movement.moving
+      is_some f.movement
       && (is_correct (status_of (get_or moved b absent).status) && sends_vote plan (sender_at f.links f.rules f.t b) (λ y. member y (keys (get_or moved b absent).kept)) x j)
 
   module _ (b : ℕ) (l : b < f.rules.n) where
@@ -213,8 +215,8 @@ module _ (plan work noted work₁ work₂ work₃ : List ℕ) (f : Feed) (ends v
     unfolding stages_of
     at_last =
         M.each b l
-        ∙ (ap (λ (s : Plain). cond f.movement.moving (moved_on f.rules.two (is_seized f.movement b) f.t s) s) at-two
-        ∙ last_server f.movement.moving f.rules.two (is_seized f.movement b) f.t (two b))
+        ∙ (ap (λ (s : Plain). cond (is_some f.movement) (moved_on f.rules.two (is_seized f.movement b) f.t s) s) at-two
+        ∙ last_server (is_some f.movement) f.rules.two (is_seized f.movement b) f.t (two b))
 
     -- what it sends
     sent : (x j : ℕ) → (firstly b x j || cures b x j) || votes b x j ≡ sent_by F ends b (all b).said x j
@@ -222,7 +224,7 @@ module _ (plan work noted work₁ work₂ work₃ : List ℕ) (f : Feed) (ends v
     sent x j =
         rw same_first
         (sent-all plan (sender_at f.links f.rules f.t b) ends f.rules.delta f.t x j (one b) (said_first_lem f.rules.delta f.t f.m _ _ _ _ _ _ _) f.rules.two (is_seized f.movement b)
-        f.movement.moving (server_at f.m then reached b) (server_at f.m last moved b) at_one at_last)
+        (is_some f.movement) (server_at f.m then reached b) (server_at f.m last moved b) at_one at_last)
 
   pub ticked : Ticked (feed_of plan work f) ends c moved sets last work₃ f.rules.n
   unfolding present

@@ -1,6 +1,7 @@
 -- What the stages 1 to 4 of a tick do, said of what they are fed: the readers note what arrives, the servers go through their stages, and what they send
 -- is under way.
-use Rattle.std.specs.Prelude.{◌≡◌, Bool, not, ◌&&◌, ◌||◌, cond, List, [], ◌∷◌, ℕ, ◌+◌, ◌-◌, ◌/◌, ◌%◌, ◌<◌, ◌≤◌, eqb, leb, ltb, length, get_or}
+use Rattle.std.specs.Prelude.{◌≡◌, Bool, not, ◌&&◌, ◌||◌, cond, List, [], ◌∷◌, ℕ, ◌+◌, ◌/◌, ◌%◌, ◌<◌, ◌≤◌, eqb, leb, ltb, length, get_or, Option}
+use Rattle.std.specs.Option.{is_some}
 use Rattle.register.specs.Lists.{member}
 use Rattle.register.specs.Server.{correct, is_correct, cured_at}
 use Rattle.limits.specs.Bits.{bit}
@@ -12,14 +13,14 @@ use Rattle.tables.specs.declared.Rules.{Rules}
 use Rattle.tables.specs.declared.Links.{Links}
 use Rattle.sending.specs.declared.Sender.{Sender}
 use Rattle.serving.specs.declared.Turn.{Turn}
-use Rattle.cluster.specs.declared.{Cluster.Cluster, Arrivals.Arrivals, Movement.Movement, Feed.Feed}
+use Rattle.cluster.specs.declared.{Cluster.Cluster, Arrivals.Arrivals, Feed.Feed}
 use Rattle.tallies.specs.Tallies.{named_at, of_reader, holds, SameOthers, no_votes}
 use Rattle.serving.specs.Stored.{Plain, Both, server, status_of, absent}
 use Rattle.sending.specs.Sends.{Said, sends, sends_vote, sends_reply}
 use Rattle.stores.specs.Stores.{keys, Valued}
 use Rattle.serving.specs.Stages.{nobody, cure_ended, moved_on, stage_one, stages_of}
 use Rattle.serving.specs.Settled.{Settled}
-use Rattle.cluster.specs.Inputs.{wrote_at, asks_at}
+use Rattle.cluster.specs.Inputs.{wrote_at, asks_at, is_seized}
 
 -- server b of an array
 abbrev pub server_at : ℕ → List ℕ → List Server → ℕ → Plain
@@ -87,24 +88,20 @@ cure_replies plan links rules t ends c x j i =
     && (cured_at rules.delta t (status_of (get_or c i absent).status)
     && sends_reply plan (sender_at links rules t i) ends (λ y. bit y (get_or c i absent).pending) (λ y. member y (keys (get_or c i absent).kept)) x j)
 
--- the placement makes server b faulty
-abbrev pub is_seized : Movement → ℕ → Bool
-is_seized movement b = bit (most_servers - 1 - b) movement.faulty
-
 -- the placement of the tick stands, if it is a movement
-pub record Moved (rules : Rules) (m t : ℕ) (movement : Movement) (c r : List Server) (sets then : List ℕ) : Type 0 where
+pub record Moved (rules : Rules) (m t : ℕ) (movement : Option ℕ) (c r : List Server) (sets then : List ℕ) : Type 0 where
   pub size : length then ≡ length sets
   pub servers : length r ≡ length c
   pub each : (b : ℕ) → b < rules.n
-      → server_at m then r b ≡ cond movement.moving (moved_on rules.two (is_seized movement b) t (server_at m sets c b)) (server_at m sets c b)
+      → server_at m then r b ≡ cond (is_some movement) (moved_on rules.two (is_seized movement b) t (server_at m sets c b)) (server_at m sets c b)
   pub named : SameNamed sets then
   pub valued : (values : List ℕ) → Values rules.n values c r
 
 -- what the servers echo
-abbrev pub echoes : List ℕ → Links → Rules → ℕ → Movement → List Server → ℕ → ℕ → ℕ → Bool
+abbrev pub echoes : List ℕ → Links → Rules → ℕ → Option ℕ → List Server → ℕ → ℕ → ℕ → Bool
 echoes plan links rules t movement c x j i =
     ltb i rules.n
-    && (movement.moving
+    && (is_some movement
     && (is_correct (status_of (get_or c i absent).status) && sends_vote plan (sender_at links rules t i) (λ y. member y (keys (get_or c i absent).kept)) x j))
 
 -- ---- what a tick is fed
@@ -117,7 +114,7 @@ pub record Fed : Type 0 where
   pub m : ℕ
   pub links : Links
   pub arrivals : Arrivals
-  pub movement : Movement
+  pub movement : Option ℕ
 
 -- the code's struct with the plan and the workspace
 abbrev pub feed_of : List ℕ → List ℕ → Feed → Fed
@@ -144,7 +141,7 @@ module _ (F : Fed) where
 
   abbrev pub all_of : ℕ → Plain → Both
   all_of b s = stages_of F.m F.rules (wrote_at F.arrivals.requests F.arrivals.number b) (got b) (asks_at F.arrivals.requests b)
-      (λ x. bit x F.arrivals.live) F.movement.moving (is_seized F.movement b) F.t s
+      (λ x. bit x F.arrivals.live) (is_some F.movement) (is_seized F.movement b) F.t s
 
   -- what server b sends that said this
   abbrev pub sent_by : List ℕ → ℕ → Said → ℕ → ℕ → Bool

@@ -213,15 +213,15 @@ pub fn move_all(before: [Server; SERVERS], sets: &mut [u16], feed: Feed) -> [Ser
     requires { (length sets.old ≡ table_size) × (feed.rules.n ≤ most_servers) × (feed.m ≤ places) }
     ensures { Moved feed.rules feed.m feed.t feed.movement before result sets.old sets.new }
 {
-    if !feed.movement.moving {
+    let Some(faulty) = feed.movement else {
         return before;
-    }
+    };
     let rules = feed.rules;
     tallies::next_period(sets, tallies::of_server(rules.n), rules.two);
     let mut after = before;
     for b in 0..rules.n {
-        let faulty = has(feed.movement.faulty, SERVERS - 1 - b);
-        after[b] = after[b].moved(sets, b, faulty, feed.t);
+        let is_faulty = has(faulty, SERVERS - 1 - b);
+        after[b] = after[b].moved(sets, b, is_faulty, feed.t);
     }
     after
 }
@@ -231,7 +231,7 @@ pub fn echo_all(servers: [Server; SERVERS], work: &mut [u8], plan: &[u8], feed: 
     requires { Tickable plan.now work.old feed.t feed.rules feed.m feed.links }
     ensures { Posted work.old work.new (echoes plan.now feed.links feed.rules feed.t feed.movement servers) }
 {
-    if !feed.movement.moving {
+    if feed.movement.is_none() {
         return;
     }
     for b in 0..feed.rules.n {

@@ -28,11 +28,8 @@ fn begin(work: &mut [u8], script: Script) -> Playing
 {
     calendar::start(work);
     requests::start(work);
-    let writes = script.writes;
-    let known = writes.known;
-    let cluster = cluster::tick::start(known.values[0]);
     Playing {
-        cluster,
+        cluster: cluster::tick::start(script.writes.known.values[0]),
         written: 0,
         begun: 0,
         answered: 0,
@@ -93,6 +90,5 @@ pub fn look(plan: &[u8], width: u8, work: &mut [u8], server: usize, tick: u8) ->
     let mut sets = [0u16; CELLS];
     let end = run(start, plan, &mut unasked, work, &mut sets, script, tick + 1);
     answers::zero(work);
-    let c = end.cluster;
-    c.servers[server]
+    end.cluster.servers[server]
 }

@@ -22,7 +22,9 @@ use Rattle.tables.specs as tables-specs
 use Rattle.serving.specs.{Stored.Plain, Stored.Both, Stages.stage_one, Stages.stage_two, Stages.stage_four, Stages.stages_of}
 use Rattle.sending.specs.Sends.{Said}
 use Rattle.cluster.specs as cluster-specs
-use Rattle.cluster.specs.Tick.{server_at, is_seized, got, all_of, sent_by}
+use Rattle.std.specs.Option.{is_some}
+use Rattle.cluster.specs.Inputs.{is_seized}
+use Rattle.cluster.specs.Tick.{server_at, got, all_of, sent_by}
 use Rattle.refinement.specs.{Way.forged_as, Way.vote_way, State.Rep, State.State}
 use Rattle.refinement.proofs as refinement-laws
 
@@ -100,7 +102,7 @@ module _ (P : Plan) (G : register-laws.Good.Good P) (F : cluster-specs.Tick.Fed)
     pub ended : refinement-laws.Told.End P g m t (end P t b) (out b)
     unfolding end
     ended =
-        rw (stages_law m F.rules wrote (got F b) asks live F.movement.moving (is_move P t) (is_seized F.movement b) (P.placed (t / P.period) b) t s _ _ _ _
+        rw (stages_law m F.rules wrote (got F b) asks live (is_some F.movement) (is_move P t) (is_seized F.movement b) (P.placed (t / P.period) b) t s _ _ _ _
         fit.two fit.delta fit.echo fit.reply fit.moving (λ y. fit.faulty y b lb))
         (register-laws.Logic.cond_e (refinement-laws.Told.End P g m t (end P t b)) (is_move P t) _ second
         (λ y. refinement-laws.MoveLaws.four_rep P g K.rising m t b (mid P t b) second y middle) (λ y. refinement-laws.MoveLaws.still_rep P g K.rising m t b (mid P t b) second y middle))

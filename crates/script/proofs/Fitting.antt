@@ -1,7 +1,7 @@
 -- What a script and its ticks are fed fits the plan: the laws that the crate above cites.
 -- It stands on Knowing, Entries, where the parts of the plan stand, and the laws of requests.
-use mathlib.Core.Path.{◌≡◌, sym, ap, ◌∙◌}
-use mathlib.Core.Bool.{Bool, not}
+use mathlib.Core.Path.{◌≡◌, refl, sym, ap, ◌∙◌}
+use mathlib.Core.Bool.{Bool, true, false, not, cond}
 use mathlib.Core.List.{List}
 use Prim.Native.Nat.{ℕ, suc, ◌+◌, ◌*◌, ◌-◌, ◌≤◌, ◌<◌}
 use native.Mathlib.Omega.{arith}
@@ -24,7 +24,13 @@ use Rattle.forging.specs as forging-specs
 use Rattle.forging.proofs as forging-laws
 use Rattle.script.specs as script-specs
 use Rattle.script.proofs as script-laws
+use Rattle.std.specs.Prelude.{Option, Some, None}
+use Rattle.std.specs.Option.{is_some}
 use Rattle.tables.proofs as tables-laws
+
+brought : (c : Bool) (x : ℕ) → is_some (cond c (Some x) None) ≡ c
+brought true x = refl
+brought false x = refl
 
 -- the entries stay as they are where only the calendar and the requests change
 module _ (w : ℕ) (s after work values : List ℕ) (m : ℕ) (K : SameBehind after work) where
@@ -55,7 +61,7 @@ module _ (s before after : List ℕ) (r : script-specs.declared.Script.Script) (
   pub script_knows : tables-specs.Known.Knows (plan_of w s) (tables-specs.Known.pair_at w r.writes.known) r.writes.known.m
   script_knows = script-laws.Knowing.knows w s A r.writes.known r.writes.begun R.writes
 
-  module _ (t : ℕ) (below : t < (header_of w s).ticks) (work ends : List ℕ) (number : ℕ) (arrivals : cluster-specs.declared.Arrivals.Arrivals) (movement : cluster-specs.declared.Movement.Movement)
+  module _ (t : ℕ) (below : t < (header_of w s).ticks) (work ends : List ℕ) (number : ℕ) (arrivals : cluster-specs.declared.Arrivals.Arrivals) (movement : Option ℕ)
       (comes : script-specs.Inputs.Arrive work number ends t (header_of w s).delta arrivals) (moves : script-specs.Inputs.Moves w s (header_of w s).period t movement)
       (requested : refinement-specs.Requests.Requested (plan_of w s) t work) (latest : script-specs.Inputs.LatestWrite r.writes.begun r.writes.known.m t number)
       (open-ends : (q : register-specs.Plan.Read) → refinement-specs.State.Open (plan_of w s) t q → get_or ends (q.reader - 1) 0 ≡ register-specs.Plan.read_end (plan_of w s) q) where
@@ -82,8 +88,8 @@ module _ (s before after : List ℕ) (r : script-specs.declared.Script.Script) (
             tables-laws.Placing.server_delay w s A r.links R.links t i ((header_of w s).n + q.reader) below li (omega (arith, Q.reader_hi)) (λ z. omega arith)
                 (λ z. omega (arith, Q.reader_lo)),
           );
-      moving = moves.moving;
-      faulty = λ e b l. rw (moves.faulty (moves.moving ∙ e)) (tables-laws.Placing.placed_bit w s A t b below l);
+      moving = rw moves (brought _ _);
+      faulty = λ e b l. rw (moves, e) (tables-laws.Placing.placed_bit w s A t b below l);
       wrote = λ b j lb lj.
           script-laws.Knowing.wrote_last w s A r.writes.known r.writes.begun R.writes t b number latest j lj
           ∙ rw (comes.requests.each 0 (omega arith), comes.last, requested.writes t b (omega arith) (omega arith) lb);

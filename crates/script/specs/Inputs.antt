@@ -1,11 +1,10 @@
 -- What the code computes for a tick, over the plan's bits and the workspace.
-use Rattle.std.specs.Prelude.{◌≡◌, Bool, true, not, ◌&&◌, List, ℕ, ◌+◌, ◌*◌, ◌-◌, ◌/◌, ◌%◌, ◌≤◌, ◌<◌, eqb, ltb, get_or}
+use Rattle.std.specs.Prelude.{◌≡◌, Bool, cond, not, ◌&&◌, List, ℕ, ◌+◌, ◌*◌, ◌-◌, ◌/◌, ◌%◌, ◌≤◌, ◌<◌, eqb, ltb, get_or, Option, Some, None}
 use Rattle.bits.specs.Field.{field_of}
 use Rattle.plan.specs.Header.{placement_bits, placement_at}
 use Rattle.limits.specs.Bits.{bit}
 use Rattle.requests.specs.Requests.{reached_of}
 use Rattle.cluster.specs.declared.Arrivals.{Arrivals}
-use Rattle.cluster.specs.declared.Movement.{Movement}
 use Rattle.cluster.specs.declared.Feed.{Feed}
 use Rattle.cluster.specs.Inputs.{requesters}
 use Rattle.script.specs.declared.Script.{Script}
@@ -31,9 +30,9 @@ pub record Arrive (work : List ℕ) (number : ℕ) (ends : List ℕ) (t delta : 
   pub last : r.number ≡ number
   pub live : (λ x. bit x r.live) ≡ live_at ends t delta
 
-pub record Moves (w : ℕ) (plan : List ℕ) (period t : ℕ) (r : Movement) : Type 0 where
-  pub moving : r.moving ≡ eqb (t % period) 0
-  pub faulty : r.moving ≡ true → r.faulty ≡ field_of plan (placement_at w (t / period)) placement_bits
+-- the placement that tick t brings, if it is a movement
+abbrev pub Moves : ℕ → List ℕ → ℕ → ℕ → Option ℕ → Type 0
+Moves w plan period t r = r ≡ cond (eqb (t % period) 0) (Some (field_of plan (placement_at w (t / period)) placement_bits)) None
 
 -- what tick t is fed
 pub record FedBy (s work : List ℕ) (r : Script) (number : ℕ) (ends : List ℕ) (t : ℕ) (f : Feed) : Type 0 where

@@ -7,7 +7,7 @@ ghost use Rattle.script.specs.Script.{Decoded};
 ghost use Rattle.script.specs.Inputs.{live_at, Reached, Arrive, Moves, FedBy};
 
 use super::Script;
-use cluster::{Arrivals, Feed, Movement, REQUESTERS};
+use cluster::{Arrivals, Feed, REQUESTERS};
 use limits::READERS;
 use plan::header::Shape;
 
@@ -49,26 +49,16 @@ pub fn arrivals(work: &[u8], number: u8, ends: [u8; READERS], t: u8, delta: u8) 
     }
 }
 
-// Is tick t a movement, and the placement that it brings.
-pub fn movement(plan: &[u8], h: Shape, t: u8) -> Movement
+// The placement that tick t brings, if it is a movement.
+pub fn movement(plan: &[u8], h: Shape, t: u8) -> Option<u16>
     requires { (0 < h.period) × (placement_at h.width (t / h.period) + placement_bits ≤ 8 * length plan.now) }
     ensures { Moves h.width plan.now h.period t result }
 {
-    let period = h.period;
-    if t % period != 0 {
-        return Movement {
-            moving: false,
-            faulty: 0,
-        };
+    if t % h.period != 0 {
+        return None;
     }
-    Movement {
-        moving: true,
-        faulty: bits::field(
-            plan,
-            h.placement_at((t / period) as usize),
-            Shape::PLACEMENT_BITS,
-        ) as u16,
-    }
+    let at = h.placement_at(usize::from(t / h.period));
+    Some(bits::field(plan, at, Shape::PLACEMENT_BITS) as u16)
 }
 
 // What tick t is fed; `written` is the number of the last write begun, `ends` has the ticks in which the readers' reads end.

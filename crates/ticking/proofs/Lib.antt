@@ -1,4 +1,3 @@
-pub mod Sizes
 pub mod Tables
 pub mod Posts
 pub mod Requests

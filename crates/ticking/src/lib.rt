@@ -31,15 +31,14 @@ pub fn write_on(work: &mut [u8], plan: &[u8], script: Script, written: u8, t: u8
     requires { Decoded plan.now script × (t < script.shape.ticks) × (requests_end ≤ length work.old) }
     ensures { WroteOn plan.now script.links script.rules.n t script.writes.begun script.writes.known.m written result work.old work.new }
 {
-    let writes = script.writes;
     asking::write_on(
         work,
         plan,
         script.links,
         script.rules.n,
-        t as usize,
-        &writes.begun,
-        writes.known.m,
+        usize::from(t),
+        &script.writes.begun,
+        script.writes.known.m,
         written,
     )
 }
@@ -58,10 +57,9 @@ pub fn read_on(
         × (requests_end ≤ length work.old) × (length sets.old ≡ table_size) }
     ensures { WentOn plan.now script t r result answers.old answers.new work.old work.new sets.old sets.new }
 {
-    let reads = script.reads;
     if !reading::is_due(
-        &reads.begun,
-        reads.m,
+        &script.reads.begun,
+        script.reads.m,
         r.begun,
         r.answered,
         t,
@@ -85,15 +83,12 @@ pub fn one(
     ensures { Went plan.now work.old work.new sets.old sets.new answers.old answers.new script p result × (result.tick ≡ suc p.tick) }
 {
     let t = p.tick;
-    let cluster = p.cluster;
-    let ends = cluster.ends;
-    let before = cluster.servers;
+    let ends = p.cluster.ends;
     let feed = feed_of(plan, work, script, p.written, ends, t);
     // 1. Deliveries.
-    tick::hear_all(work, sets, t as usize);
-    let writes = script.writes;
-    let known = writes.known;
-    let delivered = tick::deliver_all(before, work, plan, sets, &known.values, feed, ends);
+    tick::hear_all(work, sets, usize::from(t));
+    let values = &script.writes.known.values;
+    let delivered = tick::deliver_all(p.cluster.servers, work, plan, sets, values, feed, ends);
     // 2. Cures end.
     let cured = tick::cure_all(delivered, work, plan, feed, ends);
     // 3. Movement.
@@ -109,10 +104,9 @@ pub fn one(
     let done = read_on(r, answers, work, plan, sets, script, t);
     // 5. Forgeries.
     let ends = done.ends;
-    forging::forge(work, ends, script.rules.n, &script.starts, t as usize);
-    let cluster = Cluster { servers, ends };
+    forging::forge(work, ends, script.rules.n, &script.starts, usize::from(t));
     Playing {
-        cluster,
+        cluster: Cluster { servers, ends },
         written,
         begun: done.begun,
         answered: done.answered,
@@ -137,7 +131,7 @@ pub fn tick(
 
 // The next tick of a state by value, by lending it: who calls this needs no proof by hand.
 pub fn next(
-    p: Playing,
+    mut p: Playing,
     plan: &[u8],
     answers: &mut [u8],
     work: &mut [u8],
@@ -147,7 +141,6 @@ pub fn next(
     requires { Ready plan.now work.old script × PlayedTo plan.now work.old sets.old script p × (p.tick < script.shape.ticks) × (answer_size (width_in script) * script.reads.m ≤ length answers.old) }
     ensures { Went plan.now work.old work.new sets.old sets.new answers.old answers.new script p result × (result.tick ≡ suc p.tick) }
 {
-    let mut local = p;
-    tick(&mut local, plan, answers, work, sets, script);
-    local
+    tick(&mut p, plan, answers, work, sets, script);
+    p
 }

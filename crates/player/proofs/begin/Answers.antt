@@ -11,5 +11,5 @@ returns c = let calendar = c.start.ensures in
       empty = outside_empty _ _ requests.0 calendar.1;
       unasked = requests.1;
       first = refl;
-      started = c.start-cluster.ensures;
+      started = c.start-3.ensures;
     }

@@ -10,7 +10,6 @@ use Rattle.plan.{specs.Form.most_width, specs.Limits.most_reads, specs.Packed.pl
 use Rattle.answers.{specs.Answers.answer_size, proofs.Lengths.answer_few}
 use Rattle.tallies.specs.Tallies.{table_size}
 use Rattle.player.proofs.Whole.{ticks_at, ready, begun, blank_table, seen}
-use Rattle.player.proofs.look.Goals.{After-begin-start}
 use Rattle.player.proofs.look.Goals as goal
 
 -- the answers of all reads fit the buffer that no one asked for
@@ -19,16 +18,11 @@ unasked w m narrow A count n e =
     let few : m ≤ most_reads = rw count (reads_limited w _ A) in
     omega (arith, mul-le-mul {n₁ = answer_size w} {m₁ = m} {n₂ = 6} {m₂ = most_reads} (answer_few w narrow) few)
 
--- the tick looked at is one of the plan's
-few : (c : After-begin-start) → c.args.tick < 128
-few c = omega (arith, c.requires.4, (in_range _ _ c.requires.0).ticks_hi)
-
--- the server is one of the array's
-one_of : (c : After-begin-start) → c.args.server < 16
-one_of c = omega (arith, (in_range _ _ c.requires.0).n_hi, c.requires.3)
-
 pub overflow_add-tick : goal.overflow_add-tick
-overflow_add-tick c = let h = few (goal.at.overflow_add-tick c).After-begin-start in search rules
+overflow_add-tick c = let h : c.args.tick < 128 = omega (arith, c.requires.4, (in_range _ _ c.requires.0).ticks_hi) in search rules
+
+pub bounds-end-server : goal.bounds-end-server
+bounds-end-server c = omega (arith, (in_range _ _ c.requires.0).n_hi, c.requires.3)
 
 pub run-end-requires : goal.run-end-requires
 run-end-requires c = let p = c.requires in
@@ -42,12 +36,6 @@ run-end-requires c = let p = c.requires in
 
 pub zero-requires : goal.zero-requires
 zero-requires c = omega (arith, c.requires.2, c.read-script.ensures.0.forged.filled.size, c.begin-start.ensures.kept.size, c.run-end.ensures.0.kept.size)
-
-pub offset_bounds-c-server : goal.offset_bounds-c-server
-offset_bounds-c-server c = let h = one_of (goal.at.offset_bounds-c-server c).After-begin-start in search rules
-
-pub bounds-c-server : goal.bounds-c-server
-bounds-c-server c = let h = one_of (goal.at.bounds-c-server c).After-begin-start in search rules
 
 pub returns : goal.returns
 returns c = let p = c.requires in

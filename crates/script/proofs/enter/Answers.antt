@@ -1,11 +1,8 @@
 -- `script::enter` meets its contract. The forged part of an accepted plan: the part's start and the entries' room follow from its length; the rest is Forging.
 use native.Mathlib.Omega.{arith}
-use Rattle.tables.proofs.Forging.{shape_ranged, part_starts}
+use Rattle.tables.proofs.Forging.{shape_ranged}
 use Rattle.script.proofs.Forging.{fillable, forged}
 use Rattle.script.proofs.enter.Goals as goal
-
-pub slice_bounds-fill-count : goal.slice_bounds-fill-count
-slice_bounds-fill-count c = part_starts c.args.header.width c.args.plan.now c.requires.0 c.args.header c.requires.2 _ c.forgeries_at-at.ensures.0
 
 pub fill-requires : goal.fill-requires
 fill-requires c = rw (c.from-count.ensures, c.from.ensures) (fillable c.args.header.width c.args.plan.now c.requires.0 c.args.header c.requires.2 _ c.forgeries_at-at.ensures.0

@@ -1,7 +1,6 @@
 -- `script::read` meets its contract. An accepted plan is decoded: each part is read from where it stands, and the width of its values is the header's.
 use mathlib.Core.Path.{ap}
 use Rattle.plan.specs.Header.{Header}
-use Rattle.plan.proofs.Accept.{header_there}
 use Rattle.tables.proofs.Standing.{operations_room, initial_narrow, writes_same, reads_same}
 use Rattle.tables.proofs.Forging.{shape_ranged}
 use Rattle.script.proofs.read.Goals as goal
@@ -19,16 +18,6 @@ writes_of-writes-requires c = let x = c.read-header in
     let w = c.args.width in
     let at = rw x.ensures.1 at c.operations_at-at.ensures.0 in
     (rw c.from-count.ensures (operations_room w c.args.plan.now c.requires.0 x.result x.ensures.0 _ at c.requires.1), initial_narrow w _ x.result x.ensures.0)
-
-pub reads_of-reads-requires : goal.reads_of-reads-requires
-reads_of-reads-requires c = let x = c.read-header in
-    let at = rw x.ensures.1 at c.operations_at-at.ensures.0 in
-    rw c.from-count.ensures (operations_room c.args.width c.args.plan.now c.requires.0 x.result x.ensures.0 _ at c.requires.1)
-
-pub enter-starts-requires : goal.enter-starts-requires
-enter-starts-requires c = let x = c.read-header in
-    let e = x.ensures.1 in
-    (rw e c.requires.0, rw e c.requires.1, rw e x.ensures.0, c.links_of-links.ensures, c.requires.2, c.writes_of-writes.ensures.few)
 
 pub returns : goal.returns
 returns c = let x = c.read-header in
@@ -48,6 +37,3 @@ returns c = let x = c.read-header in
       },
       e,
     )
-
-pub read-header-requires : goal.read-header-requires
-read-header-requires c = (header_there c.args.width c.args.plan.now c.requires.0, c.requires.1)

@@ -19,9 +19,6 @@ few c = few_ticks _ _ c.requires.0.decoded c.args.p.tick c.requires.2
 pub feed_of-feed-requires : goal.feed_of-feed-requires
 feed_of-feed-requires c = (c.requires.0.decoded, c.requires.2, omega (arith, c.requires.0.room))
 
-pub overflow_cast-t : goal.overflow_cast-t
-overflow_cast-t c = let h = few (goal.at.overflow_cast-t c).After-feed_of-feed in search rules
-
 pub hear_all-requires : goal.hear_all-requires
 hear_all-requires c = (omega (arith, c.requires.0.room), c.requires.1.state.calendar.spans, c.requires.1.table)
 
@@ -30,7 +27,7 @@ deliver_all-delivered-requires c = (
   turns.later _ _ _ _ _ c.requires.0 c.requires.2 c.requires.1 _ c.feed_of-feed.ensures _ c.hear_all.ensures.rest c.hear_all.ensures.spans,
   c.hear_all.ensures.size ∙ c.requires.1.table,
   search rules,
-  turns.heard_calm _ _ _ _ _ c.requires.0 c.requires.2 c.requires.1 _ c.feed_of-feed.ensures _ _ c.hear_all.ensures,
+  turns.heard_calm _ _ _ _ _ c.requires.0 c.requires.2 c.requires.1 _ c.feed_of-feed.ensures _ _ (rw c.from.ensures at c.hear_all.ensures),
 )
 
 pub cure_all-cured-requires : goal.cure_all-cured-requires
@@ -51,11 +48,11 @@ sized c = turns.fed_sized _ _ _ _ _ c.requires.0 c.requires.2 c.requires.1 _ c.f
 
 whole : (c : After-echo_all) → Ticked (feed_of c.args.plan.now c.args.work.now c.feed_of-feed.result) c.args.p.cluster.ends c.args.p.cluster.servers c.move_all-servers.result c.args.sets.now c.move_all-servers.new.sets c.echo_all.new.work
     c.feed_of-feed.result.rules.n
-whole c = tick-laws.ticked _ _ _ _ _ _ _ _ _ _ _ _ _ _ _ _ _ (sized c).servers (sized c).pairs (turns.fed_heard _ _ _ _ _ c.requires.0 c.requires.2 c.requires.1 _ c.feed_of-feed.ensures _ _ c.hear_all.ensures)
+whole c = tick-laws.ticked _ _ _ _ _ _ _ _ _ _ _ _ _ _ _ _ _ (sized c).servers (sized c).pairs (turns.fed_heard _ _ _ _ _ c.requires.0 c.requires.2 c.requires.1 _ c.feed_of-feed.ensures _ _ (rw c.from.ensures at c.hear_all.ensures))
     c.deliver_all-delivered.ensures c.cure_all-cured.ensures.0 c.cure_all-cured.ensures.1 c.move_all-servers.ensures c.echo_all.ensures
 
 valued : (c : After-echo_all) → Values c.feed_of-feed.result.rules.n c.args.script.writes.known.values c.args.p.cluster.servers c.move_all-servers.result
-valued c = tick-laws.valued_all _ _ _ _ _ _ _ _ _ _ _ _ _ _ _ _ _ (sized c).servers (sized c).pairs (turns.fed_heard _ _ _ _ _ c.requires.0 c.requires.2 c.requires.1 _ c.feed_of-feed.ensures _ _ c.hear_all.ensures)
+valued c = tick-laws.valued_all _ _ _ _ _ _ _ _ _ _ _ _ _ _ _ _ _ (sized c).servers (sized c).pairs (turns.fed_heard _ _ _ _ _ c.requires.0 c.requires.2 c.requires.1 _ c.feed_of-feed.ensures _ _ (rw c.from.ensures at c.hear_all.ensures))
     c.deliver_all-delivered.ensures c.cure_all-cured.ensures.0 c.cure_all-cured.ensures.1 c.move_all-servers.ensures c.echo_all.ensures
 
 pub write_on-written-requires : goal.write_on-written-requires
@@ -73,13 +70,10 @@ read_on-done-requires c =
       w.size ∙ c.requires.1.table,
     )
 
-pub overflow_cast-t-2 : goal.overflow_cast-t-2
-overflow_cast-t-2 c = let h = few (goal.at.overflow_cast-t-2 c).After-feed_of-feed in search rules
-
 pub forge-requires : goal.forge-requires
 forge-requires c =
     let e = (goal.at.forge-requires c).After-echo_all in
-    turns.forge_ready _ _ _ _ _ c.requires.0 c.requires.2 c.requires.1 _ c.feed_of-feed.ensures _ _ _ (whole e) (valued e) _ _ c.write_on-written.ensures _ _ _ _ _ c.read_on-done.ensures
+    rw c.from-2.ensures (turns.forge_ready _ _ _ _ _ c.requires.0 c.requires.2 c.requires.1 _ c.feed_of-feed.ensures _ _ _ (whole e) (valued e) _ _ c.write_on-written.ensures _ _ _ _ _ c.read_on-done.ensures)
 
 pub overflow_add-result : goal.overflow_add-result
 overflow_add-result c = let h = few (goal.at.overflow_add-result c).After-feed_of-feed in search rules
@@ -93,4 +87,4 @@ shape_of-sets c = c.read_on-done.ensures.table.size ∙ (whole (goal.at.shape_of
 pub returns : goal.returns
 returns c =
     let e = (goal.at.returns c).After-echo_all in
-    (turns.went _ _ _ _ _ c.requires.0 c.requires.2 c.requires.1 _ c.feed_of-feed.ensures _ _ _ (whole e) (valued e) _ _ c.write_on-written.ensures _ _ _ _ _ c.read_on-done.ensures _ c.forge.ensures, add-one _)
+    (turns.went _ _ _ _ _ c.requires.0 c.requires.2 c.requires.1 _ c.feed_of-feed.ensures _ _ _ (whole e) (valued e) _ _ c.write_on-written.ensures _ _ _ _ _ c.read_on-done.ensures _ (rw c.from-2.ensures at c.forge.ensures), add-one _)

@@ -1,14 +1,13 @@
 -- `tick::echo_all` meets its contract. The loop's invariant: the servers before b have echoed.
 use mathlib.Core.Path.{◌≡◌, sym, ◌∙◌}
 use native.Mathlib.Omega.{arith}
-use borrow.Author.Tests.{not-false}
 use Rattle.cluster.proofs.StageRuns.{echoing_more, echoing_same}
 use Rattle.cluster.proofs.tick.echo_all.Goals as goal
 
 pub loop-b-preserved : goal.loop-b-preserved
 loop-b-preserved c = let l = c.loop-b in
     elim c.if-is_correct.branch [
-      | goal.then-is_correct w ↦ rw w.work-is (echoing_more _ _ _ _ _ _ _ _ l.b l.invariant (not-false _ c.if-not-feed.false) (sym c.is_correct.ensures ∙ w.if-is_correct.true) w.sender.result w.sender.ensures _ w.echo.ensures)
+      | goal.then-is_correct w ↦ rw w.work-is (echoing_more _ _ _ _ _ _ _ _ l.b l.invariant c.if-is_none.ensures (sym c.is_correct.ensures ∙ w.if-is_correct.true) w.sender.result w.sender.ensures _ w.echo.ensures)
       | goal.else-is_correct w ↦ rw w.work-is (echoing_same _ _ _ _ _ _ _ _ l.b l.invariant (sym c.is_correct.ensures ∙ w.if-is_correct.false))
     ]
 
