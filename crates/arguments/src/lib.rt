@@ -32,38 +32,32 @@ pub enum Fault {
 pub fn source_of(count: usize) -> Source
     ensures { result ≡ source_of count }
 {
-    if count < 2 {
-        return Source::Input;
+    match count {
+        0 | 1 => Source::Input,
+        2 => Source::Argument(1),
+        _ => Source::Many,
     }
-    if 2 < count {
-        return Source::Many;
-    }
-    Source::Argument(1)
 }
 
 // Does it begin with `-`?
 fn is_option(word: &[u8]) -> bool
     ensures { result ≡ is_option word.now }
 {
-    if word.len() == 0 {
-        return false;
-    }
-    word[0] == b'-'
+    word.first() == Some(&b'-')
 }
 
 pub fn asked_of(word: &[u8]) -> Asked
     ensures { result ≡ asked_of word.now }
 {
-    if check::same(word, b"--help") {
-        return Asked::Help;
+    if word == b"--help".as_slice() {
+        Asked::Help
+    } else if word == b"--version".as_slice() {
+        Asked::Version
+    } else if is_option(word) {
+        Asked::Unknown
+    } else {
+        Asked::Plan
     }
-    if check::same(word, b"--version") {
-        return Asked::Version;
-    }
-    if is_option(word) {
-        return Asked::Unknown;
-    }
-    Asked::Plan
 }
 
 // The bytes of a name that are shown, at most.
@@ -76,28 +70,18 @@ pub const LINE_BYTES: usize = NAME_BYTES + 64;
 fn shown(byte: u8) -> u8
     ensures { result ≡ shown_byte byte }
 {
-    if byte < 32 {
-        return b'?';
-    }
-    if byte == 127 {
-        return b'?';
-    }
-    byte
+    if byte < 32 || byte == 127 { b'?' } else { byte }
 }
 
 fn put_shown(out: &mut [u8], at: usize, name: &[u8]) -> usize
     requires { at < 2 ^ 60 }
     ensures { Stored out.old at (shown_name name.now) out.new result }
 {
-    let mut i: usize = 0;
-    while i < name.len() {
-        if NAME_BYTES <= i {
-            return at + i;
-        }
-        decimal::put_byte(out, at + i, shown(name[i]));
-        i += 1;
+    let mut next = at;
+    for byte in &name[..name.len().min(NAME_BYTES)] {
+        next = decimal::put_byte(out, next, shown(*byte));
     }
-    at + i
+    next
 }
 
 fn put_fault(out: &mut [u8], at: usize, fault: Fault, word: &[u8]) -> usize

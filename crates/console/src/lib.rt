@@ -7,7 +7,7 @@ ghost use Rattle.arguments.specs.Arguments.{source_of, asked_of, fault_line, fai
 ghost use Rattle.console.specs.Console.{error_stream, descriptor_of};
 
 use arguments::{Asked, Fault, LINE_BYTES, Source};
-use input::{Taken, take};
+use input::take;
 use plan::header::Shape;
 use std::env::{Env, FillError};
 use std::fs::File;
@@ -169,10 +169,9 @@ pub fn rehearse<I: Read, O: Write, E: Write>(
     streams: &mut Streams<O, E>,
 ) {
     let mut plan = [0u8; Shape::IMPLIED_BYTES + 1];
-    let taken = take(input, &mut plan);
-    match taken {
-        Taken::Bytes(length) => print_text(streams, &plan[..length]),
-        Taken::Failed(error) => fail(streams, name, error),
+    match take(input, &mut plan) {
+        Ok(length) => print_text(streams, &plan[..length]),
+        Err(error) => fail(streams, name, error),
     }
 }
 
@@ -209,8 +208,7 @@ fn refuse_option<O: Write, E: Write>(streams: &mut Streams<O, E>, word: &[u8]) -
 fn obey<R: Files, O: Write, E: Write>(rt: &R, word: &[u8], streams: &mut Streams<O, E>) -> Asked
     ensures { result ≡ asked_of word.now }
 {
-    let asked = arguments::asked_of(word);
-    match asked {
+    match arguments::asked_of(word) {
         Asked::Help => print_help(streams),
         Asked::Version => print_version(streams),
         Asked::Unknown => refuse_option(streams, word),
@@ -267,8 +265,7 @@ fn serve<R: Env + Files + Input, O: Write, E: Write>(
 ) -> Source
     ensures { result ≡ source_of count }
 {
-    let source = arguments::source_of(count);
-    match source {
+    match arguments::source_of(count) {
         Source::Input => use_input(rt, streams),
         Source::Argument(i) => use_argument(rt, i, streams),
         Source::Many => refuse_many(streams),

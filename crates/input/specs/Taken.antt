@@ -1,18 +1,14 @@
 -- What was read lies within the buffer, and what comes after each read.
-use Rattle.std.specs.Prelude.{◌≡◌, List, ℕ, zero, suc, ◌+◌, ◌≤◌, length, take, Result, Ok, Err}
+use Rattle.std.specs.Prelude.{◌≡◌, List, ℕ, zero, suc, ◌+◌, ◌≤◌, length, take, Option, Some, None, Result, Ok, Err}
 use Rattle.std.specs.declared.io.Error.{Error}
-use Rattle.input.specs.declared.Taken.{Taken}
-use Rattle.input.specs.declared.Taken.TheVariants.{Bytes, Failed}
-use Rattle.input.specs.declared.Next.{Next}
-use Rattle.input.specs.declared.Next.TheVariants.{Stop, More}
 
 -- `&bytes[..n]` is in bounds and has n bytes.
 abbrev pub IsPrefixLen : ℕ → List ℕ → Type 0
 IsPrefixLen n bytes = (n ≤ length bytes) × (n ≡ length (take n bytes))
 
-abbrev pub Within : Taken → List ℕ → Type 0
-Within (Bytes n) bytes = IsPrefixLen n bytes
-Within (Failed e) bytes = Unit {0}
+abbrev pub Within : Result ℕ Error → List ℕ → Type 0
+Within (Ok n) bytes = IsPrefixLen n bytes
+Within (Err e) bytes = Unit {0}
 
 -- What a read that is handed so many bytes may answer: that it failed, or how many bytes it moved, no more than those.
 abbrev pub Moved : ℕ → Result ℕ Error → Type 0
@@ -21,7 +17,7 @@ Moved n (Err e) = Unit {0}
 
 -- After a read that answered so much, so many bytes being there before it: it failed, 0 is the input's end, and every other number counts
 -- more bytes.
-abbrev pub next_of : Result ℕ Error → ℕ → Next
-next_of (Err e) done = Stop (Failed e)
-next_of (Ok zero) done = Stop (Bytes done)
-next_of (Ok (suc k)) done = More (done + suc k)
+abbrev pub next_of : Result ℕ Error → ℕ → Result (Option ℕ) Error
+next_of (Err e) done = Err e
+next_of (Ok zero) done = Ok None
+next_of (Ok (suc k)) done = Ok (Some (done + suc k))

@@ -82,12 +82,10 @@ pub fn put_lines(out: &mut [u8], start: usize, plan: &[u8], answers: &[u8], coun
     ensures { Stored out.old start (lines_for program_width (plan_of program_width plan.now) (plan_of program_width plan.now).reads) out.new result }
 {
     let shape = Shape::read(plan, form::width(FORM));
-    let span = 2 * shape.delta as u64;
+    let span = 2 * u64::from(shape.delta);
     let mut at = start;
-    let mut i: usize = 0;
-    while i < count {
+    for i in 0..count {
         at = put_line(out, at, Answer::read(answers, i), span);
-        i += 1;
     }
     at
 }

@@ -33,7 +33,7 @@ fn number(bytes: &[u8], at: usize) -> u32
     requires { at < length bytes.now }
 {
     if bytes[at] < WIDE {
-        return bytes[at] as u32;
+        return u32::from(bytes[at]);
     }
     if bytes.len() < at + WIDE_BYTES {
         return 0;
@@ -46,22 +46,14 @@ pub fn decode(bytes: &[u8], numbers: &mut [u32]) -> usize
     ensures { IsPrefixLen result numbers.new }
 {
     let mut at: usize = 0;
-    let mut i: usize = 0;
-    while i < numbers.len() {
+    for i in 0..numbers.len() {
         if bytes.len() <= at {
             return i;
         }
         numbers[i] = number(bytes, at);
         at += size(bytes, at);
-        i += 1;
     }
-    i
-}
-
-fn wide(n: u32) -> usize
-    ensures { result < 2 ^ 32 }
-{
-    n as usize
+    numbers.len()
 }
 
 // Number i of a case's head.
@@ -69,7 +61,7 @@ pub fn head(case: &[u32], i: usize) -> usize
     requires { (i < 7) × (7 ≤ length case.now) }
     ensures { result < 2 ^ 32 }
 {
-    wide(case[i])
+    case[i] as usize
 }
 
 // Where list k of a case begins; behind the last one begins the next case.
@@ -78,10 +70,8 @@ pub fn begin(case: &[u32], k: usize) -> usize
     ensures { (7 ≤ result) × (result ≤ 7 + 5 * 2 ^ 32) }
 {
     let mut at = HEAD;
-    let mut i: usize = 0;
-    while i < k {
+    for i in 0..k {
         at += head(case, i);
-        i += 1;
     }
     at
 }

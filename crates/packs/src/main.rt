@@ -5,7 +5,7 @@ ghost use Rattle.std.specs.Prelude.{◌≤◌, length};
 
 mod cases;
 
-use input::{Taken, take};
+use input::take;
 use report::lent;
 use std::alloc::Global;
 use std::fs::File;
@@ -59,12 +59,8 @@ fn main(rt: HostRuntime) -> io::Result<()> {
         }
     };
     let mut bytes = vec![in rt.alloc(); 0u8; cases::MOST_BYTES]?;
-    match take(&mut file, &mut bytes) {
-        Taken::Bytes(size) => {
-            let mut to = BufWriter::new(rt.alloc(), rt.stdout())?;
-            all(&mut to, rt.alloc(), &bytes[..size])?;
-            to.flush()
-        }
-        Taken::Failed(error) => Err(error),
-    }
+    let size = take(&mut file, &mut bytes)?;
+    let mut to = BufWriter::new(rt.alloc(), rt.stdout())?;
+    all(&mut to, rt.alloc(), &bytes[..size])?;
+    to.flush()
 }

@@ -11,28 +11,16 @@ pub const PLAN: usize = 40000;
 
 // The first so many bytes, or all of them.
 pub fn first(bytes: &[u8], length: usize) -> &[u8] {
-    if bytes.len() < length {
-        return bytes;
-    }
-    &bytes[..length]
+    &bytes[..length.min(bytes.len())]
 }
 
 pub fn first_mut(bytes: &mut [u8], length: usize) -> &mut [u8] {
-    if bytes.len() < length {
-        return bytes;
-    }
-    &mut bytes[..length]
+    let count = length.min(bytes.len());
+    &mut bytes[..count]
 }
 
 pub fn is_kept(bytes: &[u8]) -> bool
     ensures { result ≡ are_kept bytes.now }
 {
-    let mut i: usize = 0;
-    while i < bytes.len() {
-        if bytes[i] != FILLER {
-            return false;
-        }
-        i += 1;
-    }
-    true
+    bytes.iter().all(|byte| *byte == FILLER)
 }

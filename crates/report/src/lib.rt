@@ -59,17 +59,15 @@ fn sum_with(sum: u64, byte: u8) -> u64
     requires { sum < 2147483647 }
     ensures { (result < 2147483647) × (result ≡ sum_with sum byte) }
 {
-    (sum * BASE + byte as u64) % PRIME
+    (sum * BASE + u64::from(byte)) % PRIME
 }
 
 fn checksum(bytes: &[u8]) -> u64
     ensures { result ≡ sum_from 0 bytes.now }
 {
     let mut sum: u64 = 0;
-    let mut i: usize = 0;
-    while i < bytes.len() {
-        sum = sum_with(sum, bytes[i]);
-        i += 1;
+    for byte in bytes {
+        sum = sum_with(sum, *byte);
     }
     sum
 }
@@ -88,11 +86,10 @@ fn plan<W: Write>(to: &mut W, length: usize, out: &[u8]) -> io::Result<()> {
     if out.len() < length {
         return Ok(());
     }
-    let written = &out[..length];
     number(to, length as u64, b"")?;
     kept(to, &out[length..])?;
     word(to, b" ")?;
-    bytes(to, written)
+    bytes(to, &out[..length])
 }
 
 // What an operation that writes a plan returned, and what it left of the buffer.

@@ -1,30 +1,30 @@
 -- `asked_of` meets its contract: the tests are those of the definition.
-use Rattle.arguments.specs.Arguments.{help_word, version_word, asked_of}
-use Rattle.arguments.proofs.Laws.{same_word}
 use mathlib.Core.Path.{◌≡◌}
 use Rattle.register.specs.Lists.{same_list}
-use Rattle.arguments.proofs.asked_of.Goals.{After-same, After-same-2}
+use Rattle.arguments.specs.Arguments.{help_word, version_word, asked_of}
+use Rattle.arguments.proofs.Laws.{same_word}
+use Rattle.arguments.proofs.asked_of.Goals.{After-eq, After-eq-else-eq}
 use Rattle.arguments.proofs.asked_of.Goals as goal
 
 -- the tests of the two words
-help : (c : After-same) → same_list c.args.word.now help_word ≡ c.same.result
-help c = same_word c.args.word.now help_word c.same.result c.same.ensures
+help : (c : After-eq) → same_list c.args.word.now help_word ≡ c.eq.result
+help c = rw c.eq.ensures (rw c.as_slice.ensures (same_word c.args.word.now help_word))
 
-version : (c : After-same-2) → same_list c.args.word.now version_word ≡ c.same-2.result
-version c = same_word c.args.word.now version_word c.same-2.result c.same-2.ensures
+version : (c : After-eq-else-eq) → same_list c.args.word.now version_word ≡ c.eq-else-eq.result
+version c = rw c.eq-else-eq.ensures (rw c.as_slice-else-eq.ensures (same_word c.args.word.now version_word))
 
-pub returns-then-same : goal.returns-then-same
+pub returns-then-eq : goal.returns-then-eq
 unfolding asked_of
-returns-then-same c = rw (help (goal.at.returns-then-same c).After-same, c.if-same.true)
+returns-then-eq c = rw (help (goal.at.returns-then-eq c).After-eq, c.if-eq.true)
 
-pub returns-then-same-2 : goal.returns-then-same-2
+pub returns-then-eq-2 : goal.returns-then-eq-2
 unfolding asked_of
-returns-then-same-2 c = rw (help (goal.at.returns-then-same-2 c).After-same, c.if-same.false, version (goal.at.returns-then-same-2 c).After-same-2, c.if-same-2.true)
+returns-then-eq-2 c = rw (help (goal.at.returns-then-eq-2 c).After-eq, c.if-eq.false, version (goal.at.returns-then-eq-2 c).After-eq-else-eq, c.if-eq-2.true)
 
 pub returns-then-is_option : goal.returns-then-is_option
 unfolding asked_of
-returns-then-is_option c = rw (help (goal.at.returns-then-is_option c).After-same, c.if-same.false, version (goal.at.returns-then-is_option c).After-same-2, c.if-same-2.false, ← c.is_option.ensures, c.if-is_option.true)
+returns-then-is_option c = rw (help (goal.at.returns-then-is_option c).After-eq, c.if-eq.false, version (goal.at.returns-then-is_option c).After-eq-else-eq, c.if-eq-2.false, ← c.is_option.ensures, c.if-is_option.true)
 
-pub returns : goal.returns
+pub returns-else-is_option : goal.returns-else-is_option
 unfolding asked_of
-returns c = rw (help (goal.at.returns c).After-same, c.if-same.false, version (goal.at.returns c).After-same-2, c.if-same-2.false, ← c.is_option.ensures, c.if-is_option.false)
+returns-else-is_option c = rw (help (goal.at.returns-else-is_option c).After-eq, c.if-eq.false, version (goal.at.returns-else-is_option c).After-eq-else-eq, c.if-eq-2.false, ← c.is_option.ensures, c.if-is_option.false)

@@ -1,20 +1,17 @@
--- `put_shown` meets its contract: after i turns the first i bytes are shown.
-use mathlib.Core.Path.{refl, ◌∙◌}
+-- `put_shown` meets its contract: behind the first bytes so many are shown.
+-- It stands on the laws of what is shown.
+use mathlib.Core.Path.{◌∙◌}
 use native.Mathlib.Omega.{arith}
-use Rattle.decimal.proofs.Stores.{stored_none}
-use Rattle.arguments.proofs.Laws.{shown_more, shown_cut, shown_all}
-use borrow.Author.Rules.{rules}
+use lib.ListN.{take}
+use Rattle.arguments.proofs.Laws.{shown_more, shown_whole}
 use Rattle.arguments.proofs.put_shown.Goals as goal
 
-pub loop-i-init : goal.loop-i-init
-loop-i-init c = (search rules, search rules, refl, stored_none _ _ (omega arith))
-
-pub returns-then-i-ge-NAME_BYTES : goal.returns-then-i-ge-NAME_BYTES
-returns-then-i-ge-NAME_BYTES c = shown_cut c.args.name.now (omega arith) c.loop-i.invariant.3
-
-pub loop-i-preserved : goal.loop-i-preserved
-loop-i-preserved c = let p = c.put_byte in
-    (search rules, search rules, p.auto.out ∙ c.loop-i.invariant.2, shown_more c.args.name.now c.loop-i-test.true c.loop-i.invariant.3 c.shown.ensures p.ensures)
+pub loop-byte-preserved : goal.loop-byte-preserved
+loop-byte-preserved c =
+    let l = c.loop-byte in
+    let p = c.put_byte-next in
+    let more = shown_more (take c.min.result c.args.name.now) c.loop-byte-test.true l.invariant.2 c.shown.ensures (rw l.invariant.0 at p.ensures) in
+    (omega (arith, p.ensures.next_is, l.invariant.0), p.auto.out ∙ l.invariant.1, more)
 
 pub returns : goal.returns
-returns c = shown_all c.args.name.now c.loop-i-test.false c.loop-i.invariant.1 c.loop-i.invariant.3
+returns c = rw c.loop-byte.invariant.0 (shown_whole c.args.name.now c.min.result c.min.ensures c.loop-byte-test.false c.loop-byte.invariant.2)

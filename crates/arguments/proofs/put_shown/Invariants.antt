@@ -1,14 +1,12 @@
--- `put_shown` meets its contract: after i turns the first i bytes are shown.
-use Prim.Native.Nat.{◌+◌, ◌-◌, ◌≤◌}
+-- `put_shown` meets its contract: behind the first bytes so many are shown.
 use mathlib.Core.Path.{◌≡◌}
 use mathlib.Core.List.{map}
+use Prim.Native.Nat.{◌+◌}
 use lib.ListN.{length, take}
 use Rattle.decimal.specs.Stored.{Stored}
-use Rattle.arguments.specs.Arguments.{shown_byte, most_name}
+use Rattle.arguments.specs.Arguments.{shown_byte}
 use Rattle.arguments.proofs.put_shown.Given as goal
 
-abbrev pub invariant-loop-i : goal.invariant-loop-i
-invariant-loop-i l = (l.i ≤ length l.name) × (l.i ≤ most_name) × (length l.out ≡ length l.initial.out) × Stored l.initial.out l.at (map shown_byte (take l.i l.name)) l.out (l.at + l.i)
-
-abbrev pub decreases-loop-i : goal.decreases-loop-i
-decreases-loop-i l = length l.name - l.i
+abbrev pub invariant-loop-byte : goal.invariant-loop-byte
+invariant-loop-byte l = (l.next ≡ l.at + l.byte-index) × (length l.out ≡ length l.initial.out)
+    × Stored l.initial.out l.at (map shown_byte (take l.byte-index l.byte-items)) l.out (l.at + l.byte-index)

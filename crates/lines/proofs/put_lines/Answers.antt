@@ -16,7 +16,7 @@ read-shape-requires c = (rw c.width.ensures.0 (header_there program_width _ (pla
 
 pub loop-i-init : goal.loop-i-init
 unfolding lines_in
-loop-i-init c = (search rules, refl, search rules, stored_none _ _ refl)
+loop-i-init c = (refl, search rules, stored_none _ _ refl)
 
 pub put_line-at-requires : goal.put_line-at-requires
 put_line-at-requires c = let few = most_reads_lem program_width _ _ c.requires.1 in
@@ -25,12 +25,11 @@ put_line-at-requires c = let few = most_reads_lem program_width _ _ c.requires.1
 pub loop-i-preserved : goal.loop-i-preserved
 unfolding lines_in
 loop-i-preserved c = (
-  search rules,
-  c.put_line-at.auto.out ∙ c.loop-i.invariant.1,
-  omega (arith, c.loop-i.invariant.2, c.put_line-at.ensures.r_bound),
-  rw (add-one c.loop-i.i) (stored_then c.loop-i.invariant.3 (rw c.read.ensures.0 at c.put_line-at.ensures.fact)),
+  c.put_line-at.auto.out ∙ c.loop-i.invariant.0,
+  omega (arith, c.loop-i.invariant.1, c.put_line-at.ensures.r_bound),
+  rw (add-one c.loop-i.i) (stored_then c.loop-i.invariant.2 (rw c.read.ensures.0 at c.put_line-at.ensures.fact)),
 )
 
 pub returns : goal.returns
 returns c = let all : c.loop-i.i ≡ c.args.count = omega arith in
-    stored_as (all_lines _ _ c.requires.1 c.read-shape.result (rw c.width.ensures.0 at c.read-shape.ensures.0) _ _ c.requires.2 all) c.loop-i.invariant.3
+    stored_as (all_lines _ _ c.requires.1 c.read-shape.result (rw c.width.ensures.0 at c.read-shape.ensures.0) _ _ c.requires.2 all) (rw c.from-span.ensures at c.loop-i.invariant.2)

