@@ -36,16 +36,16 @@ pub fn of_reader(x: usize) -> usize
 }
 
 // These servers join the set of a cell.
-pub fn join(sets: &mut [u16], at: usize, got: u16)
-    requires { at < length sets.old }
+pub fn join(sets: &mut [u16; CELLS], at: usize, got: u16)
+    requires { at < table_size }
     ensures { sets.new ≡ set sets.old at (bit_or (get_or sets.old at 0) got) }
 {
     sets[at] |= got;
 }
 
 // What arrives in a row of the calendar joins the row that begins at `at`.
-pub fn join_row(sets: &mut [u16], at: usize, work: &[u8], row: usize)
-    requires { (length sets.old ≡ table_size) × (at + places ≤ table_size) × (row < rows) × (calendar_size ≤ length work.now) × Spanned work.now }
+pub fn join_row(sets: &mut [u16; CELLS], at: usize, work: &[u8], row: usize)
+    requires { (at + places ≤ table_size) × (row < rows) × (calendar_size ≤ length work.now) × Spanned work.now }
     ensures { Joined sets.old sets.new at (sender work.now row) }
 {
     for j in calendar::low(work, row)..calendar::high(work, row) {
@@ -54,8 +54,8 @@ pub fn join_row(sets: &mut [u16], at: usize, work: &[u8], row: usize)
 }
 
 // Nobody in the cells from one to before another.
-fn zero(sets: &mut [u16], from: usize, to: usize)
-    requires { (from ≤ to) × (to ≤ length sets.old) }
+fn zero(sets: &mut [u16; CELLS], from: usize, to: usize)
+    requires { (from ≤ to) × (to ≤ table_size) }
     ensures { Zeroed sets.old sets.new from to }
 {
     sets[from..to].fill(0);
@@ -63,16 +63,16 @@ fn zero(sets: &mut [u16], from: usize, to: usize)
 
 // Nobody in the row that begins at `at`.
 #[tactic(auto, using(crate::proofs::TallyLaws::emptied))]
-pub fn empty(sets: &mut [u16], at: usize)
-    requires { (length sets.old ≡ table_size) × (at + places ≤ table_size) }
+pub fn empty(sets: &mut [u16; CELLS], at: usize)
+    requires { at + places ≤ table_size }
     ensures { Emptied sets.old sets.new at }
 {
     zero(sets, at, at + PLACES);
 }
 
 // A new voting period in the cells below `end`: what counts of the last k periods, the new one included, is the last one's if k is 2, and else nothing.
-pub fn next_period(sets: &mut [u16], end: usize, two: bool)
-    requires { (length sets.old ≡ table_size) × (end ≤ recent_at) }
+pub fn next_period(sets: &mut [u16; CELLS], end: usize, two: bool)
+    requires { end ≤ recent_at }
     ensures { Aged sets.old sets.new end two }
 {
     if two {

@@ -9,7 +9,7 @@ use Rattle.tallies.proofs.next_period.Goals.{then-two, else-two}
 use Rattle.tallies.proofs.next_period.Goals as goal
 
 pub returns : goal.returns
-returns c = let h = c.requires.1 in
+returns c = let h = c.requires in
     elim c.if-two.branch [
       | then-two w ↦ (
           let m = w.copy_within.ensures in
