@@ -73,14 +73,13 @@ fn look<W: Write>(
 // The answers, one of them replaced: which, and its bytes.
 fn altered(
     form: usize,
-    answers: [u8; sizes::ANSWERS],
+    mut answers: [u8; sizes::ANSWERS],
     request: [u8; BYTES],
 ) -> [u8; sizes::ANSWERS] {
     let i = bits::field(&request, INDEX_AT, INDEX_BITS) as usize;
     let replaced = lent::first(&request[REPLACED_AT..], sizes::answer_bytes(form));
-    let mut given = answers;
-    decimal::put_all(&mut given, sizes::answer_at(form, i), replaced);
-    given
+    decimal::put_all(&mut answers, sizes::answer_at(form, i), replaced);
+    answers
 }
 
 // Judge: how many bytes of the answers, and what is replaced in them.
@@ -122,10 +121,11 @@ fn sheet<W: Write>(
 
 // From the plan's form to the other one.
 fn carried(form: usize, plan: &[u8], out: &mut [u8]) -> usize {
-    if form == form::TWO {
-        return codes::of_outcome(carry::carry_back(plan, out));
-    }
-    codes::of_outcome(carry::carry(plan, out))
+    codes::of_outcome(if form == form::TWO {
+        carry::carry_back(plan, out)
+    } else {
+        carry::carry(plan, out)
+    })
 }
 
 // Carry: the length of the buffer.
@@ -144,24 +144,16 @@ pub fn run<W: Write>(
     answers: [u8; sizes::ANSWERS],
     request: [u8; BYTES],
 ) -> io::Result<()> {
-    let letter = request[0];
     let a = bits::field(&request, LETTER_BITS, NUMBER_BITS) as usize;
     let b = bits::field(&request, LETTER_BITS + NUMBER_BITS, NUMBER_BITS) as usize;
     let c = bits::field(&request, LETTER_BITS + 2 * NUMBER_BITS, NUMBER_BITS) as usize;
-    if letter == b'p' {
-        play(to, form, plan, a, b)?;
-    }
-    if letter == b'l' {
-        look(to, form, plan, a, b, c)?;
-    }
-    if letter == b'j' {
-        judge(to, form, plan, answers, request)?;
-    }
-    if letter == b's' {
-        sheet(to, form, plan, answers, request)?;
-    }
-    if letter == b'c' {
-        carry(to, form, plan, a)?;
+    match request[0] {
+        b'p' => play(to, form, plan, a, b)?,
+        b'l' => look(to, form, plan, a, b, c)?,
+        b'j' => judge(to, form, plan, answers, request)?,
+        b's' => sheet(to, form, plan, answers, request)?,
+        b'c' => carry(to, form, plan, a)?,
+        _ => {}
     }
     word(to, b"\n")
 }

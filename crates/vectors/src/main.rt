@@ -6,7 +6,7 @@ mod shown;
 mod sizes;
 
 use console::Streams;
-use input::{Taken, take};
+use input::take;
 use plan::form;
 use plan::header::Shape;
 use report::{lent, number, word};
@@ -39,8 +39,8 @@ fn looks<W: Write>(to: &mut W, form: usize, plan: &[u8]) -> io::Result<()> {
         return Ok(());
     }
     let shape = Shape::read(plan, width);
-    let n = shape.n as usize;
-    let ticks = shape.ticks as usize;
+    let n = usize::from(shape.n);
+    let ticks = usize::from(shape.ticks);
     if n == 0 {
         return Ok(());
     }
@@ -112,10 +112,8 @@ fn run<O: Write, E: Write>(
 
 // Fills the bytes from the file. False: it ends before.
 fn fill<R: Read>(file: &mut R, bytes: &mut [u8]) -> io::Result<bool> {
-    match take(file, bytes) {
-        Taken::Bytes(size) => Ok(size == bytes.len()),
-        Taken::Failed(error) => Err(error),
-    }
+    let size = take(file, bytes)?;
+    Ok(size == bytes.len())
 }
 
 // The next request. False: it is not there.

@@ -1,6 +1,5 @@
 // What is printed of results, as `codes` has them.
 use super::sizes;
-use limits::DEPTH;
 use report::{kept, lent, number, refusal, word};
 use std::io;
 use std::io::Write;
@@ -9,9 +8,6 @@ use std::io::Write;
 const VALUE_BITS: usize = 24;
 
 const NUMBER_BITS: usize = 8;
-
-// No plan has so many reads.
-const READS: usize = 256;
 
 // The number of reads, or the refusal.
 pub fn outcome<W: Write>(to: &mut W, code: usize) -> io::Result<()> {
@@ -25,7 +21,7 @@ pub fn outcome<W: Write>(to: &mut W, code: usize) -> io::Result<()> {
 // One number of a forecast.
 fn figure<W: Write>(to: &mut W, x: u32) -> io::Result<()> {
     word(to, b" ")?;
-    number(to, x as u64, b"")
+    number(to, u64::from(x), b"")
 }
 
 // The numbers of a forecast, or the refusal.
@@ -49,10 +45,10 @@ pub fn verdict<W: Write>(to: &mut W, code: usize) -> io::Result<()> {
     if codes::REFUSED <= code {
         return refusal(to, code);
     }
-    if code == 0 {
-        return word(to, b"no");
+    match code {
+        0 => word(to, b"no"),
+        _ => word(to, b"yes"),
     }
-    word(to, b"yes")
 }
 
 // The lines at the start of a page, and whether the bytes behind them are as they were.
@@ -75,20 +71,12 @@ pub fn page<W: Write>(to: &mut W, code: usize, out: &[u8]) -> io::Result<()> {
     lines(to, code, out)
 }
 
-// Pair i of those that Look shows: value, number.
-fn pair<W: Write>(to: &mut W, pairs: &[u8; sizes::PAIRS], i: usize) -> io::Result<()> {
-    if DEPTH <= i {
-        return Ok(());
-    }
-    let at = 8 * codes::pairs::PAIR_BYTES * i;
-    word(to, b" ")?;
-    number(to, bits::field(pairs, at, VALUE_BITS), b" ")?;
-    number(to, bits::field(pairs, at + VALUE_BITS, NUMBER_BITS), b"")
-}
-
+// The pairs that Look shows: of each its value and its number.
 fn pairs_shown<W: Write>(to: &mut W, pairs: &[u8; sizes::PAIRS], count: usize) -> io::Result<()> {
-    for i in 0..count {
-        pair(to, pairs, i)?;
+    for pair in pairs.chunks_exact(codes::pairs::PAIR_BYTES).take(count) {
+        word(to, b" ")?;
+        number(to, bits::field(pair, 0, VALUE_BITS), b" ")?;
+        number(to, bits::field(pair, VALUE_BITS, NUMBER_BITS), b"")?;
     }
     Ok(())
 }
@@ -104,21 +92,10 @@ pub fn seen<W: Write>(to: &mut W, code: usize, pairs: &[u8; sizes::PAIRS]) -> io
 
 // The answers as they stand in the buffer, each as one number.
 pub fn answers<W: Write>(to: &mut W, form: usize, bytes: &[u8], count: usize) -> io::Result<()> {
-    for i in 0..count {
-        answer(to, form, bytes, i)?;
+    let size = sizes::answer_bytes(form);
+    for answer in bytes.chunks_exact(size).take(count) {
+        word(to, b" ")?;
+        number(to, bits::field(answer, 0, 8 * size), b"")?;
     }
     Ok(())
-}
-
-fn answer<W: Write>(to: &mut W, form: usize, bytes: &[u8], i: usize) -> io::Result<()> {
-    if READS <= i {
-        return Ok(());
-    }
-    let at = sizes::answer_at(form, i);
-    let size = sizes::answer_bytes(form);
-    if bytes.len() < at + size {
-        return Ok(());
-    }
-    word(to, b" ")?;
-    number(to, bits::field(bytes, 8 * at, 8 * size), b"")
 }
