@@ -4,16 +4,14 @@ ghost use Rattle.std.specs.Prelude.{◌≡◌, ℕ, ◌*◌, ◌≤◌, ◌<◌,
 ghost use Rattle.register.specs.{Lists.all_up_to, Plan.Plan, Regular.allowed};
 ghost use Rattle.answers.specs.Answers.{answer_size, begin_in, pair_in};
 ghost use Rattle.plan.specs.Form.{most_width};
-ghost use Rattle.plan.specs.Check.{result as returned};
 ghost use Rattle.results.specs.{Judge.read_of, Judge.answer_allowed, Judge.judge_in, Numbered.judged};
 ghost use Rattle.regular.specs.Tables.{Tables};
 ghost use Rattle.fitting.specs.Answered.{Answered};
 
 use fitting::times;
 use limits::PLACES;
-use plan::{Outcome, form};
+use plan::{Refusal, form};
 use regular::is_allowed;
-use results::judge::Judged;
 
 // Do all answers hold allowed pairs?
 fn all_allowed(
@@ -49,15 +47,15 @@ fn all_allowed(
     true
 }
 
-// The verdict on answers that are to the reads of an accepted plan.
-fn judge_answers(plan: &[u8], width: u8, answers: &[u8], count: usize) -> Judged
+// Are they all, in answers that are to the reads of an accepted plan?
+fn judge_answers(plan: &[u8], width: u8, answers: &[u8], count: usize) -> bool
     requires { Answered width plan.now answers.now count × (width ≤ most_width) }
-    ensures { judged result ≡ returned (all_up_to count (answer_allowed width plan.now answers.now)) }
+    ensures { result ≡ all_up_to count (answer_allowed width plan.now answers.now) }
 {
     let times = times::of_plan(plan, width);
     let writes = times.writes;
     let known = writes.known;
-    if all_allowed(
+    all_allowed(
         answers,
         width,
         &known.values,
@@ -65,20 +63,13 @@ fn judge_answers(plan: &[u8], width: u8, answers: &[u8], count: usize) -> Judged
         known.m,
         times.delta,
         count,
-    ) {
-        Judged::Yes
-    } else {
-        Judged::No
-    }
+    )
 }
 
 // Judges answers against a plan: Check's refusals, 12, 13, then yes or no.
-pub fn judge(form: usize, plan: &[u8], answers: &[u8]) -> Judged
+pub fn judge(form: usize, plan: &[u8], answers: &[u8]) -> Result<bool, Refusal>
     ensures { judged result ≡ judge_in form plan.now answers.now }
 {
-    let checked = fitting::answered(form, plan, answers);
-    match checked {
-        Outcome::Refused(refusal) => Judged::Refused(refusal),
-        Outcome::Number(count) => judge_answers(plan, form::width(form), answers, count),
-    }
+    let count = fitting::answered(form, plan, answers)?;
+    Ok(judge_answers(plan, form::width(form), answers, count))
 }

@@ -6,7 +6,4 @@ use Rattle.pack.proofs.operations_pass.Goals as goal
 
 pub fits_all-requires : goal.fits_all-requires
 unfolding no_wider
-fits_all-requires c = rw c.widths-widths.ensures (rw (le-leb c.args.h.width 32 (omega (arith, c.requires.0.narrow))) tt, c.requires.1)
-
-pub returns : goal.returns
-returns c = rw (c.both.ensures, c.all_stand.ensures, c.fits_all.ensures, c.widths-widths.ensures)
+fits_all-requires c = rw (c.widths-widths.ensures, c.from.ensures) (rw (le-leb c.args.h.width 32 (omega (arith, c.requires.0.narrow))) tt, c.requires.1)

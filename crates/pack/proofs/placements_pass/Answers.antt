@@ -6,6 +6,3 @@ use Rattle.pack.proofs.placements_pass.Goals as goal
 pub fits_all-requires : goal.fits_all-requires
 unfolding no_wider
 fits_all-requires c = (tt, rw c.moves.ensures.0 (search rules))
-
-pub returns : goal.returns
-returns c = rw (c.both.ensures, c.all_stand.ensures, c.fits_all.ensures, c.moves.ensures.0)
