@@ -4,7 +4,7 @@ ghost use Rattle.std.specs.Prelude.{◌≡◌, length};
 ghost use Rattle.forecast.specs.Numbered.{counts};
 ghost use Rattle.capi_forecast.specs.Figures.{figure_count, figures_of, figures_over, forecast_coded};
 
-use forecast::{Counts, Foreseen};
+use forecast::Counts;
 
 // How many numbers there are.
 pub const FIGURES: usize = 6;
@@ -35,12 +35,10 @@ fn put(numbers: &mut [u32], figures: &[u32; FIGURES])
 pub fn forecast(form: usize, plan: &[u8], numbers: &mut [u32]) -> usize
     ensures { record { code = result; numbers = numbers.new } ≡ forecast_coded form plan.now numbers.old }
 {
-    let foreseen = forecast::forecast(form, plan);
-    match foreseen {
-        Foreseen::Refused(why) => codes::refusal(why),
-        Foreseen::Takes(x) => {
-            let figures = figures_of(x);
-            put(numbers, &figures);
+    match forecast::forecast(form, plan) {
+        Err(why) => codes::refusal(why),
+        Ok(x) => {
+            put(numbers, &figures_of(x));
             FIGURES
         }
     }

@@ -14,15 +14,13 @@ use moving::Places;
 use plan::forgeries::Forged;
 use plan::header::Shape;
 use plan::operations::Operation;
-use plan::{Outcome, Refusal, form};
+use plan::{Refusal, form};
 
 // The header of a plan in the other form.
 fn with_width(h: Shape, width: u8) -> Shape
     ensures { (shape result ≡ shape h) × (result.width ≡ width) }
 {
-    let mut other = h;
-    other.width = width;
-    other
+    Shape { width, ..h }
 }
 
 // Records of the forged part, as `moving::records` has them. The plan is lent from the byte that holds the bit where the operations end, with an offset
@@ -74,43 +72,40 @@ fn write(out: &mut [u8], plan: &[u8], h: Shape, width: u8)
 }
 
 // A plan that passed Check, from values of some width to values of another.
-fn carry_at(plan: &[u8], had: u8, wanted: u8, out: &mut [u8]) -> Outcome
+fn carry_at(plan: &[u8], had: u8, wanted: u8, out: &mut [u8]) -> Result<usize, Refusal>
     requires { Playable had plan.now × (had ≤ most_width) × (wanted ≤ most_width) }
     ensures { record { outcome = numbered result; out = out.new } ≡ into_buffer (carried_plan had wanted plan.now) out.old
         (carry_tests had wanted plan.now (length out.old)) }
 {
     let h = Shape::read(plan, had);
     if !values::all_fit(plan, h, wanted) {
-        return Outcome::Refused(Refusal::ValueTooWide);
+        return Err(Refusal::ValueTooWide);
     }
     let size = with_width(h, wanted).bytes();
     if out.len() < size {
-        return Outcome::Refused(Refusal::CarriedShort);
+        return Err(Refusal::CarriedShort);
     }
     write(out, plan, h, wanted);
-    Outcome::Number(size)
+    Ok(size)
 }
 
-fn carry_between(from: usize, to: usize, plan: &[u8], out: &mut [u8]) -> Outcome
+fn carry_between(from: usize, to: usize, plan: &[u8], out: &mut [u8]) -> Result<usize, Refusal>
     requires { is_form from ≡ true }
     ensures { record { outcome = numbered result; out = out.new } ≡ carry_of (width_of from) (width_of to) plan.now out.old }
 {
-    let checked = checks::check(from, plan);
-    match checked {
-        Outcome::Refused(why) => Outcome::Refused(why),
-        Outcome::Number(_reads) => carry_at(plan, form::width(from), form::width(to), out),
-    }
+    checks::check(from, plan)?;
+    carry_at(plan, form::width(from), form::width(to), out)
 }
 
 // From form one to form two.
-pub fn carry(plan: &[u8], out: &mut [u8]) -> Outcome
+pub fn carry(plan: &[u8], out: &mut [u8]) -> Result<usize, Refusal>
     ensures { record { outcome = numbered result; out = out.new } ≡ carry_of (width_of form_one) (width_of form_two) plan.now out.old }
 {
     carry_between(form::ONE, form::TWO, plan, out)
 }
 
 // And back.
-pub fn carry_back(plan: &[u8], out: &mut [u8]) -> Outcome
+pub fn carry_back(plan: &[u8], out: &mut [u8]) -> Result<usize, Refusal>
     ensures { record { outcome = numbered result; out = out.new } ≡ carry_of (width_of form_two) (width_of form_one) plan.now out.old }
 {
     carry_between(form::TWO, form::ONE, plan, out)

@@ -7,80 +7,64 @@ ghost use Rattle.checks.specs.Headed.{IsHeaded};
 
 use operations::reads;
 use plan::header::Shape;
-use plan::logic::both;
-use plan::{Outcome, Refusal, form};
+use plan::{Refusal, form};
 
-// What the tests of the header leave: the header, or the first refusal that applies: 1; 2.
-#[derive(Clone, Copy)]
-pub enum Headed {
-    Header(Shape),
-    Refused(Refusal),
-}
-
-// The tests of the header.
-fn header(plan: &[u8], width: u8) -> Headed
+// The tests of the header, and the header that passes them.
+fn header(plan: &[u8], width: u8) -> Result<Shape, Refusal>
     requires { width ≤ most_width }
     ensures { IsHeaded width plan.now result }
 {
     if plan.len() < Shape::header_bytes(width) {
-        return Headed::Refused(Refusal::TooShort);
+        return Err(Refusal::TooShort);
     }
     let h = Shape::read(plan, width);
     if !h.is_in_range() {
-        return Headed::Refused(Refusal::HeaderRange);
+        return Err(Refusal::HeaderRange);
     }
-    Headed::Header(h)
+    Ok(h)
 }
 
 // The rest, behind the tests of the header.
-fn rest(plan: &[u8], h: Shape) -> Outcome
+fn rest(plan: &[u8], h: Shape) -> Result<usize, Refusal>
     requires { Ranged (shape h) × (h.width ≤ most_width) × (shape h ≡ header_of h.width plan.now) }
     ensures { numbered result ≡ check_rest h.width plan.now (shape h) }
 {
     if plan.len() != h.bytes() {
-        return Outcome::Refused(Refusal::Length);
+        return Err(Refusal::Length);
     }
     if !placements::all_stand(plan, h) {
-        return Outcome::Refused(Refusal::Placement);
+        return Err(Refusal::Placement);
     }
     if !operations::all_stand(plan, h) {
-        return Outcome::Refused(Refusal::Operation);
+        return Err(Refusal::Operation);
     }
     if !forgeries::all_stand(plan, h) {
-        return Outcome::Refused(Refusal::Forgery);
+        return Err(Refusal::Forgery);
     }
-    if !both(
-        delays::all_stand(plan, h),
-        delays::are_final_bits_zero(plan, h),
-    ) {
-        return Outcome::Refused(Refusal::Delay);
+    if !(delays::all_stand(plan, h) && delays::are_final_bits_zero(plan, h)) {
+        return Err(Refusal::Delay);
     }
-    Outcome::Number(reads::count(plan, h))
+    Ok(reads::count(plan, h))
 }
 
 // At values of so many bits.
-fn check_at(plan: &[u8], width: u8) -> Outcome
+fn check_at(plan: &[u8], width: u8) -> Result<usize, Refusal>
     requires { width ≤ most_width }
     ensures { numbered result ≡ check_of width plan.now }
 {
-    let headed = header(plan, width);
-    match headed {
-        Headed::Refused(why) => Outcome::Refused(why),
-        Headed::Header(h) => {
-            if !h.has_enough_servers() {
-                return Outcome::Refused(Refusal::TooFewServers);
-            }
-            rest(plan, h)
-        }
+    let h = header(plan, width)?;
+    if !h.has_enough_servers() {
+        return Err(Refusal::TooFewServers);
     }
+    rest(plan, h)
 }
 
 // In the form that the caller names.
-pub fn check(form: usize, plan: &[u8]) -> Outcome
+pub fn check(form: usize, plan: &[u8]) -> Result<usize, Refusal>
     ensures { numbered result ≡ check_in form plan.now }
 {
     if !form::is_known(form) {
-        return Outcome::Refused(Refusal::TooShort);
+        return Err(Refusal::TooShort);
     }
     check_at(plan, form::width(form))
 }

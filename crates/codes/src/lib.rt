@@ -5,8 +5,7 @@ ghost use Rattle.plan.specs.Numbered.{refusal_number, numbered};
 ghost use Rattle.results.specs.Numbered.{judged, looked_as};
 ghost use Rattle.codes.specs.Codes.{refusal_code, code_of, verdict_code, shown_code};
 
-use plan::{Outcome, Refusal};
-use results::judge::Judged;
+use plan::Refusal;
 use results::look::Seen;
 
 pub mod pairs;
@@ -15,7 +14,7 @@ pub mod pairs;
 pub const REFUSED: usize = 16777216;
 
 // The published number of a refusal.
-fn number(why: Refusal) -> usize
+pub fn number(why: Refusal) -> usize
     ensures { (result ≡ refusal_number why) × (result ≤ 23) }
 {
     match why {
@@ -53,23 +52,22 @@ pub fn refusal(why: Refusal) -> usize
 }
 
 // The number itself: of reads, or of bytes.
-pub fn of_outcome(o: Outcome) -> usize
+pub fn of_outcome(o: Result<usize, Refusal>) -> usize
     ensures { result ≡ code_of (numbered o) }
 {
     match o {
-        Outcome::Number(m) => m,
-        Outcome::Refused(why) => refusal(why),
+        Ok(m) => m,
+        Err(why) => refusal(why),
     }
 }
 
 // 1 for yes, 0 for no.
-pub fn of_judge(j: Judged) -> usize
+pub fn of_judge(j: Result<bool, Refusal>) -> usize
     ensures { result ≡ verdict_code (judged j) }
 {
     match j {
-        Judged::Yes => 1,
-        Judged::No => 0,
-        Judged::Refused(why) => refusal(why),
+        Ok(yes) => usize::from(yes),
+        Err(why) => refusal(why),
     }
 }
 

@@ -13,7 +13,7 @@ ghost use Rattle.fitting.specs.Answered.{answered_after, answered_in};
 ghost use Rattle.fitting.specs.Fitting.{fits_read};
 
 use plan::header::Shape;
-use plan::{Outcome, Refusal, form};
+use plan::{Refusal, form};
 use tables::operations::{TABLE_READS, reads_of};
 
 // Are begin, reader and zero bit of answer i those of its read?
@@ -45,30 +45,30 @@ fn all_fit<'a>(
 }
 
 // The answers to an accepted plan with so many reads.
-fn answered_at(plan: &[u8], width: u8, answers: &[u8], count: usize) -> Outcome
+fn answered_at(plan: &[u8], width: u8, answers: &[u8], count: usize) -> Result<usize, Refusal>
     requires { (check_of width plan.now ≡ returned count) × (width ≤ most_width) }
     ensures { numbered result ≡ answered_after width plan.now answers.now (returned count) }
 {
     if answers.len() != answers::size(width) * count {
-        return Outcome::Refused(Refusal::WrongLength);
+        return Err(Refusal::WrongLength);
     }
     let shape = Shape::read(plan, width);
-    let at = shape.operations_at();
-    let operations = shape.operations as usize;
-    let reads = reads_of(plan, at, width, operations);
+    let reads = reads_of(
+        plan,
+        shape.operations_at(),
+        width,
+        usize::from(shape.operations),
+    );
     if !all_fit(answers, width, &reads.begun, &reads.reader, count) {
-        return Outcome::Refused(Refusal::WrongRead);
+        return Err(Refusal::WrongRead);
     }
-    Outcome::Number(count)
+    Ok(count)
 }
 
 // Tests answers against the reads of a plan: Check's refusals, 12, 13, else the number of reads.
-pub fn answered(form: usize, plan: &[u8], answers: &[u8]) -> Outcome
+pub fn answered(form: usize, plan: &[u8], answers: &[u8]) -> Result<usize, Refusal>
     ensures { numbered result ≡ answered_in form plan.now answers.now }
 {
-    let checked = checks::check(form, plan);
-    match checked {
-        Outcome::Refused(refusal) => Outcome::Refused(refusal),
-        Outcome::Number(count) => answered_at(plan, form::width(form), answers, count),
-    }
+    let count = checks::check(form, plan)?;
+    answered_at(plan, form::width(form), answers, count)
 }

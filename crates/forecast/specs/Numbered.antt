@@ -1,9 +1,9 @@
 -- The numbers of an accepted plan, or the refusal's number, for every case of what Forecast returns.
+use Rattle.std.specs.Prelude.{Result, Ok, Err}
+use Rattle.plan.specs.declared.Refusal.{Refusal}
 use Rattle.plan.specs.Check.{Outcome, refused, result}
 use Rattle.plan.specs.Numbered.{refusal_number}
 use Rattle.forecast.specs.declared.Counts as declared
-use Rattle.forecast.specs.declared.Foreseen.{Foreseen}
-use Rattle.forecast.specs.declared.Foreseen.TheVariants as F
 use Rattle.forecast.specs.Forecast.{Counts}
 
 abbrev pub counts : declared.Counts → Counts
@@ -16,6 +16,6 @@ counts x = record {
   most_forgeries = x.most_forgeries;
 }
 
-abbrev pub foreseen : Foreseen → Outcome Counts
-foreseen (F.Takes x) = result (counts x)
-foreseen (F.Refused why) = refused (refusal_number why)
+abbrev pub foreseen : Result declared.Counts Refusal → Outcome Counts
+foreseen (Ok x) = result (counts x)
+foreseen (Err why) = refused (refusal_number why)

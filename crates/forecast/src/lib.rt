@@ -10,7 +10,7 @@ ghost use Rattle.forecast.specs.Forecast.{counts_of, forecast_in};
 ghost use Rattle.forecast.specs.Numbered.{counts, foreseen};
 
 use plan::header::Shape;
-use plan::{Outcome, Refusal, form};
+use plan::{Refusal, form};
 
 // What a play of a plan counts.
 #[derive(Clone, Copy)]
@@ -25,13 +25,6 @@ pub struct Counts {
     pub votes: u32,
     // The most forged messages that arrive in one tick.
     pub most_forgeries: u32,
-}
-
-// What Forecast returns: the numbers of an accepted plan, or Check's refusal.
-#[derive(Clone, Copy)]
-pub enum Foreseen {
-    Takes(Counts),
-    Refused(Refusal),
 }
 
 // Those of an accepted plan with so many reads.
@@ -53,12 +46,9 @@ fn counts_of(plan: &[u8], width: u8, reads: usize) -> Counts
 }
 
 // Says what playing a plan will take: Check's refusals, else six numbers.
-pub fn forecast(form: usize, plan: &[u8]) -> Foreseen
+pub fn forecast(form: usize, plan: &[u8]) -> Result<Counts, Refusal>
     ensures { foreseen result ≡ forecast_in form plan.now }
 {
-    let checked = checks::check(form, plan);
-    match checked {
-        Outcome::Refused(why) => Foreseen::Refused(why),
-        Outcome::Number(reads) => Foreseen::Takes(counts_of(plan, form::width(form), reads)),
-    }
+    let reads = checks::check(form, plan)?;
+    Ok(counts_of(plan, form::width(form), reads))
 }

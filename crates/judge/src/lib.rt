@@ -4,15 +4,13 @@ ghost use Rattle.std.specs.Prelude.{◌≡◌, ℕ, ◌*◌, ◌≤◌, ◌<◌,
 ghost use Rattle.register.specs.{Lists.all_up_to, Plan.Plan, Regular.allowed};
 ghost use Rattle.answers.specs.Answers.{answer_size, begin_in, pair_in};
 ghost use Rattle.plan.specs.Form.{most_width};
-ghost use Rattle.plan.specs.Check.{result as returned};
 ghost use Rattle.results.specs.{Judge.read_of, Judge.answer_allowed, Judge.judge_in, Numbered.judged};
 ghost use Rattle.regular.specs.Tables.{Tables};
 ghost use Rattle.fitting.specs.Answered.{Answered};
 
 use fitting::times;
-use plan::{Outcome, form};
+use plan::{Refusal, form};
 use regular::Times;
-use results::judge::Judged;
 
 // Do all answers hold allowed pairs?
 fn all_allowed(answers: &[u8], width: u8, times: &Times, count: usize) -> bool
@@ -30,26 +28,19 @@ fn all_allowed(answers: &[u8], width: u8, times: &Times, count: usize) -> bool
     true
 }
 
-// The verdict on answers that are to the reads of an accepted plan.
-fn judge_answers(plan: &[u8], width: u8, answers: &[u8], count: usize) -> Judged
+// Are they all, in answers that are to the reads of an accepted plan?
+fn judge_answers(plan: &[u8], width: u8, answers: &[u8], count: usize) -> bool
     requires { Answered width plan.now answers.now count × (width ≤ most_width) }
-    ensures { judged result ≡ returned (all_up_to count (answer_allowed width plan.now answers.now)) }
+    ensures { result ≡ all_up_to count (answer_allowed width plan.now answers.now) }
 {
     let times = times::of_plan(plan, width);
-    if all_allowed(answers, width, &times, count) {
-        Judged::Yes
-    } else {
-        Judged::No
-    }
+    all_allowed(answers, width, &times, count)
 }
 
 // Judges answers against a plan: Check's refusals, 12, 13, then yes or no.
-pub fn judge(form: usize, plan: &[u8], answers: &[u8]) -> Judged
+pub fn judge(form: usize, plan: &[u8], answers: &[u8]) -> Result<bool, Refusal>
     ensures { judged result ≡ judge_in form plan.now answers.now }
 {
-    let checked = fitting::answered(form, plan, answers);
-    match checked {
-        Outcome::Refused(refusal) => Judged::Refused(refusal),
-        Outcome::Number(count) => judge_answers(plan, form::width(form), answers, count),
-    }
+    let count = fitting::answered(form, plan, answers)?;
+    Ok(judge_answers(plan, form::width(form), answers, count))
 }

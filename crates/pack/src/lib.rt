@@ -9,7 +9,7 @@ ghost use Rattle.pack.specs.{Pack.lengths_implied, Pack.part_tests, Pack.pack_of
 use plan::forgeries::Forged;
 use plan::header::Shape;
 use plan::operations::Operation;
-use plan::{Outcome, Refusal, form};
+use plan::{Refusal, form};
 
 // Have the lists the lengths that the header implies.
 fn are_implied(
@@ -121,29 +121,29 @@ fn finish(
     forgeries: &[u32],
     delays: &[u32],
     out: &mut [u8],
-) -> Outcome
+) -> Result<usize, Refusal>
     requires { Sized h.width plan.now (shape h) × (shape h ≡ header_of h.width plan.now)
         × Full h.width (shape h) (parts_from placements.now operations.now forgeries.now delays.now) }
     ensures { record { outcome = numbered result; out = out.new } ≡ into_buffer plan.now out.old (part_tests h.width (shape h) plan.now
         (parts_from placements.now operations.now forgeries.now delays.now) (length out.old)) }
 {
     if !placements_pass(plan, h, placements) {
-        return Outcome::Refused(Refusal::Placement);
+        return Err(Refusal::Placement);
     }
     if !operations_pass(plan, h, operations) {
-        return Outcome::Refused(Refusal::Operation);
+        return Err(Refusal::Operation);
     }
     if !forgeries_pass(plan, h, forgeries) {
-        return Outcome::Refused(Refusal::Forgery);
+        return Err(Refusal::Forgery);
     }
     if !delays_pass(plan, h, delays) {
-        return Outcome::Refused(Refusal::Delay);
+        return Err(Refusal::Delay);
     }
     if out.len() < plan.len() {
-        return Outcome::Refused(Refusal::BufferShort);
+        return Err(Refusal::BufferShort);
     }
     copy(out, plan);
-    Outcome::Number(plan.len())
+    Ok(plan.len())
 }
 
 // Are there ten numbers that fit the header's fields.
@@ -151,11 +151,8 @@ fn is_header(numbers: &[u32], width: u8) -> bool
     requires { width ≤ most_width }
     ensures { result ≡ fits (header_widths width) numbers.now }
 {
-    if numbers.len() != Shape::HEADER_FIELDS {
-        return false;
-    }
-    let widths = Shape::header_widths(width);
-    packing::fits_one(&widths, numbers)
+    numbers.len() == Shape::HEADER_FIELDS
+        && packing::fits_one(&Shape::header_widths(width), numbers)
 }
 
 // Packs the lists into the buffer, at values of so many bits. The plan is made and tested in bytes of its own, so that a refusal writes nothing.
@@ -167,23 +164,23 @@ fn pack_at(
     forgeries: &[u32],
     delays: &[u32],
     out: &mut [u8],
-) -> Outcome
+) -> Result<usize, Refusal>
     requires { width ≤ most_width }
     ensures { record { outcome = numbered result; out = out.new } ≡ pack_of width
         (lists_from header.now placements.now operations.now forgeries.now delays.now) out.old }
 {
     if !is_header(header, width) {
-        return Outcome::Refused(Refusal::HeaderRange);
+        return Err(Refusal::HeaderRange);
     }
     let h = Shape::of(header, width);
     if !h.is_in_range() {
-        return Outcome::Refused(Refusal::HeaderRange);
+        return Err(Refusal::HeaderRange);
     }
     if !h.has_enough_servers() {
-        return Outcome::Refused(Refusal::TooFewServers);
+        return Err(Refusal::TooFewServers);
     }
     if !are_implied(h, placements, operations, forgeries, delays) {
-        return Outcome::Refused(Refusal::Length);
+        return Err(Refusal::Length);
     }
     let mut own = [0u8; Shape::IMPLIED_BYTES];
     write(
@@ -210,12 +207,12 @@ pub fn pack(
     forgeries: &[u32],
     delays: &[u32],
     out: &mut [u8],
-) -> Outcome
+) -> Result<usize, Refusal>
     ensures { record { outcome = numbered result; out = out.new } ≡ pack_in form
         (lists_from header.now placements.now operations.now forgeries.now delays.now) out.old }
 {
     if !form::is_known(form) {
-        return Outcome::Refused(Refusal::TooShort);
+        return Err(Refusal::TooShort);
     }
     pack_at(
         form::width(form),

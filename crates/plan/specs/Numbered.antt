@@ -1,9 +1,7 @@
--- The number that documents 01 and 02 give every refusal, and the two cases of what an operation with a number for its result returns.
-use Rattle.std.specs.Prelude.{ℕ}
+-- The number that documents 01 and 02 give every refusal, and what an operation with a number for its result returns.
+use Rattle.std.specs.Prelude.{ℕ, Result, Ok, Err}
 use Rattle.plan.specs.declared.Refusal.{Refusal}
 use Rattle.plan.specs.declared.Refusal.TheVariants as R
-use Rattle.plan.specs.declared.Outcome.{Outcome as Returned}
-use Rattle.plan.specs.declared.Outcome.TheVariants as O
 use Rattle.plan.specs.Check.{Outcome, refused, result}
 
 -- Check: '1 under 8 bytes; 2 a header field outside its range; 3 n below (k+3)f+1; 4 byte length other than the header implies; 5 a placement; 6 an
@@ -45,6 +43,6 @@ refusal_number R.NoRight = 22
 refusal_number R.TextShort = 23
 
 -- Check and Play: 'it returns the number of reads'; document 02, 'One': 'returns the number of bytes written'; or the refusal's number
-abbrev pub numbered : Returned → Outcome ℕ
-numbered (O.Number m) = result m
-numbered (O.Refused r) = refused (refusal_number r)
+abbrev pub numbered : Result ℕ Refusal → Outcome ℕ
+numbered (Ok m) = result m
+numbered (Err r) = refused (refusal_number r)

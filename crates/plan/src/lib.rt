@@ -1,5 +1,5 @@
 #![tactic(auto)]
-// The packed plan (document 01, 'The plan, packed'): its header, an operation and a forgery as values, what an operation with a number for its result returns, and all refusals.
+// The packed plan (document 01, 'The plan, packed'): its header, an operation and a forgery as values, and all refusals.
 pub mod forgeries;
 pub mod form;
 pub mod header;
@@ -7,7 +7,7 @@ pub mod logic;
 pub mod operations;
 
 // Why a call of the library is refused: the numbers 1 to 23 of documents 01 and 02, in order.
-#[derive(Clone, Copy)]
+#[derive(Clone, Copy, Debug, PartialEq, Eq)]
 pub enum Refusal {
     // There is no such form, or the plan is shorter than its form's header.
     TooShort,
@@ -55,12 +55,4 @@ pub enum Refusal {
     NoRight,
     // The text is too short for the sentences.
     TextShort,
-}
-
-// What an operation with a number for its result returns: the number, of an accepted plan's reads or of the bytes written, or the first refusal that
-// applies.
-#[derive(Clone, Copy)]
-pub enum Outcome {
-    Number(usize),
-    Refused(Refusal),
 }

@@ -8,33 +8,27 @@ use native.Mathlib.Omega.{arith}
 use lib.Dec.{ltb}
 use lib.ListN.{length, take, drop}
 use borrow.Author.Tests.{ltb-false}
+use Rattle.std.specs.Prelude.{Result, Ok, Err}
+use Rattle.plan.specs.declared.Refusal.{Refusal}
 use Rattle.plan.specs.{Form.width_of, Check.Outcome, Check.refused, Check.result, Check.check_in}
 use Rattle.plan.proofs.Forms.{form_passed, form_known}
 use Rattle.answers.specs.{Answers.answer_size, Answers.answers_of, Workspace.workspace_size, Workspace.zeroed}
-use Rattle.results.specs.declared.judge.Judged.{Judged}
-use Rattle.results.specs.declared.judge.Judged.TheVariants as J
-use Rattle.results.specs.declared.rehearse.Rehearsed.{Rehearsed as Ended}
-use Rattle.results.specs.declared.rehearse.Rehearsed.TheVariants as E
 use Rattle.results.specs.Play.{Played, play_refused, play_after, play_in}
 use Rattle.results.specs.Judge.{judge_after, judge_of, judge_in}
 use Rattle.results.specs.Rehearse.{Verdict, yes, Rehearsed, verdict_on, rehearse_after, rehearse_from, rehearse_in}
-use Rattle.results.specs.Numbered.{judged, says_yes, NotNo}
+use Rattle.results.specs.Numbered.{judged}
 use Rattle.results.proofs.Promised.{reads_few}
 
--- a result of Judge that is yes is the case Yes
-pub is_yes : (j : Judged) → judged j ≡ result true → says_yes j ≡ true
-is_yes J.Yes e = refl
-is_yes J.No e = let z : false ≡ true = cc in z
-is_yes (J.Refused r) e = let z : ◌≡◌ {A = ℕ} 0 1 = cc in absurd (omega arith)
+-- a result of Judge that is yes
+pub is_yes : (j : Result Bool Refusal) → judged j ≡ result true → j ≡ Ok true
+is_yes (Ok b) e = let z : b ≡ true = cc in rw z
+is_yes (Err r) e = let z : ◌≡◌ {A = ℕ} 0 1 = cc in absurd (omega arith)
 
-unfoldable pub is_no : Ended → Bool
-is_no (E.Yes m) = false
-is_no E.No = true
-is_no (E.Refused r) = false
+pub no_refusal : {r : Refusal} → ◌≡◌ {A = Result Bool Refusal} (Err r) (Ok true) → ⊥
+no_refusal e = cc
 
-pub not_no : (r : Ended) → is_no r ≡ false → NotNo r
-unfolding is_no
-not_no r e = record { never = λ q. let z : true ≡ false = sym (ap is_no q) ∙ e in let y : ◌≡◌ {A = ℕ} 0 1 = cc in omega arith }
+pub same_verdict : {b : Bool} → ◌≡◌ {A = Result Bool Refusal} (Ok b) (Ok true) → b ≡ true
+same_verdict e = cc
 
 -- what Play has not refused: the plan is accepted, and the answers have their room
 room_after : (w : ℕ) (s answers workspace : List ℕ) (m : ℕ) (o : Outcome ℕ) → (play_after w s answers workspace o).outcome ≡ result m → (o ≡ result m) × (answer_size w * m ≤ length answers)

@@ -12,7 +12,7 @@ ghost use Rattle.sheet.specs.Sheet.{sheet_after, sheet_in};
 
 use fitting::times;
 use page::{COLUMNS, Row, put_line};
-use plan::{Outcome, Refusal, form};
+use plan::{Refusal, form};
 use regular::Times;
 
 // The lines that are no read's: heading, rule and closing line.
@@ -73,24 +73,27 @@ fn write(page: &mut [u8], plan: &[u8], width: u8, answers: &[u8], count: usize) 
 }
 
 // Answers to the reads of an accepted plan.
-fn sheet_at(plan: &[u8], width: u8, answers: &[u8], count: usize, page: &mut [u8]) -> Outcome
+fn sheet_at(
+    plan: &[u8],
+    width: u8,
+    answers: &[u8],
+    count: usize,
+    page: &mut [u8],
+) -> Result<usize, Refusal>
     requires { (width ≤ most_width) × Answered width plan.now answers.now count }
     ensures { record { outcome = numbered result; out = page.new } ≡ into_buffer (page_of width plan.now answers.now) page.old
         (sheet_after (page_of width plan.now answers.now) (length page.old) (returned count)) }
 {
     if page.len() < page::LINE_BYTES * (count + OTHER_LINES) {
-        return Outcome::Refused(Refusal::PageShort);
+        return Err(Refusal::PageShort);
     }
-    Outcome::Number(write(page, plan, width, answers, count))
+    Ok(write(page, plan, width, answers, count))
 }
 
 // Prints the answers to a plan: Check's refusals, 12, 13, 15, else the number of bytes written.
-pub fn sheet(form: usize, plan: &[u8], answers: &[u8], page: &mut [u8]) -> Outcome
+pub fn sheet(form: usize, plan: &[u8], answers: &[u8], page: &mut [u8]) -> Result<usize, Refusal>
     ensures { record { outcome = numbered result; out = page.new } ≡ sheet_in form plan.now answers.now page.old }
 {
-    let answered = fitting::answered(form, plan, answers);
-    match answered {
-        Outcome::Refused(why) => Outcome::Refused(why),
-        Outcome::Number(count) => sheet_at(plan, form::width(form), answers, count, page),
-    }
+    let count = fitting::answered(form, plan, answers)?;
+    sheet_at(plan, form::width(form), answers, count, page)
 }

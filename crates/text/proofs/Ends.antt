@@ -2,10 +2,9 @@
 -- It stands on what Play writes and on the most reads of an accepted plan.
 use mathlib.Core.Path.{◌≡◌, refl, sym, ap, ◌∙◌}
 use mathlib.Core.List.{List, ◌++◌}
-use Prim.Native.Nat.{ℕ, ◌*◌, ◌-◌, ◌≤◌, ◌<◌}
+use Prim.Native.Nat.{ℕ, ◌*◌, ◌≤◌}
 use native.Mathlib.Omega.{arith}
 use lib.ListN.{length, take}
-use borrow.Author.Tests.{lt-ltb, le-ltb}
 use Rattle.decimal.specs.Aligned.{line_feed}
 use Rattle.plan.specs.Limits.{most_reads}
 use Rattle.plan.specs.Packed.{plan_of}
@@ -16,17 +15,14 @@ use Rattle.answers.specs.Answers.{answer_size, answers_of}
 use Rattle.answers.specs.Workspace.{workspace_size}
 use Rattle.results.specs.Play.{Played, play_after, play_of, play_in}
 use Rattle.results.proofs.Played.{play_plays, play_writes}
-use Rattle.codes.specs.Codes.{refused_from, code_of}
-use Rattle.codes.proofs.Apart.{outcome_in, code_apart, reads_below}
 use Rattle.lines.specs.Text.{program_form, program_width, reads_word, refused_word, number_then, line_with, lines_for, text_after, text_of}
 
--- what the code of Play's outcome says of the plan, where Play left answers `a`
-pub record Decided (s : List ℕ) (code : ℕ) (a : List ℕ) : Type 0 where
-  pub accepted : code < refused_from → check_of program_width s ≡ result code
-  pub few : code < refused_from → code ≤ most_reads
-  pub answers : code < refused_from → take (answer_size program_width * code) a ≡ answers_of program_width s
-  pub refused_text : refused_from ≤ code → refused_word ++ number_then line_feed (code - refused_from) ≡ text_of program_width s
-  pub reads_text : code < refused_from → (reads_word ++ number_then line_feed code) ++ lines_for program_width (plan_of program_width s) (plan_of program_width s).reads ≡ text_of program_width s
+-- what so many reads from Play say of the plan, where Play left answers `a`
+pub record Decided (s : List ℕ) (m : ℕ) (a : List ℕ) : Type 0 where
+  pub accepted : check_of program_width s ≡ result m
+  pub few : m ≤ most_reads
+  pub answers : take (answer_size program_width * m) a ≡ answers_of program_width s
+  pub text : (reads_word ++ number_then line_feed m) ++ lines_for program_width (plan_of program_width s) (plan_of program_width s).reads ≡ text_of program_width s
 
 module _ (s answers workspace : List ℕ) (room : answer_size program_width * most_reads ≤ length answers) (work : workspace_size ≤ length workspace) where
   -- buffers for the most reads are never refused
@@ -38,7 +34,7 @@ module _ (s answers workspace : List ℕ) (room : answer_size program_width * mo
       go (refused n) e = rw e
       go (result m) e = let few = most_reads_lem program_width s m e in play_plays program_width s m e answers workspace (omega arith) work ∙ sym e
 
-  module _ (p : Played) (in-form : p ≡ play_in program_form s answers workspace) (code : ℕ) (coded : code ≡ code_of p.outcome) where
+  module _ (p : Played) (in-form : p ≡ play_in program_form s answers workspace) where
     is : p ≡ play_of program_width s answers workspace
     unfolding play_in play_of check_in
     is = in-form
@@ -46,21 +42,17 @@ module _ (s answers workspace : List ℕ) (room : answer_size program_width * mo
     checked : p.outcome ≡ check_of program_width s
     checked = ap (λ (x : Played). x.outcome) is ∙ outcome-is
 
-    told : outcome_in code ≡ check_of program_width s
-    told = rw coded (code_apart p.outcome (λ m e. reads_below program_width s m (sym checked ∙ e)) ∙ checked)
-
-    is-result : code < refused_from → check_of program_width s ≡ result code
-    is-result h = sym told ∙ rw (lt-ltb code refused_from h)
-
-    is-refused : refused_from ≤ code → check_of program_width s ≡ refused (code - refused_from)
-    is-refused h = sym told ∙ rw (le-ltb code refused_from h)
-
-    pub decided : Decided s code p.answers
+    pub decided : (m : ℕ) → p.outcome ≡ result m → Decided s m p.answers
     unfolding text_of text_after line_with
-    decided = record {
-      accepted = is-result;
-      few = λ h. most_reads_lem program_width s code (is-result h);
-      answers = λ h. rw is (play_writes program_width s (accepted program_width s code (is-result h)) answers workspace code (outcome-is ∙ is-result h));
-      refused_text = λ h. rw (is-refused h);
-      reads_text = λ h. rw (is-result h);
-    }
+    decided m e =
+        let c : check_of program_width s ≡ result m = sym checked ∙ e in
+        record {
+          accepted = c;
+          few = most_reads_lem program_width s m c;
+          answers = rw is (play_writes program_width s (accepted program_width s m c) answers workspace m (outcome-is ∙ c));
+          text = rw c;
+        }
+
+    pub refused_text : (n : ℕ) → p.outcome ≡ refused n → refused_word ++ number_then line_feed n ≡ text_of program_width s
+    unfolding text_of text_after line_with
+    refused_text n e = let c : check_of program_width s ≡ refused n = sym checked ∙ e in rw c

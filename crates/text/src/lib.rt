@@ -23,11 +23,12 @@ pub fn write(plan: &[u8], out: &mut [u8]) -> usize
 {
     let mut answers = [0u8; answers::MOST_SIZE * Shape::MOST_READS];
     let mut work = [0u8; Shape::WORKSPACE_BYTES];
-    let code = codes::of_outcome(play::play(lines::FORM, plan, &mut answers, &mut work));
-    if codes::REFUSED <= code {
-        return put_first(out, b"refused ", (code - codes::REFUSED) as u64);
+    match play::play(lines::FORM, plan, &mut answers, &mut work) {
+        Err(why) => put_first(out, b"refused ", codes::number(why) as u64),
+        Ok(reads) => {
+            let start = put_first(out, b"reads ", reads as u64);
+            let end = answers::size(form::width(lines::FORM)) * reads;
+            put_lines(out, start, plan, &answers[..end], reads)
+        }
     }
-    let start = put_first(out, b"reads ", code as u64);
-    let end = answers::size(form::width(lines::FORM)) * code;
-    put_lines(out, start, plan, &answers[..end], code)
 }

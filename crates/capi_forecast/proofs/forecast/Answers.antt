@@ -2,8 +2,8 @@
 use Rattle.capi_forecast.proofs.Over.{none_over}
 use Rattle.capi_forecast.proofs.forecast.Goals as goal
 
-pub returns-in-Refused : goal.returns-in-Refused
-returns-in-Refused c = rw (← c.forecast-foreseen.ensures, c.in-Refused.is, c.refusal.ensures, none_over _)
+pub returns-in-Err : goal.returns-in-Err
+returns-in-Err c = rw (← c.forecast.ensures, c.in-Err.is, c.refusal.ensures, none_over _)
 
-pub returns-in-Takes : goal.returns-in-Takes
-returns-in-Takes c = rw (← c.forecast-foreseen.ensures, c.in-Takes.is, c.put.ensures, c.figures_of-figures.ensures)
+pub returns-in-Ok : goal.returns-in-Ok
+returns-in-Ok c = rw (← c.forecast.ensures, c.in-Ok.is, c.put.ensures, c.figures_of.ensures)

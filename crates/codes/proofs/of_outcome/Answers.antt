@@ -1,5 +1,5 @@
 -- `of_outcome` meets its contract: a refusal has its code.
 use Rattle.codes.proofs.of_outcome.Goals as goal
 
-pub returns-in-Refused : goal.returns-in-Refused
-returns-in-Refused c = rw (c.refusal.ensures, c.in-Refused.is)
+pub returns-in-Err : goal.returns-in-Err
+returns-in-Err c = rw (c.refusal.ensures, c.in-Err.is)

@@ -1,7 +1,8 @@
 -- `play` meets its contracts: each way that it ends is its definition's, and point 3 comes with that.
 use mathlib.Core.Path.{◌≡◌, sym, ap, ◌∙◌}
 use native.Mathlib.Omega.{arith}
-use Rattle.plan.specs.{Form.width_of, Check.result, Check.check_of, Check.check_in, Numbered.numbered}
+use Rattle.std.proofs.lemmas.Result.{err_from_is_err_and}
+use Rattle.plan.specs.{Form.width_of, Check.result, Check.check_of, Check.check_in}
 use Rattle.plan.proofs.{Accept.playable, Accept.reads_counted, Forms.form_passed}
 use Rattle.answers.{specs.Answers.answer_size, proofs.Lengths.answers_few}
 use Rattle.results.proofs.Promised.{reads_few, promised}
@@ -13,14 +14,12 @@ use Rattle.play.proofs.play.Goals as goal
 sized : (c : After-size) → c.size.result ≡ answer_size (width_of c.args.form)
 sized c = c.size.ensures ∙ ap answer_size c.width-width.ensures.0
 
-accepted : (c : After-size) → check_in c.args.form c.args.plan.now ≡ result c.in-Number.reads
-accepted c = sym c.check-checked.ensures ∙ ap numbered c.in-Number.is
+accepted : (c : After-size) → check_in c.args.form c.args.plan.now ≡ result c.in_ok-reads.reads
+accepted c = sym c.in_ok-reads.ensures
 
 -- and at the width of the form
-checked-at : (c : After-size) → check_of c.width-width.result c.args.plan.now ≡ result c.in-Number.reads
-checked-at c =
-    let accepted : check_in c.args.form c.args.plan.now ≡ result c.in-Number.reads = sym c.check-checked.ensures ∙ ap numbered c.in-Number.is in
-    rw c.width-width.ensures.0 (form_passed _ _ _ (accepted)).1
+checked-at : (c : After-size) → check_of c.width-width.result c.args.plan.now ≡ result c.in_ok-reads.reads
+checked-at c = rw c.width-width.ensures.0 (form_passed _ _ _ (sym c.in_ok-reads.ensures)).1
 
 pub overflow_mul-size : goal.overflow_mul-size
 overflow_mul-size c = omega (arith, answers_few c.width-width.result _ _ c.width-width.ensures.1 c.size.ensures (reads_few _ _ _ (checked-at (goal.at.overflow_mul-size c).After-size)))
@@ -37,12 +36,13 @@ pub play-requires : goal.play-requires
 play-requires c = let e = checked-at (goal.at.play-requires c).After-size in
     (playable _ _ _ e, c.width-width.ensures.1, rw (← reads_counted _ _ _ e, ← c.size.ensures) c.if-answers-size.false, c.if-work-lt-WORKSPACE_BYTES.false)
 
-pub returns-in-Refused : goal.returns-in-Refused
-returns-in-Refused c = let e = play_checked _ _ _ _ _ (sym c.check-checked.ensures ∙ ap numbered c.in-Refused.is) in
-    record { work_after = e; promised = promised _ _ _ _ _ e }
+pub returns-in_err-reads : goal.returns-in_err-reads
+returns-in_err-reads c = let p = err_from_is_err_and c.from_residual.result c.from_residual.ensures.1 in
+    let e = play_checked _ _ _ _ _ (sym c.in_err-reads.ensures) in
+    rw (p.1, p.2) (record { work_after = e; promised = promised _ _ _ _ _ e })
 
-pub returns-else-work-lt-WORKSPACE_BYTES : goal.returns-else-work-lt-WORKSPACE_BYTES
-returns-else-work-lt-WORKSPACE_BYTES c = let d = c.play.ensures in
-    let a = rw (← reads_counted _ _ _ (checked-at (goal.at.returns-else-work-lt-WORKSPACE_BYTES c).After-size), ← c.size.ensures, c.width-width.ensures.0) at d.answers in
-    let e = play_done _ _ _ _ _ (accepted (goal.at.returns-else-work-lt-WORKSPACE_BYTES c).After-size) _ (sized (goal.at.returns-else-work-lt-WORKSPACE_BYTES c).After-size) c.if-answers-size.false c.if-work-lt-WORKSPACE_BYTES.false _ _ a d.workspace in
+pub returns : goal.returns
+returns c = let d = c.play.ensures in
+    let a = rw (← reads_counted _ _ _ (checked-at (goal.at.returns c).After-size), ← c.size.ensures, c.width-width.ensures.0) at d.answers in
+    let e = play_done _ _ _ _ _ (accepted (goal.at.returns c).After-size) _ (sized (goal.at.returns c).After-size) c.if-answers-size.false c.if-work-lt-WORKSPACE_BYTES.false _ _ a d.workspace in
     record { work_after = e; promised = promised _ _ _ _ _ e }

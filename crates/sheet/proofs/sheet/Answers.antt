@@ -1,6 +1,7 @@
 -- `sheet` meets its definition for all inputs: the refusals of answers that are not to their reads, or what is said of the page.
-use mathlib.Core.Path.{sym, ap, ◌∙◌}
-use Rattle.plan.specs.{Numbered.numbered, Buffer.into_buffer}
+use mathlib.Core.Path.{sym}
+use Rattle.std.proofs.lemmas.Result.{err_from_is_err_and}
+use Rattle.plan.specs.Buffer.{into_buffer}
 use Rattle.fitting.proofs.Passed.{form_answered}
 use Rattle.sheet.specs.Sheet.{sheet_after, sheet_in}
 use Rattle.sheet.proofs.sheet.Goals as goal
@@ -8,13 +9,12 @@ use Rattle.sheet.proofs.sheet.Goals as goal
 pub sheet_at-requires : goal.sheet_at-requires
 sheet_at-requires c = let w = c.width.ensures in
     let x = c.args in
-    let e = sym c.answered-answered.ensures ∙ ap numbered c.in-Number.is in
-    (w.1, rw w.0 (form_answered x.form x.plan.now x.answers.now _ e).1)
+    (w.1, rw w.0 (form_answered x.form x.plan.now x.answers.now _ (sym c.in_ok-count.ensures)).1)
 
-pub returns-in-Refused : goal.returns-in-Refused
+pub returns-in_err-count : goal.returns-in_err-count
 unfolding sheet_in sheet_after into_buffer
-returns-in-Refused c = rw (← c.answered-answered.ensures, c.in-Refused.is)
+returns-in_err-count c = let p = err_from_is_err_and c.from_residual.result c.from_residual.ensures.1 in rw (p.1, p.2, ← c.in_err-count.ensures)
 
-pub returns-in-Number : goal.returns-in-Number
+pub returns : goal.returns
 unfolding sheet_in
-returns-in-Number c = rw (← c.answered-answered.ensures, c.in-Number.is, ← c.width.ensures.0) c.sheet_at.ensures
+returns c = rw (← c.in_ok-count.ensures, ← c.width.ensures.0) c.sheet_at.ensures
