@@ -16,7 +16,7 @@ use plan::header::Shape;
 use script::Script;
 use serving::Server;
 use tallies::CELLS;
-use ticking::{Playing, next};
+use ticking::{Playing, tick};
 
 // The answers of all reads of a plan, if no one asks for them.
 const UNASKED: usize = answers::MOST_SIZE * Shape::MOST_READS;
@@ -51,8 +51,8 @@ pub fn run(
     ensures { Went plan.now work.old work.new sets.old sets.new answers.old answers.new script start result × (result.tick ≡ to) }
 {
     let mut p = start;
-    while p.tick < to {
-        p = next(p, plan, answers, work, sets, script);
+    for _ in start.tick..to {
+        tick(&mut p, plan, answers, work, sets, script);
     }
     p
 }

@@ -70,17 +70,17 @@ pub fn read_on(
     reading::go_on(r, answers, work, plan, sets, script, t)
 }
 
-// The next tick, stage by stage.
-pub fn one(
-    p: Playing,
+// 'One tick carries the whole hall from one state to the next': the next tick of a state that is lent, stage by stage.
+pub fn tick(
+    p: &mut Playing,
     plan: &[u8],
     answers: &mut [u8],
     work: &mut [u8],
     sets: &mut [u16],
     script: Script,
-) -> Playing
-    requires { Ready plan.now work.old script × PlayedTo plan.now work.old sets.old script p × (p.tick < script.shape.ticks) × (answer_size (width_in script) * script.reads.m ≤ length answers.old) }
-    ensures { Went plan.now work.old work.new sets.old sets.new answers.old answers.new script p result × (result.tick ≡ suc p.tick) }
+)
+    requires { Ready plan.now work.old script × PlayedTo plan.now work.old sets.old script p.old × (p.old.tick < script.shape.ticks) × (answer_size (width_in script) * script.reads.m ≤ length answers.old) }
+    ensures { Went plan.now work.old work.new sets.old sets.new answers.old answers.new script p.old p.new × (p.new.tick ≡ suc p.old.tick) }
 {
     let t = p.tick;
     let ends = p.cluster.ends;
@@ -105,42 +105,11 @@ pub fn one(
     // 5. Forgeries.
     let ends = done.ends;
     forging::forge(work, ends, script.rules.n, &script.starts, usize::from(t));
-    Playing {
+    *p = Playing {
         cluster: Cluster { servers, ends },
         written,
         begun: done.begun,
         answered: done.answered,
         tick: t + 1,
-    }
-}
-
-// 'One tick carries the whole hall from one state to the next': the next tick of a state that is lent.
-pub fn tick(
-    p: &mut Playing,
-    plan: &[u8],
-    answers: &mut [u8],
-    work: &mut [u8],
-    sets: &mut [u16],
-    script: Script,
-)
-    requires { Ready plan.now work.old script × PlayedTo plan.now work.old sets.old script p.old × (p.old.tick < script.shape.ticks) × (answer_size (width_in script) * script.reads.m ≤ length answers.old) }
-    ensures { Went plan.now work.old work.new sets.old sets.new answers.old answers.new script p.old p.new × (p.new.tick ≡ suc p.old.tick) }
-{
-    *p = one(*p, plan, answers, work, sets, script);
-}
-
-// The next tick of a state by value, by lending it: who calls this needs no proof by hand.
-pub fn next(
-    mut p: Playing,
-    plan: &[u8],
-    answers: &mut [u8],
-    work: &mut [u8],
-    sets: &mut [u16],
-    script: Script,
-) -> Playing
-    requires { Ready plan.now work.old script × PlayedTo plan.now work.old sets.old script p × (p.tick < script.shape.ticks) × (answer_size (width_in script) * script.reads.m ≤ length answers.old) }
-    ensures { Went plan.now work.old work.new sets.old sets.new answers.old answers.new script p result × (result.tick ≡ suc p.tick) }
-{
-    tick(&mut p, plan, answers, work, sets, script);
-    p
+    };
 }
