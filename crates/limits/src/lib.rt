@@ -1,6 +1,5 @@
 #![tactic(auto)]
 // The limits that the tables of a plan, the workspace and the library's operations share.
-ghost use Rattle.std.specs.Prelude.{◌≡◌, ◌<◌};
 
 // How many pairs may be known.
 pub const PLACES: usize = 65;
@@ -16,10 +15,3 @@ pub const SERVERS: usize = 16;
 
 // How many readers there may be.
 pub const READERS: usize = 4;
-
-// A byte as a count.
-pub fn size_of(x: u8) -> usize
-    ensures { (result ≡ x) × (result < 256) }
-{
-    x as usize
-}

@@ -3,7 +3,6 @@
 pub mod forgeries;
 pub mod form;
 pub mod header;
-pub mod logic;
 pub mod operations;
 
 // Why a call of the library is refused: the numbers 1 to 23 of documents 01 and 02, in order.
