@@ -11,13 +11,23 @@ use plan::forgeries::Forged;
 use plan::header::Shape;
 use plan::operations::Operation;
 
-// Are so many fields of the plan, the first at bit `at` and each `step` bits behind the one before, all below the limit.
-fn values_fit(plan: &[u8], at: usize, step: usize, count: usize, width: usize, limit: u64) -> bool
-    requires { (width ≤ most_width) × ((i : ℕ) → i < count → (at + step * i + width ≤ 8 * length plan.now) × (at + step * i < 2 ^ 60)) }
-    ensures { result ≡ all_up_to count (λ i. ltb (field_of plan.now (at + step * i) width) limit) }
+// So many fields of so many bits, the first at bit `at` and each `step` bits behind the one before.
+#[derive(Clone, Copy)]
+struct Fields {
+    at: usize,
+    step: usize,
+    count: usize,
+    width: usize,
+}
+
+// Are these fields of the plan all below the limit.
+fn values_fit(plan: &[u8], fields: Fields, limit: u64) -> bool
+    requires { (fields.width ≤ most_width) × ((i : ℕ) → i < fields.count
+        → (fields.at + fields.step * i + fields.width ≤ 8 * length plan.now) × (fields.at + fields.step * i < 2 ^ 60)) }
+    ensures { result ≡ all_up_to fields.count (λ i. ltb (field_of plan.now (fields.at + fields.step * i) fields.width) limit) }
 {
-    for i in 0..count {
-        let value = bits::field(plan, at + step * i, width);
+    for i in 0..fields.count {
+        let value = bits::field(plan, fields.at + fields.step * i, fields.width);
         if limit <= value {
             return false;
         }
@@ -25,23 +35,19 @@ fn values_fit(plan: &[u8], at: usize, step: usize, count: usize, width: usize, l
     true
 }
 
-// The same of fields of the forged part, each `behind` bits behind the start of its record. The plan is lent from the byte that holds the bit where the
-// operations end, `first`, with an offset under eight.
-fn forged_fit(
-    plan: &[u8],
-    first: usize,
-    behind: usize,
-    step: usize,
-    count: usize,
-    width: usize,
-    limit: u64,
-) -> bool
-    requires { (width ≤ most_width) × (first ≤ 8 * length plan.now) × (behind < 2 ^ 60)
-        × ((i : ℕ) → i < count → (first + behind + step * i + width ≤ 8 * length plan.now) × (first + behind + step * i < 2 ^ 60)) }
-    ensures { result ≡ all_up_to count (λ i. ltb (field_of plan.now (first + behind + step * i) width) limit) }
+// The same of fields of the forged part, whose places count from the part's first bit, `first`. The plan is lent from the byte that holds that bit, with an
+// offset under eight.
+fn forged_fit(plan: &[u8], first: usize, fields: Fields, limit: u64) -> bool
+    requires { (fields.width ≤ most_width) × (first ≤ 8 * length plan.now) × (fields.at < 2 ^ 60) × ((i : ℕ) → i < fields.count
+        → (first + fields.at + fields.step * i + fields.width ≤ 8 * length plan.now) × (first + fields.at + fields.step * i < 2 ^ 60)) }
+    ensures { result ≡ all_up_to fields.count (λ i. ltb (field_of plan.now (first + fields.at + fields.step * i) fields.width) limit) }
 {
     let byte = first / 8;
-    values_fit(&plan[byte..], first % 8 + behind, step, count, width, limit)
+    let part = Fields {
+        at: first % 8 + fields.at,
+        ..fields
+    };
+    values_fit(&plan[byte..], part, limit)
 }
 
 // Have all of them at most so many bits.
@@ -55,19 +61,19 @@ pub fn all_fit(plan: &[u8], h: Shape, width: u8) -> bool
     }
     let limit = 1u64 << width;
     let had = usize::from(h.width);
-    let operations = usize::from(h.operations);
-    let forgeries = usize::from(h.forgeries);
-    let written = h.operations_at() + Operation::VALUE_AT;
-    let forged = h.forgeries_at();
+    let written = Fields {
+        at: h.operations_at() + Operation::VALUE_AT,
+        step: h.operation_bits(),
+        count: usize::from(h.operations),
+        width: had,
+    };
+    let forged = Fields {
+        at: Forged::VALUE_AT,
+        step: h.forgery_bits(),
+        count: usize::from(h.forgeries),
+        width: had,
+    };
     u64::from(h.initial) < limit
-        && values_fit(plan, written, h.operation_bits(), operations, had, limit)
-        && forged_fit(
-            plan,
-            forged,
-            Forged::VALUE_AT,
-            h.forgery_bits(),
-            forgeries,
-            had,
-            limit,
-        )
+        && values_fit(plan, written, limit)
+        && forged_fit(plan, h.forgeries_at(), forged, limit)
 }

@@ -34,24 +34,24 @@ returns-then-h-width c = let a = c.args in sym (wider_fits a.h.width a.width a.p
 
 pub values_fit-requires : goal.values_fit-requires
 values_fit-requires c = let a = c.args in
-    rw (c.from-had.ensures, c.from-operations.ensures)
-    (c.requires.0.narrow, written_inside a.h.width a.plan.now (shape a.h) c.operations_at-written.ensures.0 c.operation_bits.ensures c.requires.0)
+    rw (c.from-had.ensures, c.from.ensures)
+    (c.requires.0.narrow, written_inside a.h.width a.plan.now (shape a.h) c.operations_at.ensures.0 c.operation_bits.ensures c.requires.0)
 
 pub forged_fit-requires : goal.forged_fit-requires
 forged_fit-requires c = let a = c.args in
-    rw (c.from-had.ensures, c.from-forgeries.ensures)
-    (c.requires.0.narrow, omega (arith, c.requires.0, c.forgeries_at-forged.ensures.0), search rules, forged_inside a.h.width a.plan.now (shape a.h) c.forgeries_at-forged.ensures.0 c.forgery_bits.ensures c.requires.0)
+    rw (c.from-had.ensures, c.from-2.ensures)
+    (c.requires.0.narrow, omega (arith, c.requires.0, c.forgeries_at.ensures.0), search rules, forged_inside a.h.width a.plan.now (shape a.h) c.forgeries_at.ensures.0 c.forgery_bits.ensures c.requires.0)
 
 pub returns-then-values_fit : goal.returns-then-values_fit
 returns-then-values_fit c = let a = c.args in
     let limit = one_shl a.width 64 (omega arith) in
     elim c.if-from-limit.branch [
       | then-from-limit b ↦
-          let first = lt-ltb a.h.initial (2 ^ a.width) (rw (c.from.ensures, limit) at b.if-from-limit.true) in
+          let first = lt-ltb a.h.initial (2 ^ a.width) (rw (c.from-3.ensures, limit) at b.if-from-limit.true) in
           let second : b.values_fit.result ≡ written a.h a.plan.now a.width =
-          rw (c.from-had.ensures, c.from-operations.ensures, limit, written_values a.h.width a.plan.now (shape a.h) c.operations_at-written.ensures.0 b.operation_bits.ensures (2 ^ a.width)) at b.values_fit.ensures in
+          rw (c.from-had.ensures, c.from.ensures, limit, written_values a.h.width a.plan.now (shape a.h) c.operations_at.ensures.0 c.operation_bits.ensures (2 ^ a.width)) at b.values_fit.ensures in
           let third : c.forged_fit.result ≡ forged a.h a.plan.now a.width =
-          rw (c.from-had.ensures, c.from-forgeries.ensures, limit, forged_values a.h.width a.plan.now (shape a.h) c.forgeries_at-forged.ensures.0 c.forgery_bits.ensures (2 ^ a.width)) at c.forged_fit.ensures in
+          rw (c.from-had.ensures, c.from-2.ensures, limit, forged_values a.h.width a.plan.now (shape a.h) c.forgeries_at.ensures.0 c.forgery_bits.ensures (2 ^ a.width)) at c.forged_fit.ensures in
           rw (parts a.h a.plan.now a.width c.requires.1, first, ← second, ← b.value-is, c.if-values_fit.true) third
       | else-from-limit b ↦ absurd (grind (arith, nat_tests))
     ]
@@ -61,11 +61,11 @@ returns-else-values_fit c = let a = c.args in
     let limit = one_shl a.width 64 (omega arith) in
     elim c.if-from-limit.branch [
       | then-from-limit b ↦
-          let first = lt-ltb a.h.initial (2 ^ a.width) (rw (c.from.ensures, limit) at b.if-from-limit.true) in
+          let first = lt-ltb a.h.initial (2 ^ a.width) (rw (c.from-3.ensures, limit) at b.if-from-limit.true) in
           let second : b.values_fit.result ≡ written a.h a.plan.now a.width =
-          rw (c.from-had.ensures, c.from-operations.ensures, limit, written_values a.h.width a.plan.now (shape a.h) c.operations_at-written.ensures.0 b.operation_bits.ensures (2 ^ a.width)) at b.values_fit.ensures in
+          rw (c.from-had.ensures, c.from.ensures, limit, written_values a.h.width a.plan.now (shape a.h) c.operations_at.ensures.0 c.operation_bits.ensures (2 ^ a.width)) at b.values_fit.ensures in
           rw (parts a.h a.plan.now a.width c.requires.1, first, ← second, ← b.value-is, c.if-values_fit.false)
       | else-from-limit b ↦
-          let first = le-ltb a.h.initial (2 ^ a.width) (rw (c.from.ensures, limit) at b.if-from-limit.false) in
+          let first = le-ltb a.h.initial (2 ^ a.width) (rw (c.from-3.ensures, limit) at b.if-from-limit.false) in
           rw (parts a.h a.plan.now a.width c.requires.1, first, c.if-values_fit.false)
     ]

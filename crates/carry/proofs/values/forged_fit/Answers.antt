@@ -13,4 +13,4 @@ values_fit-requires c = let a = c.args in
 
 pub returns : goal.returns
 returns c = let a = c.args in
-    rw (part_from (a.first / 8) a.plan.now, part_values a.plan.now a.first a.behind a.step a.count a.width a.limit) at c.values_fit.ensures
+    rw (part_from (a.first / 8) a.plan.now, part_values a.plan.now a.first a.fields.at a.fields.step a.fields.count a.fields.width a.limit) at c.values_fit.ensures

@@ -6,4 +6,4 @@ use Rattle.carry.proofs.Fields.{below}
 use Rattle.carry.proofs.values.values_fit.Given as goal
 
 abbrev pub invariant-loop-i : goal.invariant-loop-i
-invariant-loop-i l = all_up_to l.i (below l.plan l.at l.step l.width l.limit) ≡ true
+invariant-loop-i l = all_up_to l.i (below l.plan l.fields.at l.fields.step l.fields.width l.limit) ≡ true
