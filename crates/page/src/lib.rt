@@ -1,6 +1,6 @@
 #![tactic(auto)]
 // The lines of a sheet: a line buffer starts empty, then fields are stored over it, each at the right end of its cell.
-ghost use Rattle.std.specs.Prelude.{◌≡◌, [], ◌∷◌, ℕ, ◌-◌, ◌^◌, ◌≤◌, ◌<◌, length};
+ghost use Rattle.std.specs.Prelude.{◌≡◌, [], ◌∷◌, map, ℕ, ◌-◌, ◌^◌, ◌≤◌, ◌<◌, length};
 ghost use Rattle.decimal.specs.Stored.{Stored};
 ghost use Rattle.plan.specs.Form.{most_width};
 ghost use Rattle.page.specs.Page.{line_columns, ended, value_columns, cells, in_cells, heading, rule, mark_of, row_of};
@@ -27,6 +27,19 @@ const AFTER_NUMBER: usize = 54;
 
 const AFTER_COUNT: usize = 66;
 
+// How many cells a line has, and the column behind each in their order.
+const CELLS: usize = 7;
+
+const AFTER: [usize; CELLS] = [
+    AFTER_BEGIN,
+    AFTER_READER,
+    AFTER_END,
+    AFTER_VALUE,
+    AFTER_NUMBER,
+    AFTER_COUNT,
+    COLUMNS,
+];
+
 // How wide a value of form one is, and one of form two.
 const VALUE_COLUMNS: usize = 5;
 
@@ -52,37 +65,25 @@ fn put_word(line: &mut [u8], end: usize, word: &[u8])
     decimal::put_all(line, end - word.len(), word);
 }
 
-// A line of seven words.
-fn words(
-    begin: &[u8],
-    reader: &[u8],
-    end: &[u8],
-    value: &[u8],
-    number: &[u8],
-    count: &[u8],
-    mark: &[u8],
-) -> [u8; COLUMNS]
-    requires { fit_cells cells (begin.now ∷ reader.now ∷ end.now ∷ value.now ∷ number.now ∷ count.now ∷ mark.now ∷ []) }
-    ensures { result ≡ in_cells cells (begin.now ∷ reader.now ∷ end.now ∷ value.now ∷ number.now
-        ∷ count.now ∷ mark.now ∷ []) }
+// A line of words, each in its cell.
+fn words(words: &[&[u8]; CELLS]) -> [u8; COLUMNS]
+    requires { fit_cells cells (map (λ word. word.now) words.now) }
+    ensures { result ≡ in_cells cells (map (λ word. word.now) words.now) }
 {
     let mut line = [32u8; 80];
-    put_word(&mut line, AFTER_BEGIN, begin);
-    put_word(&mut line, AFTER_READER, reader);
-    put_word(&mut line, AFTER_END, end);
-    put_word(&mut line, AFTER_VALUE, value);
-    put_word(&mut line, AFTER_NUMBER, number);
-    put_word(&mut line, AFTER_COUNT, count);
-    put_word(&mut line, COLUMNS, mark);
+    for (cell, word) in words.iter().enumerate() {
+        put_word(&mut line, AFTER[cell], word);
+    }
     line
 }
 
+#[tactic(auto, unfolding(crate::specs::Page::heading))]
 pub fn heading() -> [u8; COLUMNS]
     ensures { result ≡ heading }
 {
-    words(
+    words(&[
         b"begin", b"screen", b"end", b"cue", b"number", b"count", b"writing",
-    )
+    ])
 }
 
 fn value_columns(width: u8) -> usize
@@ -101,7 +102,7 @@ pub fn rule(width: u8) -> [u8; COLUMNS]
 {
     let dashes = [b'-'; WIDE_COLUMNS];
     let value = value_columns(width);
-    words(b"---", b"-", b"---", &dashes[..value], b"---", b"--", b"-")
+    words(&[b"---", b"-", b"---", &dashes[..value], b"---", b"--", b"-"])
 }
 
 // The mark of a read with which a write is concurrent.

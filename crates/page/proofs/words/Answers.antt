@@ -1,22 +1,24 @@
 -- `words` meets its contract: each word ends where its cell ends.
-use mathlib.Core.Path.{refl}
+use mathlib.Core.Path.{◌∙◌}
+use mathlib.Core.List.{map}
 use native.Mathlib.Omega.{arith}
-use lib.Dec.{lit≤}
-use Rattle.page.proofs.Cells.{none_yet, one_more, all_filled}
+use lib.ListN.{get_or-map}
+use Rattle.std.proofs.lemmas.List.{length-map}
+use Rattle.page.proofs.Cells.{none_yet, has_room, next, each_filled}
 use Rattle.page.proofs.words.Goals as goal
 
-pub put_word-requires-6 : goal.put_word-requires-6
-put_word-requires-6 c = (omega (arith, c.requires.1.1.1.1.1.0), lit≤ tt)
+pub loop-cell-init : goal.loop-cell-init
+loop-cell-init c = none_yet
 
-pub put_word-requires-7 : goal.put_word-requires-7
-put_word-requires-7 c = (omega (arith, c.requires.1.1.1.1.1.1.0), lit≤ tt)
+pub put_word-requires : goal.put_word-requires
+put_word-requires c = let ws = c.args.words.now in
+    has_room (map (λ word. word.now) ws) (length-map ws (λ word. word.now) ∙ c.told-words) c.requires c.loop-cell.cell c.loop-cell-test.true (get_or-map (λ word. word.now) ws c.loop-cell.cell _)
+
+pub loop-cell-preserved : goal.loop-cell-preserved
+loop-cell-preserved c = let ws = c.args.words.now in
+    next (map (λ word. word.now) ws) (length-map ws (λ word. word.now) ∙ c.told-words) c.requires c.loop-cell.cell c.loop-cell-test.true (get_or-map (λ word. word.now) ws c.loop-cell.cell _)
+    c.loop-cell.invariant c.put_word.ensures
 
 pub returns : goal.returns
-returns c = let fit = c.requires in
-    let begin = one_more 7 73 none_yet fit.0 refl c.put_word.ensures in
-    let reader = one_more 12 61 begin fit.1.0 refl c.put_word-2.ensures in
-    let end = one_more 9 52 reader fit.1.1.0 refl c.put_word-3.ensures in
-    let value = one_more 14 38 end fit.1.1.1.0 refl c.put_word-4.ensures in
-    let number = one_more 12 26 value fit.1.1.1.1.0 refl c.put_word-5.ensures in
-    let count = one_more 12 14 number fit.1.1.1.1.1.0 refl c.put_word-6.ensures in
-    all_filled (one_more 14 0 count fit.1.1.1.1.1.1.0 refl c.put_word-7.ensures)
+returns c = let ws = c.args.words.now in
+    each_filled (map (λ word. word.now) ws) (length-map ws (λ word. word.now) ∙ c.told-words) c.loop-cell.cell c.loop-cell.invariant (omega arith)
