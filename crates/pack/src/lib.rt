@@ -1,54 +1,41 @@
 #![tactic(auto)]
 // Pack: a plan from lists of numbers, one for each field in packed order, into a lent buffer.
-ghost use Rattle.std.specs.Prelude.{◌≡◌, true, ◌&&◌, ◌++◌, ◌*◌, ◌≤◌, length, drop};
+ghost use Rattle.std.specs.Prelude.{◌≡◌, true, ◌&&◌, ◌*◌, ◌≤◌, length};
 ghost use Rattle.bits.specs.{Field.Bytes, Layout.fits, Writing.Wrote};
 ghost use Rattle.plan.specs.{Form.most_width, Widths.header_widths, Widths.placement_widths, Widths.operation_widths, Widths.forgery_widths, Widths.delay_widths, Header.header_of, Header.moves, Header.delay_count, Limits.implied_bytes, Check.placements_stand, Check.operations_stand, Check.forgeries_stand, Check.delays_stand, Buffer.into_buffer, Shape.shape, Shape.Ranged, Shape.Sized, Numbered.numbered};
 ghost use Rattle.lists.specs.{Lists.Full, Lists.placements_widths, Lists.operations_widths, Lists.forgeries_widths, Lists.delays_widths, Lists.plan_bits};
-ghost use Rattle.pack.specs.{Pack.lengths_implied, Pack.part_tests, Pack.pack_of, Pack.pack_in, Numbered.lists_from, Numbered.parts_from, Numbered.Listed};
+ghost use Rattle.pack.specs.{Pack.lengths_implied, Pack.part_tests, Pack.pack_of, Pack.pack_in, Numbered.lists_from, Numbered.parts_of, Numbered.with_header, Numbered.Listed};
 
 use plan::forgeries::Forged;
 use plan::header::Shape;
 use plan::operations::Operation;
 use plan::{Refusal, form};
 
-// Have the lists the lengths that the header implies.
-fn are_implied(
-    h: Shape,
-    placements: &[u32],
-    operations: &[u32],
-    forgeries: &[u32],
-    delays: &[u32],
-) -> bool
-    requires { Ranged (shape h) }
-    ensures { result ≡ lengths_implied h.width (shape h) (parts_from placements.now operations.now forgeries.now delays.now) }
-{
-    placements.len() == h.moves()
-        && operations.len() == Operation::FIELDS * usize::from(h.operations)
-        && forgeries.len() == Forged::FIELDS * usize::from(h.forgeries)
-        && delays.len() == h.delay_count()
+// The lists behind the header.
+#[derive(Clone, Copy)]
+struct Parts<'a> {
+    placements: &'a [u32],
+    operations: &'a [u32],
+    forgeries: &'a [u32],
+    delays: &'a [u32],
 }
 
-// The plan at the start of the buffer.
-fn copy(out: &mut [u8], plan: &[u8])
-    requires { length plan.now ≤ length out.old }
-    ensures { out.new ≡ plan.now ++ drop (length plan.now) out.old }
+// Have the lists the lengths that the header implies.
+#[tactic(auto, unfolding(crate::specs::Pack::lengths_implied))]
+fn are_implied(h: Shape, parts: &Parts) -> bool
+    requires { Ranged (shape h) }
+    ensures { result ≡ lengths_implied h.width (shape h) (parts_of parts.now) }
 {
-    out[..plan.len()].copy_from_slice(plan);
+    parts.placements.len() == h.moves()
+        && parts.operations.len() == Operation::FIELDS * usize::from(h.operations)
+        && parts.forgeries.len() == Forged::FIELDS * usize::from(h.forgeries)
+        && parts.delays.len() == h.delay_count()
 }
 
 // The bits of all lists, from the first bit on.
-fn write(
-    own: &mut [u8],
-    h: Shape,
-    header: &[u32],
-    placements: &[u32],
-    operations: &[u32],
-    forgeries: &[u32],
-    delays: &[u32],
-)
-    requires { (length own.old ≡ implied_bytes) × (h.width ≤ most_width) × Listed h.width (lists_from header.now placements.now operations.now forgeries.now delays.now) (shape h) }
-    ensures { Bytes own.new × Wrote own.old own.new 0 (plan_bits h.width
-        (lists_from header.now placements.now operations.now forgeries.now delays.now)) }
+fn write(own: &mut [u8], h: Shape, header: &[u32], parts: &Parts)
+    requires { (length own.old ≡ implied_bytes) × (h.width ≤ most_width) × Listed h.width (with_header header.now parts.now) (shape h) }
+    ensures { Bytes own.new × Wrote own.old own.new 0 (plan_bits h.width (with_header header.now parts.now)) }
 {
     let widths = Shape::header_widths(h.width);
     packing::put_fields(own, 0, &widths, header);
@@ -56,7 +43,7 @@ fn write(
         own,
         h.placement_at(0),
         &Shape::PLACEMENT_WIDTHS,
-        placements,
+        parts.placements,
         h.moves(),
     );
     let widths = Operation::widths(h.width);
@@ -64,18 +51,18 @@ fn write(
         own,
         h.operations_at(),
         &widths,
-        operations,
-        h.operations as usize,
+        parts.operations,
+        usize::from(h.operations),
     );
     let widths = Forged::widths(h.width);
     packing::put_all(
         own,
         h.forgeries_at(),
         &widths,
-        forgeries,
-        h.forgeries as usize,
+        parts.forgeries,
+        usize::from(h.forgeries),
     );
-    nibbles::put(own, h.delays_at(), delays);
+    nibbles::put(own, h.delays_at(), parts.delays);
 }
 
 // Do the placements fit, and stand in the plan that they are packed to.
@@ -113,36 +100,27 @@ fn delays_pass(plan: &[u8], h: Shape, delays: &[u32]) -> bool
 }
 
 // The tests of the parts, then that of the buffer; a plan that passes them all is copied out.
-fn finish(
-    plan: &[u8],
-    h: Shape,
-    placements: &[u32],
-    operations: &[u32],
-    forgeries: &[u32],
-    delays: &[u32],
-    out: &mut [u8],
-) -> Result<usize, Refusal>
-    requires { Sized h.width plan.now (shape h) × (shape h ≡ header_of h.width plan.now)
-        × Full h.width (shape h) (parts_from placements.now operations.now forgeries.now delays.now) }
-    ensures { record { outcome = numbered result; out = out.new } ≡ into_buffer plan.now out.old (part_tests h.width (shape h) plan.now
-        (parts_from placements.now operations.now forgeries.now delays.now) (length out.old)) }
+fn finish(plan: &[u8], h: Shape, parts: &Parts, out: &mut [u8]) -> Result<usize, Refusal>
+    requires { Sized h.width plan.now (shape h) × (shape h ≡ header_of h.width plan.now) × Full h.width (shape h) (parts_of parts.now) }
+    ensures { record { outcome = numbered result; out = out.new } ≡ into_buffer plan.now out.old
+        (part_tests h.width (shape h) plan.now (parts_of parts.now) (length out.old)) }
 {
-    if !placements_pass(plan, h, placements) {
+    if !placements_pass(plan, h, parts.placements) {
         return Err(Refusal::Placement);
     }
-    if !operations_pass(plan, h, operations) {
+    if !operations_pass(plan, h, parts.operations) {
         return Err(Refusal::Operation);
     }
-    if !forgeries_pass(plan, h, forgeries) {
+    if !forgeries_pass(plan, h, parts.forgeries) {
         return Err(Refusal::Forgery);
     }
-    if !delays_pass(plan, h, delays) {
+    if !delays_pass(plan, h, parts.delays) {
         return Err(Refusal::Delay);
     }
     if out.len() < plan.len() {
         return Err(Refusal::BufferShort);
     }
-    copy(out, plan);
+    out[..plan.len()].copy_from_slice(plan);
     Ok(plan.len())
 }
 
@@ -156,18 +134,9 @@ fn is_header(numbers: &[u32], width: u8) -> bool
 }
 
 // Packs the lists into the buffer, at values of so many bits. The plan is made and tested in bytes of its own, so that a refusal writes nothing.
-fn pack_at(
-    width: u8,
-    header: &[u32],
-    placements: &[u32],
-    operations: &[u32],
-    forgeries: &[u32],
-    delays: &[u32],
-    out: &mut [u8],
-) -> Result<usize, Refusal>
+fn pack_at(width: u8, header: &[u32], parts: &Parts, out: &mut [u8]) -> Result<usize, Refusal>
     requires { width ≤ most_width }
-    ensures { record { outcome = numbered result; out = out.new } ≡ pack_of width
-        (lists_from header.now placements.now operations.now forgeries.now delays.now) out.old }
+    ensures { record { outcome = numbered result; out = out.new } ≡ pack_of width (with_header header.now parts.now) out.old }
 {
     if !is_header(header, width) {
         return Err(Refusal::HeaderRange);
@@ -179,23 +148,13 @@ fn pack_at(
     if !h.has_enough_servers() {
         return Err(Refusal::TooFewServers);
     }
-    if !are_implied(h, placements, operations, forgeries, delays) {
+    if !are_implied(h, parts) {
         return Err(Refusal::Length);
     }
     let mut own = [0u8; Shape::IMPLIED_BYTES];
-    write(
-        &mut own, h, header, placements, operations, forgeries, delays,
-    );
+    write(&mut own, h, header, parts);
     let size = h.bytes();
-    finish(
-        &own[..size],
-        h,
-        placements,
-        operations,
-        forgeries,
-        delays,
-        out,
-    )
+    finish(&own[..size], h, parts, out)
 }
 
 // In the form that the caller names.
@@ -214,13 +173,11 @@ pub fn pack(
     if !form::is_known(form) {
         return Err(Refusal::TooShort);
     }
-    pack_at(
-        form::width(form),
-        header,
+    let parts = Parts {
         placements,
         operations,
         forgeries,
         delays,
-        out,
-    )
+    };
+    pack_at(form::width(form), header, &parts, out)
 }

@@ -10,20 +10,20 @@ use Rattle.bits.specs.{Layout.fits}
 use Rattle.plan.specs.{Form.most_width, Widths.header_widths, Limits.implied_bytes, Check.header_in_range, Check.enough_servers, Buffer.into_buffer, Shape.shape}
 use Rattle.plan.proofs.{Chain.found, Sizes.implied_few}
 use Rattle.lists.specs.{Lists.Lists, Lists.Full, Lists.listed, Lists.packed_plan}
-use Rattle.pack.specs.{Pack.lengths_implied, Pack.part_tests, Pack.pack_tests, Pack.pack_of, Numbered.lists_from, Numbered.parts_from, Numbered.Listed}
+use Rattle.pack.specs.{Pack.lengths_implied, Pack.part_tests, Pack.pack_tests, Pack.pack_of, Numbered.with_header, Numbered.parts_of, Numbered.Listed}
 use Rattle.pack.proofs.Ready as ready
 use Rattle.pack.proofs.pack_at.Goals.{After-bytes-size, Else-not-are_implied, Else-not-has_enough_servers, Else-not-is_header, Else-not-is_in_range}
 use Rattle.pack.proofs.pack_at.Goals as goal
 
 -- The lists, behind each test.
 abbrev lists1 : Else-not-is_header → Lists
-lists1 c = let a = c.args in lists_from a.header.now a.placements.now a.operations.now a.forgeries.now a.delays.now
+lists1 c = with_header c.args.header.now c.args.parts.now
 
 abbrev lists2 : Else-not-is_in_range → Lists
-lists2 c = let a = c.args in lists_from a.header.now a.placements.now a.operations.now a.forgeries.now a.delays.now
+lists2 c = with_header c.args.header.now c.args.parts.now
 
 abbrev lists4 : Else-not-are_implied → Lists
-lists4 c = let a = c.args in lists_from a.header.now a.placements.now a.operations.now a.forgeries.now a.delays.now
+lists4 c = with_header c.args.header.now c.args.parts.now
 
 -- What each test that passed says.
 fit1 : (c : Else-not-is_header) → fits (header_widths c.args.width) (lists1 c).header ≡ true
@@ -55,12 +55,11 @@ listed4 c = let q = (goal.at.Else-not-are_implied c).Else-not-is_in_range in
 narrow4 : (c : Else-not-are_implied) → c.of-h.result.width ≤ most_width
 narrow4 c = narrow2 (goal.at.Else-not-are_implied c).Else-not-is_in_range
 
-full4 : (c : Else-not-are_implied) → let l = lists4 c in Full c.of-h.result.width (shape c.of-h.result) (parts_from l.placements l.operations l.forgeries l.delays)
+full4 : (c : Else-not-are_implied) → Full c.of-h.result.width (shape c.of-h.result) (parts_of c.args.parts.now)
 full4 c = let f = (listed4 c).full in record { placements = f.placements; operations = f.operations; forgeries = f.forgeries; delays = f.delays }
 
 -- the first bytes of the array are the packed plan
-plan_is : (c : After-bytes-size) → let a = c.args in
-    take c.bytes-size.result c.write.new.own ≡ packed_plan c.of-h.result.width (lists_from a.header.now a.placements.now a.operations.now a.forgeries.now a.delays.now)
+plan_is : (c : After-bytes-size) → take c.bytes-size.result c.write.new.own ≡ packed_plan c.of-h.result.width (with_header c.args.header.now c.args.parts.now)
 plan_is c = let q = (goal.at.After-bytes-size c).Else-not-are_implied in
     let wrote = c.write.ensures in
     ready.plan_own c.of-h.result.width (narrow4 q) (lists4 q) (shape c.of-h.result) (listed4 q) c.write.new.own c.bytes-size.result c.bytes-size.ensures wrote.1 wrote.0

@@ -8,7 +8,7 @@ use Rattle.bits.proofs.Packing.{fits_length}
 use Rattle.records.specs.Records.{no_wider}
 use Rattle.plan.specs.Shape.{shape}
 use Rattle.plan.proofs.Sizes.{delays_few, width_times}
-use Rattle.pack.specs.Numbered.{lists_from}
+use Rattle.pack.specs.Numbered.{with_header}
 use Rattle.pack.proofs.Writes.{all_written}
 use Rattle.pack.proofs.write.Goals.{Start}
 use Rattle.pack.proofs.write.Goals as goal
@@ -35,7 +35,7 @@ put_all-requires-2 c = let p = c.requires in
     let at = c.operations_at.ensures.1 in
     let few = width_times c.args.h.width c.args.h.operations 255 p.1 p.2.ranged.operations_hi in
     let size = c.put_all.ensures.size ∙ c.put_fields.ensures.size in
-    rw c.widths-widths.ensures
+    rw (c.widths-widths.ensures, c.from.ensures)
     (rw (narrow (goal.at.put_all-requires-2 c).Start) tt, omega (arith, p.1), p.2.full.operations, omega (arith, p.0, size, p.2.ranged, few, at), omega (arith, p.2.ranged, few, at))
 
 pub forgeries_at-requires : goal.forgeries_at-requires
@@ -47,7 +47,7 @@ put_all-requires-3 c = let p = c.requires in
     let at = c.forgeries_at.ensures.1 in
     let few = width_times c.args.h.width c.args.h.forgeries 1024 p.1 p.2.ranged.forgeries_hi in
     let size = c.put_all-2.ensures.size ∙ c.put_all.ensures.size ∙ c.put_fields.ensures.size in
-    rw c.widths-widths-2.ensures
+    rw (c.widths-widths-2.ensures, c.from-2.ensures)
     (rw (narrow (goal.at.put_all-requires-3 c).Start) tt, omega (arith, p.1), p.2.full.forgeries, omega (arith, p.0, size, p.2.ranged, few, at), omega (arith, p.2.ranged, few, at))
 
 pub delays_at-requires : goal.delays_at-requires
@@ -65,7 +65,7 @@ shape_of-own c = c.put.ensures.size ∙ c.put_all-3.ensures.size ∙ c.put_all-2
 
 pub returns : goal.returns
 returns c = let a = c.args in
-    let l = lists_from a.header.now a.placements.now a.operations.now a.forgeries.now a.delays.now in (
+    let l = with_header a.header.now a.parts.now in (
       λ i. omega (arith, c.type_inv.own i),
       all_written a.h.width l (shape a.h) c.requires.2 _ _ _ _ _ _ _ _ _ _ _ _ _ _
           c.moves.ensures.0
@@ -78,7 +78,7 @@ returns c = let a = c.args in
           c.widths-widths-2.ensures
           c.put_fields.ensures
           c.put_all.ensures
-          c.put_all-2.ensures
-          c.put_all-3.ensures
+          (rw c.from.ensures at c.put_all-2.ensures)
+          (rw c.from-2.ensures at c.put_all-3.ensures)
           c.put.ensures,
     )
