@@ -1,29 +1,29 @@
 #![tactic(auto)]
 // What Look returns, as a number and the bytes of its pairs.
 ghost use Rattle.std.specs.Prelude.{◌≡◌};
-ghost use Rattle.results.specs.Numbered.{looked};
+ghost use Rattle.results.specs.Numbered.{looked, places_in};
 ghost use Rattle.codes.specs.Codes.{shown_code, ThreeBytes, shown_pairs, pairs_over, look_coded};
 
+use codes::of_condition;
 use codes::pairs::put_pairs;
-use codes::{REFUSED, of_seen};
+use plan::Refusal;
 use results::look::Looked;
 
 // What each pair that Look shows adds to the condition.
 pub const PER_PAIR: usize = 4;
 
 // What Look returned: the condition and PER_PAIR for each pair. As many whole pairs as fit stand at the start of `pairs`; a refusal writes none.
-fn of_look(l: Looked, pairs: &mut [u8]) -> usize
-    requires { ThreeBytes l.places }
+fn of_look(l: Result<Looked, Refusal>, pairs: &mut [u8]) -> usize
+    requires { ThreeBytes (places_in l) }
     ensures { (result ≡ shown_code (looked l)) × (pairs.new ≡ pairs_over (shown_pairs (looked l)) pairs.old) }
 {
-    let seen = l.seen;
-    let code = of_seen(seen);
-    if REFUSED <= code {
-        return code;
+    match l {
+        Err(why) => codes::refusal(why),
+        Ok(server) => {
+            let shown = put_pairs(pairs, server.places);
+            of_condition(server.condition) + PER_PAIR * shown
+        }
     }
-    let places = l.places;
-    let shown = put_pairs(pairs, places);
-    code + PER_PAIR * shown
 }
 
 // Look at a server after a tick, as a number and the bytes of its pairs.

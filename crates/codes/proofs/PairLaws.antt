@@ -10,7 +10,8 @@ use lib.Dec.{ltb}
 use lib.ListN.{length, drop, get_or, set, length-append, length-drop}
 use lib.Seq.{sets as stored_at, sets-eq, take-nil, take_all, length-take-le, take-append-le, take_at, drop-append-add, drop-drop}
 use borrow.Author.Tests.{ltb-true, ltb-false}
-use Rattle.results.specs.declared.look.Place.{Place}
+use Rattle.std.specs.Prelude.{Option, Some}
+use Rattle.results.specs.declared.look.Pair.{Pair}
 use Rattle.results.specs.Look.{Stamped}
 use Rattle.results.specs.Numbered.{shown_in}
 use Rattle.results.proofs.ShownPlaces.{pair_of, Passed, passed, passed_more}
@@ -82,10 +83,10 @@ module _ (ps : List Stamped) (p : Stamped) (l : List ℕ) where
       go false e = put_in (ltb-false (length l) (at + pair_size) e)
 
 -- the same of a walk along a store's places
-pub put_more : (ps : List Place) (k : ℕ) → Passed ps k → (d : Place) → k < length ps → (get_or ps k d).kept ≡ true → (l before after : List ℕ)
+pub put_more : (ps : List (Option Pair)) (k : ℕ) → Passed ps k → (p : Pair) (d : Option Pair) → k < length ps → get_or ps k d ≡ Some p → (l before after : List ℕ)
     → length before ≡ length l → before ≡ pairs_over (passed ps k) l
-    → after ≡ cond (ltb (length before) (pair_size * k + pair_size)) before (stored_at before (pair_size * k) (pair_bytes (pair_of (get_or ps k d) ∷ [])))
+    → after ≡ cond (ltb (length before) (pair_size * k + pair_size)) before (stored_at before (pair_size * k) (pair_bytes (pair_of p ∷ [])))
     → after ≡ pairs_over (passed ps (k + 1)) l
-put_more ps k h d r e l before after n b a =
+put_more ps k h p d r e l before after n b a =
     let at : length (passed ps k) ≡ k = length-take-le k (shown_in ps) h.within in
-    rw (a, n, b, passed_more ps k h d r e) (rw at at (over_more (passed ps k) (pair_of (get_or ps k d)) l))
+    rw (a, n, b, passed_more ps k h p d r e) (rw at at (over_more (passed ps k) (pair_of p) l))

@@ -3,7 +3,6 @@ use mathlib.Core.Bool.{Bool, true, false, ◌&&◌, cond}
 use mathlib.Core.List.{List, [], ◌∷◌, ◌++◌, map}
 use Prim.Native.Nat.{ℕ, zero, suc, ◌-◌, ◌≤◌}
 use native.Mathlib.Nat.{lt_of_lt_of_le}
-use native.Mathlib.Omega.{arith}
 use lib.Dec.{ltb}
 use lib.Pow.{pow_mono}
 use lib.ListN.{length, replicate}
@@ -21,8 +20,8 @@ use Rattle.results.specs.Look.{shown_by, place_with, empty_place, places_of, Loo
 use Rattle.codes.specs.Codes.{ThreeBytes}
 
 empty_three : (k : ℕ) → ThreeBytes (replicate k empty_place)
-empty_three zero q = omega arith
-empty_three (suc k) zero = omega arith
+empty_three zero q = tt
+empty_three (suc k) zero = tt
 empty_three (suc k) (suc q) = empty_three k q
 
 module _ (w : ℕ) (narrow : w ≤ most_width) where

@@ -1,10 +1,10 @@
 -- What the operations return, as one number each: a result below refused_from, or refused_from and the refusal's number. Built on the operations' own
 -- definitions.
-use Rattle.std.specs.Prelude.{Bool, true, false, List, [], ◌∷◌, ◌++◌, ℕ, ◌+◌, ◌*◌, ◌/◌, ◌%◌, ◌^◌, ◌<◌, length, take, drop, get_or}
-use Rattle.results.specs.declared.look.Place.{Place}
+use Rattle.std.specs.Prelude.{Bool, true, false, List, [], ◌∷◌, ◌++◌, ℕ, ◌+◌, ◌*◌, ◌/◌, ◌%◌, ◌^◌, ◌<◌, length, take, drop, get_or, Option, None, IfSome}
+use Rattle.results.specs.declared.look.Pair.{Pair}
 use Rattle.plan.specs.Form.{most_width}
 use Rattle.plan.specs.Check.{Outcome, refused, result}
-use Rattle.results.specs.Look.{Condition, is_faulty, is_cured, is_correct, Stamped, Shown, empty_place, Looked, look_in}
+use Rattle.results.specs.Look.{Condition, is_faulty, is_cured, is_correct, Stamped, Shown, Looked, look_in}
 
 -- what a refusal's number is added to, above every result
 abbrev pub refused_from : ℕ
@@ -53,8 +53,8 @@ abbrev pub pair_size : ℕ
 pair_size = 4
 
 -- the values in the places of an array have three bytes
-abbrev pub ThreeBytes : List Place → Type 0
-ThreeBytes places = (q : ℕ) → (get_or places q empty_place).value < 2 ^ most_width
+abbrev pub ThreeBytes : List (Option Pair) → Type 0
+ThreeBytes places = (q : ℕ) → IfSome (get_or places q None) (λ p. p.value < 2 ^ most_width)
 
 unfoldable pub pair_bytes : List Stamped → List ℕ
 pair_bytes [] = []

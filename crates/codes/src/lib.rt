@@ -1,12 +1,12 @@
 #![tactic(auto)]
 // What the operations return, as one number each: a result below REFUSED, or REFUSED and the refusal's number.
-ghost use Rattle.std.specs.Prelude.{◌≡◌, [], ◌≤◌};
+ghost use Rattle.std.specs.Prelude.{◌≡◌, ◌≤◌};
 ghost use Rattle.plan.specs.Numbered.{refusal_number, numbered};
-ghost use Rattle.results.specs.Numbered.{judged, looked_as};
-ghost use Rattle.codes.specs.Codes.{refusal_code, code_of, verdict_code, shown_code};
+ghost use Rattle.results.specs.Numbered.{judged, condition_in};
+ghost use Rattle.codes.specs.Codes.{refusal_code, code_of, verdict_code, condition_code};
 
 use plan::Refusal;
-use results::look::Seen;
+use results::look::Condition;
 
 pub mod pairs;
 
@@ -71,14 +71,13 @@ pub fn of_judge(j: Result<bool, Refusal>) -> usize
     }
 }
 
-// What Look saw, its pairs left out: 0 faulty, 1 cured, 2 correct.
-pub fn of_seen(seen: Seen) -> usize
-    ensures { result ≡ shown_code (looked_as [] seen) }
+// What Look shows of a server, its pairs left out: 0 faulty, 1 cured, 2 correct.
+pub fn of_condition(condition: Condition) -> usize
+    ensures { (result ≡ condition_code (condition_in condition)) × (result ≤ 2) }
 {
-    match seen {
-        Seen::Faulty => 0,
-        Seen::Cured => 1,
-        Seen::Correct => 2,
-        Seen::Refused(why) => refusal(why),
+    match condition {
+        Condition::Faulty => 0,
+        Condition::Cured => 1,
+        Condition::Correct => 2,
     }
 }

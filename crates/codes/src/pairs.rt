@@ -7,7 +7,7 @@ ghost use Rattle.results.specs.Numbered.{shown_in};
 ghost use Rattle.codes.specs.Codes.{pair_size, ThreeBytes, pair_bytes, pairs_over};
 
 use limits::DEPTH;
-use results::look::Place;
+use results::look::Pair;
 
 // The bytes of a pair that Look shows.
 pub const PAIR_BYTES: usize = 4;
@@ -26,7 +26,7 @@ fn low(value: u32) -> u8
 }
 
 // Pair i at its own bytes, if there is room for all of them: three of the value, the highest first, and the number.
-fn put_pair(out: &mut [u8], i: usize, p: Place)
+fn put_pair(out: &mut [u8], i: usize, p: Pair)
     requires { (i < store_depth) × (p.value < 2 ^ most_width) }
     ensures { (length out.new ≡ length out.old) × (out.new ≡ cond (ltb (length out.old) (pair_size * i + pair_size))
         out.old (stored_at out.old (pair_size * i) (pair_bytes (record { value = p.value; number = p.number } ∷ [])))) }
@@ -42,18 +42,15 @@ fn put_pair(out: &mut [u8], i: usize, p: Place)
 }
 
 // As many of the pairs before the first empty place as fit `out`, at its start; how many they are, those left out too.
-pub fn put_pairs(out: &mut [u8], places: [Place; DEPTH]) -> usize
+pub fn put_pairs(out: &mut [u8], places: [Option<Pair>; DEPTH]) -> usize
     requires { ThreeBytes places }
     ensures { (result ≤ store_depth) × (result ≡ length (shown_in places)) × (out.new ≡ pairs_over (shown_in places) out.old) }
 {
-    let mut i: usize = 0;
-    while i < DEPTH {
-        let p = places[i];
-        if !p.kept {
-            return i;
+    for i in 0..DEPTH {
+        match places[i] {
+            Some(p) => put_pair(out, i, p),
+            None => return i,
         }
-        put_pair(out, i, p);
-        i += 1;
     }
-    i
+    DEPTH
 }

@@ -23,6 +23,7 @@ pub fn take<R: Read>(input: &mut R, bytes: &mut [u8]) -> io::Result<usize>
     ensures { Within result bytes.new }
 {
     let mut done: usize = 0;
+    // Each read says how far it came, so this counts no range.
     while done < bytes.len() {
         let got = input.read(&mut bytes[done..]);
         let Some(all) = after(got, done, bytes.len())? else {

@@ -16,12 +16,13 @@ use Rattle.plan.specs as plan-specs
 use Rattle.register.proofs.Stamped.{value_stamped, number_stamped}
 use Rattle.calendar.specs.declared.Stamped.{Stamped as Kept}
 use Rattle.limits.specs.Limits.{no_pair}
+use Rattle.std.specs.Prelude.{Option}
 use Rattle.results.specs as results-specs
 use Rattle.stores.specs.Stores.{pairs_in}
 use Rattle.answers.specs.Workspace.{workspace_size, zeroed}
 use Rattle.results.specs.Look.{Stamped, condition_of, shown_by, place_with, empty_place, places_of, Looked, look_shown, look_refused, look_after, look_in}
 use Rattle.look.specs.Shown.{stored_in, seen_of}
-use Rattle.results.specs.Numbered.{shown_in, looked_as}
+use Rattle.results.specs.Numbered.{shown_in, condition_in}
 
 -- In a form, whose values have w bits.
 module _ (form : ℕ) (s workspace : List ℕ) (b t : ℕ) where
@@ -76,11 +77,11 @@ module _ (w : ℕ) where
           let l : p.value < 2 ^ w = narrow p (inl refl) (eqb-false p.number no_pair n) in
           rw (value_stamped w p.value p.number l, number_stamped w p.value p.number l, e)
 
-shown_as : (x : Status) (pairs : List Stamped) → looked_as pairs (seen_of x) ≡ plan-specs.Check.result (record { condition = condition_of x; pairs = pairs })
+shown_as : (x : Status) → condition_in (seen_of x) ≡ condition_of x
 unfolding condition_of
-shown_as faulty pairs = refl
-shown_as (cured since) pairs = refl
-shown_as correct pairs = refl
+shown_as faulty = refl
+shown_as (cured since) = refl
+shown_as correct = refl
 
 -- the array's pairs are those that it was made of
 shown_places : (pairs : List Stamped) → shown_in (places_of pairs) ≡ pairs
@@ -93,8 +94,8 @@ shown_places pairs = go pairs (plan-specs.Packed.store_depth - length pairs)
     go (p ∷ pairs) m = rw (go pairs m)
 
 module _ (w : ℕ) (x : Server) (status : Status) (kept : List Kept) (es : x.status ≡ status) (ek : x.kept ≡ pairs_in w kept) (narrow : NarrowIn w kept) where
-  pub shown : (seen : results-specs.declared.look.Seen.Seen) (places : List results-specs.declared.look.Place.Place) (a v : List ℕ) → seen ≡ seen_of status → places ≡ places_of (stored_in kept) → a ≡ v
-      → record { outcome = looked_as (shown_in places) seen; places = places; workspace = a } ≡ look_shown (shown_by w x) v
+  pub shown : (seen : results-specs.declared.look.Condition.Condition) (places : List (Option results-specs.declared.look.Pair.Pair)) (a v : List ℕ) → seen ≡ seen_of status → places ≡ places_of (stored_in kept) → a ≡ v
+      → record { outcome = plan-specs.Check.result (record { condition = condition_in seen; pairs = shown_in places }); places = places; workspace = a } ≡ look_shown (shown_by w x) v
   unfolding shown_by shows
   shown seen places a v e p z =
-      rw (p, e, z, shown_places (stored_in kept), shown_as status (stored_in kept), es, ek, shown-stored w kept narrow)
+      rw (p, e, z, shown_places (stored_in kept), shown_as status, es, ek, shown-stored w kept narrow)

@@ -1,7 +1,7 @@
 -- A store is walked from its first place as the array of places is.
 -- It stands on the walk along an array.
 use mathlib.Core.Path.{◌≡◌, refl, ◌∙◌}
-use mathlib.Core.Bool.{Bool, true, false, not, cond}
+use mathlib.Core.Bool.{Bool, true, false, cond}
 use mathlib.Core.List.{List, [], ◌∷◌, map}
 use Prim.Native.Nat.{ℕ, ◌+◌, ◌≤◌, ◌<◌}
 use native.Mathlib.Omega.{arith}
@@ -12,25 +12,30 @@ use Rattle.plan.specs.Packed.{store_depth}
 use Rattle.limits.specs.Limits.{no_pair}
 use Rattle.calendar.specs.declared.Stamped.{Stamped as Kept}
 use Rattle.calendar.specs.Posts.{vacant}
-use Rattle.results.specs.declared.look.Place.{Place}
+use Rattle.std.specs.Prelude.{Option, None, Some}
+use Rattle.results.specs.declared.look.Pair.{Pair}
 use Rattle.results.specs.Look.{place_with, places_of}
 use Rattle.results.specs.Numbered.{shown_in}
 use Rattle.look.specs.Shown.{stored_in}
 use Rattle.results.proofs.ShownPlaces.{pair_of, Passed, passed, at_end, at_empty, one_more, placed_more}
 
 -- a place of a store as a place of the array
-abbrev pub place_in : Kept → Place
-place_in p = record { kept = not (eqb p.number no_pair); number = p.number; value = p.value }
+abbrev pub pair_at : Kept → Pair
+pair_at p = record { number = p.number; value = p.value }
+
+abbrev pub place_in : Kept → Option Pair
+place_in p = cond (eqb p.number no_pair) None (Some (pair_at p))
 
 -- a store shows the pairs that it has
 stored_shown : (kept : List Kept) → shown_in (map place_in kept) ≡ stored_in kept
 unfolding stored_in shown_in
 stored_shown [] = refl
-stored_shown (p ∷ ps) = rw (stored_shown ps) (go (eqb p.number no_pair))
+stored_shown (p ∷ ps) = go (eqb p.number no_pair) (stored_shown ps)
   where
-    go : (b : Bool) → cond (not b) (pair_of (place_in p) ∷ stored_in ps) [] ≡ cond b [] (pair_of (place_in p) ∷ stored_in ps)
-    go true = refl
-    go false = refl
+    go : (b : Bool) → shown_in (map place_in ps) ≡ stored_in ps
+        → shown_in (cond b None (Some (pair_at p)) ∷ map place_in ps) ≡ cond b [] (pair_of (pair_at p) ∷ stored_in ps)
+    go true e = refl
+    go false e = rw e
 
 -- the same walk along a store
 module _ (kept : List Kept) (k : ℕ) (h : Passed (map place_in kept) k) where
@@ -48,11 +53,11 @@ module _ (kept : List Kept) (k : ℕ) (h : Passed (map place_in kept) k) where
     store_empty e = (at_empty (map place_in kept) k h (place_in vacant) within (rw (here, eq-eqb (get_or kept k vacant).number no_pair e))).1 ∙ stored_shown kept
 
     module _ (e : (get_or kept k vacant).number ≡ no_pair → ⊥) where
-      has : (get_or (map place_in kept) k (place_in vacant)).kept ≡ true
+      has : get_or (map place_in kept) k (place_in vacant) ≡ Some (pair_at (get_or kept k vacant))
       has = rw (here, ne_eqb (get_or kept k vacant).number no_pair e)
 
       pub store_more : Passed (map place_in kept) (k + 1)
-      store_more = one_more (map place_in kept) k h (place_in vacant) within has
+      store_more = one_more (map place_in kept) k h (pair_at (get_or kept k vacant)) (place_in vacant) within has
 
-      pub store_placed : k < store_depth → set (places_of (passed (map place_in kept) k)) k (place_with (pair_of (place_in (get_or kept k vacant)))) ≡ places_of (passed (map place_in kept) (k + 1))
-      store_placed r = rw here at (placed_more (map place_in kept) k h (place_in vacant) within has r)
+      pub store_placed : k < store_depth → set (places_of (passed (map place_in kept) k)) k (place_with (pair_of (pair_at (get_or kept k vacant)))) ≡ places_of (passed (map place_in kept) (k + 1))
+      store_placed r = placed_more (map place_in kept) k h (pair_at (get_or kept k vacant)) (place_in vacant) within has r

@@ -3,8 +3,8 @@ use Rattle.std.specs.Prelude.{cond, List, [], ◌∷◌, eqb}
 use Rattle.register.specs.Server.{Status, faulty, cured, correct}
 use Rattle.limits.specs.Limits.{no_pair}
 use Rattle.calendar.specs.declared.Stamped.{Stamped as Kept}
-use Rattle.results.specs.declared.look.Seen.{Seen}
-use Rattle.results.specs.declared.look.Seen.TheVariants as S
+use Rattle.results.specs.declared.look.Condition.{Condition}
+use Rattle.results.specs.declared.look.Condition.TheVariants as C
 use Rattle.results.specs.Look.{Stamped}
 
 -- the pairs of a store, before its first empty place
@@ -13,7 +13,7 @@ stored_in [] = []
 stored_in (p ∷ ps) = cond (eqb p.number no_pair) [] (record { value = p.value; number = p.number } ∷ stored_in ps)
 
 -- a server's status as Look gives it
-abbrev pub seen_of : Status → Seen
-seen_of faulty = S.Faulty
-seen_of (cured since) = S.Cured
-seen_of correct = S.Correct
+abbrev pub seen_of : Status → Condition
+seen_of faulty = C.Faulty
+seen_of (cured since) = C.Cured
+seen_of correct = C.Correct

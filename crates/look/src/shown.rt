@@ -6,36 +6,33 @@ ghost use Rattle.look.specs.Shown.{seen_of, stored_in};
 
 use calendar::Stamped;
 use limits::{DEPTH, NO_PAIR};
-use results::look::{Place, Seen, empty_places};
+use results::look::{Condition, Pair};
 use serving::Status;
 
-pub fn condition(status: Status) -> Seen
+pub fn condition(status: Status) -> Condition
     ensures { result ≡ seen_of (status_of status) }
 {
     match status {
-        Status::Faulty => Seen::Faulty,
-        Status::Cured(_) => Seen::Cured,
-        Status::Correct => Seen::Correct,
+        Status::Faulty => Condition::Faulty,
+        Status::Cured(_) => Condition::Cured,
+        Status::Correct => Condition::Correct,
     }
 }
 
 // The pairs of a store, which stand before its first empty place, and nothing behind them.
-pub fn shown_places(kept: [Stamped; DEPTH]) -> [Place; DEPTH]
+pub fn shown_places(kept: [Stamped; DEPTH]) -> [Option<Pair>; DEPTH]
     ensures { result ≡ places_of (stored_in kept) }
 {
-    let mut shown = empty_places();
-    let mut i: usize = 0;
-    while i < DEPTH {
+    let mut shown = [None; DEPTH];
+    for i in 0..DEPTH {
         let p = kept[i];
         if p.number == NO_PAIR {
             return shown;
         }
-        shown[i] = Place {
-            kept: true,
+        shown[i] = Some(Pair {
             number: p.number,
             value: p.value,
-        };
-        i += 1;
+        });
     }
     shown
 }

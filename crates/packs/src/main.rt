@@ -33,6 +33,7 @@ fn run<W: Write>(to: &mut W, case: &[u32]) -> io::Result<()>
 
 fn every<W: Write>(to: &mut W, numbers: &[u32]) -> io::Result<()> {
     let mut at: usize = 0;
+    // Each case says where the next one begins, so this counts no range.
     while at + cases::HEAD <= numbers.len() {
         let case = &numbers[at..];
         run(to, case)?;

@@ -43,7 +43,7 @@ pub fn run(
     plan: &[u8],
     answers: &mut [u8],
     work: &mut [u8],
-    sets: &mut [u16],
+    sets: &mut [u16; CELLS],
     script: Script,
     to: u8,
 ) -> Playing

@@ -1,5 +1,5 @@
 -- Look (document 01, 'Operations of the library'): its result, the array of places beside it and the lent workspace, for all inputs.
-use Rattle.std.specs.Prelude.{true, false, ◌&&◌, cond, List, [], ◌++◌, map, ℕ, suc, ◌-◌, ltb, length, replicate}
+use Rattle.std.specs.Prelude.{◌&&◌, cond, List, [], ◌++◌, map, ℕ, suc, ◌-◌, ltb, length, replicate, Option, None, Some}
 use Rattle.register.specs.Plan.{value_of, number_of}
 use Rattle.register.specs.Server.{Server, Status, faulty, cured, correct}
 use Rattle.register.specs.Cluster.{cluster, server_of}
@@ -7,7 +7,7 @@ use Rattle.plan.specs.Header.{Header, header_of}
 use Rattle.plan.specs.Packed.{store_depth, plan_of}
 use Rattle.plan.specs.Form.{width_of}
 use Rattle.plan.specs.Check.{Outcome, refused, result, check_of, check_in}
-use Rattle.results.specs.declared.look.Place.{Place}
+use Rattle.results.specs.declared.look.Pair.{Pair}
 use Rattle.answers.specs.Workspace.{workspace_size, zeroed}
 
 -- 'held, curing or sound'
@@ -38,20 +38,20 @@ shown_by w x = record {
 }
 
 -- A place of the array that Look returns: with a pair, or empty.
-abbrev pub place_with : Stamped → Place
-place_with p = record { kept = true; number = p.number; value = p.value }
+abbrev pub place_with : Stamped → Option Pair
+place_with p = Some (record { number = p.number; value = p.value })
 
-abbrev pub empty_place : Place
-empty_place = record { kept = false; number = 0; value = 0 }
+abbrev pub empty_place : Option Pair
+empty_place = None
 
 -- The whole array: the pairs shown, highest number first, then empty places up to the store's depth.
-unfoldable pub places_of : List Stamped → List Place
+unfoldable pub places_of : List Stamped → List (Option Pair)
 places_of pairs = map place_with pairs ++ replicate (store_depth - length pairs) empty_place
 
 -- What Look returns, the array beside it, and the lent bytes afterwards.
 pub record Looked : Type 0 where
   pub outcome : Outcome Shown
-  pub places : List Place
+  pub places : List (Option Pair)
   pub workspace : List ℕ
 
 abbrev pub look_shown : Shown → List ℕ → Looked

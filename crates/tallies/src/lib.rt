@@ -36,8 +36,8 @@ pub fn of_reader(x: usize) -> usize
 }
 
 // These servers join the set of a cell.
-pub fn join(sets: &mut [u16; CELLS], at: usize, got: u16)
-    requires { at < table_size }
+pub fn join(sets: &mut [u16], at: usize, got: u16)
+    requires { at < length sets.old }
     ensures { sets.new ≡ set sets.old at (bit_or (get_or sets.old at 0) got) }
 {
     sets[at] |= got;

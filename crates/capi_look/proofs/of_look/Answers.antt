@@ -1,25 +1,21 @@
 -- `of_look` meets its contract: a refusal is passed on with the buffer as it was; else the pairs shown are stored.
+use mathlib.Core.Path.{refl}
 use native.Mathlib.Omega.{arith}
-use Rattle.results.specs.Numbered.{shown_in}
-use Rattle.capi_look.proofs.Coded.{refusal_code_lem, condition_code_lem}
 use Rattle.codes.proofs.PairLaws.{over_none}
 use Rattle.capi_look.proofs.of_look.Goals as goal
 
-pub returns-then-code-ge-REFUSED : goal.returns-then-code-ge-REFUSED
-returns-then-code-ge-REFUSED c = let l = c.args.l in
-    let code = c.of_seen-code.ensures in
-    let h = refusal_code_lem (shown_in l.places) l.seen (rw code at c.if-code-ge-REFUSED.true) in
-    (rw (code, h.0), rw (h.1, over_none _))
+pub returns-in-Err : goal.returns-in-Err
+returns-in-Err c = rw c.in-Err.is (c.refusal.ensures, rw (over_none _))
+
+pub put_pairs-shown-requires : goal.put_pairs-shown-requires
+put_pairs-shown-requires c = rw c.in-Ok.is at c.requires
 
 pub overflow_mul-result : goal.overflow_mul-result
 overflow_mul-result c = record { fits = omega (arith, c.put_pairs-shown.ensures.0) }
 
 pub overflow_add-result : goal.overflow_add-result
-overflow_add-result c = record { fits = omega (arith, c.put_pairs-shown.ensures.0, c.if-code-ge-REFUSED.false) }
+overflow_add-result c = record { fits = omega (arith, c.put_pairs-shown.ensures.0, c.of_condition.ensures.1) }
 
-pub returns : goal.returns
-returns c = let l = c.args.l in
-    let code = c.of_seen-code.ensures in
-    let e = c.put_pairs-shown.ensures in
-    let h = condition_code_lem (shown_in l.places) l.seen (rw code at c.if-code-ge-REFUSED.false) in
-    (rw (e.1, code, h.0), rw (e.2, h.1))
+pub returns-in-Ok : goal.returns-in-Ok
+returns-in-Ok c = let e = c.put_pairs-shown.ensures in
+    rw (c.in-Ok.is, c.of_condition.ensures.0, e.1) (refl, e.2)
