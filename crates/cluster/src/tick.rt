@@ -140,7 +140,7 @@ fn sender(feed: Feed, b: usize) -> Sender
     Sender {
         links: feed.links,
         n: feed.rules.n,
-        t: usize::from(feed.t),
+        t: feed.t,
         i: b,
     }
 }

@@ -167,7 +167,7 @@ pub fn go_on(
         plan,
         script.links,
         script.rules.n,
-        usize::from(t),
+        t,
         &reads.reader,
         from,
         began,

@@ -12,7 +12,7 @@ use tables::sending::Sending;
 use tables::{Links, delays};
 
 // The request of party p, the writer as 0 and reader x as x, goes to all servers in tick t.
-fn ask(work: &mut [u8], plan: &[u8], links: Links, n: usize, t: usize, p: usize)
+fn ask(work: &mut [u8], plan: &[u8], links: Links, n: usize, t: u8, p: usize)
     requires { Linked plan.now links n (t + 1) × (n + p < links.parties) × (requests_end ≤ length work.old) }
     ensures { Asked work.old work.new (asked_by plan.now links n t p) }
 {
@@ -26,7 +26,7 @@ pub fn ask_all(
     plan: &[u8],
     links: Links,
     n: usize,
-    t: usize,
+    t: u8,
     by: &[u8; TABLE_READS],
     from: usize,
     to: usize,
@@ -45,7 +45,7 @@ pub fn write_on(
     plan: &[u8],
     links: Links,
     n: usize,
-    t: usize,
+    t: u8,
     begun: &[u8; PLACES],
     m: usize,
     number: u8,
@@ -53,9 +53,9 @@ pub fn write_on(
     requires { Linked plan.now links n (t + 1) × (m ≤ places) × (requests_end ≤ length work.old) }
     ensures { WroteOn plan.now links n t begun.now m number result work.old work.new }
 {
-    clear(work, t);
+    clear(work, usize::from(t));
     let next = usize::from(number) + 1;
-    if m <= next || usize::from(begun[next]) != t {
+    if m <= next || begun[next] != t {
         return number;
     }
     ask(work, plan, links, n, t, 0);

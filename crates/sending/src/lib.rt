@@ -20,7 +20,7 @@ use tables::{Links, delays};
 pub struct Sender {
     pub links: Links,
     pub n: usize,
-    pub t: usize,
+    pub t: u8,
     pub i: usize,
 }
 
@@ -68,7 +68,8 @@ pub fn reply(
 {
     for y in 1..PAST_READERS {
         if (readers >> y) % 2 == 1 && from.n + y < from.links.parties {
-            let at = from.t + delays::delay(plan, from.links, from.n, from.t, from.i, from.n + y);
+            let late = delays::delay(plan, from.links, from.n, from.t, from.i, from.n + y);
+            let at = usize::from(from.t) + late;
             if at <= usize::from(ends[y - 1]) {
                 calendar::post_kept(work, calendar::row(at, READERS_AT + y), kept, from.i);
             }

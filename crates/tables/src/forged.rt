@@ -22,12 +22,5 @@ pub fn delay_of(plan: &[u8], links: Links, n: usize, g: Forged) -> usize
     requires { Reach plan.now links n g.at g.from g.to }
     ensures { (result ≡ link_delay plan.now links g.at g.from g.to) × (result < 16) }
 {
-    delays::delay(
-        plan,
-        links,
-        n,
-        usize::from(g.at),
-        usize::from(g.from),
-        usize::from(g.to),
-    )
+    delays::delay(plan, links, n, g.at, usize::from(g.from), usize::from(g.to))
 }

@@ -36,7 +36,7 @@ pub fn write_on(work: &mut [u8], plan: &[u8], script: Script, written: u8, t: u8
         plan,
         script.links,
         script.rules.n,
-        usize::from(t),
+        t,
         &script.writes.begun,
         script.writes.known.m,
         written,

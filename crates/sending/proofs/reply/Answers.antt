@@ -21,9 +21,9 @@ loop-y-preserved c = let a = c.args in
     elim c.if-readers-y-eq1.branch [
       | in_time w ↦ rw w.work-is
           (replies_sent _ a.from a.ends a.readers a.kept _ _ l.y h l.invariant _ c.loop-y-test.true w.if-readers-y-eq1.true w.if-from-y.true
-          (rw (w.delay.ensures.0, w.from.ensures) at w.if-at-from.true)
-          (rw (w.row.ensures.0, w.delay.ensures.0) at w.post_kept.ensures))
-      | late w ↦ rw w.work-is (replies_late _ a.from a.ends a.readers a.kept _ _ l.y h l.invariant (rw (w.delay.ensures.0, w.from.ensures) at w.if-at-from.false))
+          (rw (w.delay-late.ensures.0, w.from.ensures, w.from-then-from-y.ensures) at w.if-at-from.true)
+          (rw (w.row.ensures.0, w.from.ensures, w.delay-late.ensures.0) at w.post_kept.ensures))
+      | late w ↦ rw w.work-is (replies_late _ a.from a.ends a.readers a.kept _ _ l.y h l.invariant (rw (w.delay-late.ensures.0, w.from.ensures, w.from-then-from-y.ensures) at w.if-at-from.false))
       | nothing w ↦ rw w.work-is (elim w.else-readers-y-eq1.branch [
         | absent v ↦ replies_absent _ a.from a.ends a.readers a.kept _ _ l.y h l.invariant v.if-from-y.false
         | unasked v ↦ replies_unasked _ a.from a.ends a.readers a.kept _ _ l.y h l.invariant v.if-readers-y-eq1.false
