@@ -5,7 +5,6 @@ ghost use Rattle.limits.specs.Bits.{bit};
 ghost use Rattle.limits.specs.Limits.{most_servers, places};
 ghost use Rattle.calendar.specs.Layout.{calendar_size};
 ghost use Rattle.calendar.specs.View.{Spanned, Posted};
-ghost use Rattle.tallies.specs.Tallies.{table_size};
 ghost use Rattle.serving.specs.Stored.{server};
 ghost use Rattle.serving.specs.{Settled.Settled, Methods.Reachable};
 ghost use Rattle.sending.specs.Sends.{Ready};
@@ -16,6 +15,7 @@ use super::{Arrivals, Cluster, Feed, REQUESTERS};
 use limits::{PLACES, READERS, SERVERS};
 use sending::Sender;
 use serving::{Server, Status, Turn, servers};
+use tallies::CELLS;
 
 // Is b in the set.
 fn has(set: u16, b: usize) -> bool
@@ -62,8 +62,8 @@ fn asks_at(requests: [u16; REQUESTERS], b: usize) -> u8
 }
 
 // 1. Deliveries to the readers: each notes the replies that arrive in tick t, which are then no longer under way.
-pub fn hear_all(work: &mut [u8], sets: &mut [u16], t: usize)
-    requires { (calendar_size ≤ length work.old) × Spanned work.old × (length sets.old ≡ table_size) }
+pub fn hear_all(work: &mut [u8], sets: &mut [u16; CELLS], t: usize)
+    requires { (calendar_size ≤ length work.old) × Spanned work.old }
     ensures { Heard work.old work.new sets.old sets.new t }
 {
     for x in 0..READERS {
@@ -112,7 +112,7 @@ fn deliver(
     s: Server,
     work: &mut [u8],
     plan: &[u8],
-    sets: &mut [u16],
+    sets: &mut [u16; CELLS],
     values: &[u32; PLACES],
     turn: Turn,
     from: Sender,
@@ -150,12 +150,12 @@ pub fn deliver_all(
     before: [Server; SERVERS],
     work: &mut [u8],
     plan: &[u8],
-    sets: &mut [u16],
+    sets: &mut [u16; CELLS],
     values: &[u32; PLACES],
     feed: Feed,
     ends: [u8; READERS],
 ) -> [Server; SERVERS]
-    requires { Tickable plan.now work.old feed.t feed.rules feed.m feed.links × (length sets.old ≡ table_size) × (length values.now ≡ places)
+    requires { Tickable plan.now work.old feed.t feed.rules feed.m feed.links
         × Calm (feed_of plan.now work.old feed) sets.old before }
     ensures { Delivered (feed_of plan.now work.old feed) ends values.now before result sets.old sets.new work.new feed.rules.n }
 {
@@ -209,8 +209,8 @@ pub fn cure_all(
 }
 
 // 3. Movement, if the tick is one: who is faulty now, or was before, is wiped; all others start a new voting period.
-pub fn move_all(before: [Server; SERVERS], sets: &mut [u16], feed: Feed) -> [Server; SERVERS]
-    requires { (length sets.old ≡ table_size) × (feed.rules.n ≤ most_servers) × (feed.m ≤ places) }
+pub fn move_all(before: [Server; SERVERS], sets: &mut [u16; CELLS], feed: Feed) -> [Server; SERVERS]
+    requires { (feed.rules.n ≤ most_servers) × (feed.m ≤ places) }
     ensures { Moved feed.rules feed.m feed.t feed.movement before result sets.old sets.new }
 {
     let Some(faulty) = feed.movement else {

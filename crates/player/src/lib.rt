@@ -43,7 +43,7 @@ pub fn run(
     plan: &[u8],
     answers: &mut [u8],
     work: &mut [u8],
-    sets: &mut [u16],
+    sets: &mut [u16; CELLS],
     script: Script,
     to: u8,
 ) -> Playing
@@ -51,6 +51,7 @@ pub fn run(
     ensures { Went plan.now work.old work.new sets.old sets.new answers.old answers.new script start result × (result.tick ≡ to) }
 {
     let mut p = start;
+    // A while: its test reads the state that the call hands back, and a for would name a number that nothing uses.
     while p.tick < to {
         p = next(p, plan, answers, work, sets, script);
     }

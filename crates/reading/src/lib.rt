@@ -2,7 +2,7 @@
 // 'Reads end, then reads begin': the table has the reads in the order of their begins, and so of their ends.
 ghost use Rattle.std.specs.Prelude.{◌≡◌, ◌||◌, ◌++◌, ◌+◌, ◌*◌, ◌-◌, ◌≤◌, ◌<◌, length, drop};
 ghost use Rattle.limits.specs.Limits.{most_readers, places};
-ghost use Rattle.tallies.specs.Tallies.{table_size, of_reader, holds};
+ghost use Rattle.tallies.specs.Tallies.{of_reader, holds};
 ghost use Rattle.tables.specs.Links.{Linked};
 ghost use Rattle.tables.specs.Known.{pair_at, Narrow};
 ghost use Rattle.answers.specs.Answers.{answer_size, answer_bytes};
@@ -17,6 +17,7 @@ use requests::asking::ask_all;
 use script::Script;
 use tables::Known;
 use tables::operations::TABLE_READS;
+use tallies::CELLS;
 
 pub mod choose;
 
@@ -49,8 +50,16 @@ pub fn first_from(begun: &[u8; TABLE_READS], m: usize, k: usize, u: usize) -> us
 }
 
 // Writes the answer of a read at the start of its part of the answer buffer: its reader chooses of what it has noted.
-fn answer(out: &mut [u8], width: u8, sets: &[u16], known: Known, reply: u32, begun: u8, reader: u8)
-    requires { (answer_size width ≤ length out.old) × (width ≤ most_width) × (known.m ≤ places) × Narrow width known × (1 ≤ reader) × (reader ≤ most_readers) × (length sets.now ≡ table_size) }
+fn answer(
+    out: &mut [u8],
+    width: u8,
+    sets: &[u16; CELLS],
+    known: Known,
+    reply: u32,
+    begun: u8,
+    reader: u8,
+)
+    requires { (answer_size width ≤ length out.old) × (width ≤ most_width) × (known.m ≤ places) × Narrow width known × (1 ≤ reader) × (reader ≤ most_readers) }
     ensures { out.new ≡ answer_bytes width (record { begun = begun; reader = reader })
         (answer_by (pair_at width known) (highest_of (λ j k. holds sets.now (of_reader (reader - 1) + j) k) reply known.m)) ++ drop (answer_size width) out.old }
 {
@@ -70,9 +79,9 @@ fn answer(out: &mut [u8], width: u8, sets: &[u16], known: Known, reply: u32, beg
 }
 
 // Writes the answers of the reads from .. to - 1, each at its own bytes.
-pub fn end_all(answers: &mut [u8], sets: &[u16], script: Script, from: usize, to: usize)
+pub fn end_all(answers: &mut [u8], sets: &[u16; CELLS], script: Script, from: usize, to: usize)
     requires { There script.reads.reader from to × (script.writes.known.m ≤ places) × (width_in script ≤ most_width) × Narrow (width_in script) script.writes.known
-        × (answer_size (width_in script) * to ≤ length answers.old) × (length sets.now ≡ table_size) }
+        × (answer_size (width_in script) * to ≤ length answers.old) }
     ensures { answers.new ≡ placed (width_in script) (chosen_bytes (width_in script) sets.now script.reads script.writes.known script.rules.reply) from (to - from) answers.old }
 {
     let width = script.shape.width;
@@ -93,13 +102,13 @@ pub fn end_all(answers: &mut [u8], sets: &[u16], script: Script, from: usize, to
 // The readers of the reads from .. to - 1 have noted nothing yet, and their reads end in tick `end`.
 pub fn begin_all(
     before: [u8; READERS],
-    sets: &mut [u16],
+    sets: &mut [u16; CELLS],
     by: &[u8; TABLE_READS],
     from: usize,
     to: usize,
     end: u8,
 ) -> [u8; READERS]
-    requires { There by.now from to × (length sets.old ≡ table_size) }
+    requires { There by.now from to }
     ensures { (result ≡ begun_by by.now end from (to - from) before) × SetUp by.now from (to - from) sets.old sets.new }
 {
     let mut ends = before;
@@ -147,12 +156,12 @@ pub fn go_on(
     answers: &mut [u8],
     work: &mut [u8],
     plan: &[u8],
-    sets: &mut [u16],
+    sets: &mut [u16; CELLS],
     script: Script,
     t: u8,
 ) -> Reading
     requires { Begun script r × Linked plan.now script.links script.rules.n (t + 1) × (script.rules.delta ≤ 15) × (answer_size (width_in script) * script.reads.m ≤ length answers.old)
-        × (requests_end ≤ length work.old) × (length sets.old ≡ table_size) }
+        × (requests_end ≤ length work.old) }
     ensures { WentOn plan.now script t r result answers.old answers.new work.old work.new sets.old sets.new }
 {
     let reads = &script.reads;

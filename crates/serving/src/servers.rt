@@ -1,9 +1,9 @@
 // A server by value: each method takes it and hands it back. Its votes stand in the tallies, which are lent.
-ghost use Rattle.std.specs.Prelude.{◌≡◌, List, ℕ, ◌<◌, ◌≤◌, length};
+ghost use Rattle.std.specs.Prelude.{◌≡◌, List, ℕ, ◌<◌, ◌≤◌};
 ghost use Rattle.register.specs.Server.{is_faulty, is_correct, cured_at};
 ghost use Rattle.limits.specs.Bits.{bit};
 ghost use Rattle.limits.specs.Limits.{most_servers, no_pair};
-ghost use Rattle.tallies.specs.Tallies.{recent_at, table_size};
+ghost use Rattle.tallies.specs.Tallies.{recent_at};
 ghost use Rattle.serving.specs.Stored.{status_of, Becomes};
 ghost use Rattle.stores.specs.Stores.{Faithful, Valued};
 ghost use Rattle.serving.specs.Stages.{quorate, written, cure_ended};
@@ -13,7 +13,7 @@ use super::{Server, Status, Turn};
 use calendar::Stamped;
 use limits::PLACES;
 use tables::Rules;
-use tallies::RECENT;
+use tallies::{CELLS, RECENT};
 
 pub fn is_faulty(s: Status) -> bool
     ensures { result ≡ is_faulty (status_of s) }
@@ -43,19 +43,17 @@ fn is_quorate(fresh: u16, recent: u16, rules: Rules) -> bool
 
 impl Server {
     // Takes in the pair of a WRITE.
-    pub fn write(self, p: Stamped) -> Self
+    pub fn write(mut self, p: Stamped) -> Self
         requires { p.number < no_pair }
         ensures { Becomes (written p.number) self result × ((values : List ℕ) → Valued values self.kept → Faithful values p → Valued values result.kept) }
     {
-        Server {
-            kept: stores::insert(self.kept, p),
-            ..self
-        }
+        self.kept = stores::insert(self.kept, p);
+        self
     }
 
     // Notes a vote by each of these servers for a pair, whose cell is `at`, and takes the pair in if it has a quorum then.
-    fn heard(self, sets: &mut [u16], at: usize, got: u16, p: Stamped, rules: Rules) -> Self
-        requires { (length sets.old ≡ table_size) × (at < recent_at) × (p.number < no_pair) }
+    fn heard(self, sets: &mut [u16; CELLS], at: usize, got: u16, p: Stamped, rules: Rules) -> Self
+        requires { (at < recent_at) × (p.number < no_pair) }
         ensures { Heard rules at got p self result sets.old sets.new }
     {
         let fresh = sets[at];
@@ -69,7 +67,13 @@ impl Server {
     }
 
     // Notes the votes that arrive, forged or not, and takes in each pair that has a quorum then. Only pairs that arrive are touched.
-    pub fn vote(mut self, sets: &mut [u16], work: &[u8], values: &[u32; PLACES], turn: Turn) -> Self
+    pub fn vote(
+        mut self,
+        sets: &mut [u16; CELLS],
+        work: &[u8],
+        values: &[u32; PLACES],
+        turn: Turn,
+    ) -> Self
         requires { Reachable work.now sets.old values.now turn }
         ensures { Voted work.now values.now turn self result sets.old sets.new }
     {
@@ -87,29 +91,25 @@ impl Server {
     }
 
     // Server b is wiped, and cures from tick t on.
-    pub fn wipe(self, sets: &mut [u16], b: usize, t: u8) -> Self
-        requires { (length sets.old ≡ table_size) × (b < most_servers) }
+    pub fn wipe(mut self, sets: &mut [u16; CELLS], b: usize, t: u8) -> Self
+        requires { b < most_servers }
         ensures { Reset b t result sets.old sets.new }
     {
         let at = tallies::of_server(b);
         tallies::empty(sets, at);
         tallies::empty(sets, RECENT + at);
-        Server {
-            status: Status::Cured(t),
-            kept: stores::none(),
-            pending: 0,
-        }
+        self.status = Status::Cured(t);
+        self.kept = stores::none();
+        self.pending = 0;
+        self
     }
 
     // Becomes correct if it was cured δ ticks ago.
-    pub fn cure_end(self, t: u8, delta: u8) -> Self
+    pub fn cure_end(mut self, t: u8, delta: u8) -> Self
         ensures { Becomes (cure_ended delta t) self result × (result.kept ≡ self.kept) }
     {
         if is_cured_at(self.status, t, delta) {
-            return Server {
-                status: Status::Correct,
-                ..self
-            };
+            self.status = Status::Correct;
         }
         self
     }

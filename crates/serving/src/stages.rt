@@ -1,8 +1,7 @@
 // The stages of one server's tick.
-ghost use Rattle.std.specs.Prelude.{◌≡◌, false, cond, ◌≤◌, ◌<◌, length};
+ghost use Rattle.std.specs.Prelude.{◌≡◌, false, cond, ◌≤◌, ◌<◌};
 ghost use Rattle.register.specs.Server.{is_faulty};
 ghost use Rattle.limits.specs.Limits.{most_servers, places};
-ghost use Rattle.tallies.specs.Tallies.{table_size};
 ghost use Rattle.serving.specs.Stored.{status_of, server, Becomes};
 ghost use Rattle.stores.specs.Stores.{Valued};
 ghost use Rattle.serving.specs.Stages.{with_write};
@@ -12,6 +11,7 @@ ghost use Rattle.serving.specs.Methods.{Reachable, DeliveredTo, MovedTo};
 use super::{Server, Status, Turn, servers};
 use calendar::Stamped;
 use limits::PLACES;
+use tallies::CELLS;
 
 // A server after stage 1, and the readers to which it sends its pairs then.
 #[derive(Clone, Copy)]
@@ -34,7 +34,7 @@ fn replied(correct: bool, same: bool, asks: u8, pending: u8) -> u8
 impl Server {
     // The WRITE's pair, if it is a known one.
     fn take_write(self, wrote: u8, values: &[u32; PLACES], m: usize) -> Self
-        requires { (m ≤ places) × (length values.now ≡ places) }
+        requires { m ≤ places }
         ensures { Becomes (with_write m wrote) self result × (Valued values.now self.kept → Valued values.now result.kept) }
     {
         let at = usize::from(wrote);
@@ -50,7 +50,7 @@ impl Server {
     // Stage 1 at a server that is not faulty.
     pub fn deliver(
         self,
-        sets: &mut [u16],
+        sets: &mut [u16; CELLS],
         work: &[u8],
         values: &[u32; PLACES],
         turn: Turn,
@@ -72,8 +72,8 @@ impl Server {
     }
 
     // Stage 3 at server b, where the placement makes it faulty or not; its new voting period has begun.
-    pub fn moved(self, sets: &mut [u16], b: usize, faulty: bool, t: u8) -> Self
-        requires { (length sets.old ≡ table_size) × (b < most_servers) }
+    pub fn moved(self, sets: &mut [u16; CELLS], b: usize, faulty: bool, t: u8) -> Self
+        requires { b < most_servers }
         ensures { MovedTo b faulty t self result sets.old sets.new }
     {
         if faulty {

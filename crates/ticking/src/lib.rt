@@ -2,7 +2,6 @@
 // A tick of a plan that can be played: its five stages on a state by value, and the same on one that is lent.
 ghost use Rattle.std.specs.Prelude.{◌≡◌, suc, ◌+◌, ◌*◌, ◌≤◌, ◌<◌, length};
 ghost use Rattle.requests.specs.Requests.{requests_end};
-ghost use Rattle.tallies.specs.Tallies.{table_size};
 ghost use Rattle.tables.specs.Links.{Linked};
 ghost use Rattle.answers.specs.Answers.{answer_size};
 ghost use Rattle.script.specs.Script.{Decoded, width_in};
@@ -15,6 +14,7 @@ use reading::Reading;
 use requests::asking;
 use script::Script;
 use script::inputs::feed_of;
+use tallies::CELLS;
 
 // The cluster between two ticks: how many writes and reads have begun, how many reads have been answered, and the tick that is next.
 #[derive(Clone, Copy)]
@@ -49,12 +49,12 @@ pub fn read_on(
     answers: &mut [u8],
     work: &mut [u8],
     plan: &[u8],
-    sets: &mut [u16],
+    sets: &mut [u16; CELLS],
     script: Script,
     t: u8,
 ) -> Reading
     requires { Begun script r × Linked plan.now script.links script.rules.n (t + 1) × (script.rules.delta ≤ 15) × (answer_size (width_in script) * script.reads.m ≤ length answers.old)
-        × (requests_end ≤ length work.old) × (length sets.old ≡ table_size) }
+        × (requests_end ≤ length work.old) }
     ensures { WentOn plan.now script t r result answers.old answers.new work.old work.new sets.old sets.new }
 {
     if !reading::is_due(
@@ -76,7 +76,7 @@ pub fn one(
     plan: &[u8],
     answers: &mut [u8],
     work: &mut [u8],
-    sets: &mut [u16],
+    sets: &mut [u16; CELLS],
     script: Script,
 ) -> Playing
     requires { Ready plan.now work.old script × PlayedTo plan.now work.old sets.old script p × (p.tick < script.shape.ticks) × (answer_size (width_in script) * script.reads.m ≤ length answers.old) }
@@ -120,7 +120,7 @@ pub fn tick(
     plan: &[u8],
     answers: &mut [u8],
     work: &mut [u8],
-    sets: &mut [u16],
+    sets: &mut [u16; CELLS],
     script: Script,
 )
     requires { Ready plan.now work.old script × PlayedTo plan.now work.old sets.old script p.old × (p.old.tick < script.shape.ticks) × (answer_size (width_in script) * script.reads.m ≤ length answers.old) }
@@ -135,7 +135,7 @@ pub fn next(
     plan: &[u8],
     answers: &mut [u8],
     work: &mut [u8],
-    sets: &mut [u16],
+    sets: &mut [u16; CELLS],
     script: Script,
 ) -> Playing
     requires { Ready plan.now work.old script × PlayedTo plan.now work.old sets.old script p × (p.tick < script.shape.ticks) × (answer_size (width_in script) * script.reads.m ≤ length answers.old) }

@@ -1,4 +1,4 @@
--- `run::run` meets its contract. The loop's invariant: the ticks before p's are played.
+-- `run` meets its contract. The loop's invariant: the ticks before p's are played.
 use borrow.Author.Rules.{rules}
 use native.Mathlib.Omega.{arith}
 use mathlib.Core.Path.{refl}

@@ -1,4 +1,4 @@
--- `run::run` meets its contract. The loop's invariant: the ticks before p's are played.
+-- `run` meets its contract. The loop's invariant: the ticks before p's are played.
 use mathlib.Core.Path.{◌≡◌}
 use Prim.Native.Nat.{◌*◌, ◌-◌, ◌≤◌}
 use lib.ListN.{length}

@@ -1,4 +1,4 @@
--- `run::one` meets its contract: the stages one after the other. It stands on Turns and on the cluster's laws of the whole tick.
+-- `one` meets its contract: the stages one after the other. It stands on Turns and on the cluster's laws of the whole tick.
 use borrow.Author.Rules.{rules}
 use native.Mathlib.{Omega.arith, Numerals.add-one}
 use mathlib.Core.Path.{◌∙◌}
@@ -20,13 +20,11 @@ pub feed_of-feed-requires : goal.feed_of-feed-requires
 feed_of-feed-requires c = (c.requires.0.decoded, c.requires.2, omega (arith, c.requires.0.room))
 
 pub hear_all-requires : goal.hear_all-requires
-hear_all-requires c = (omega (arith, c.requires.0.room), c.requires.1.state.calendar.spans, c.requires.1.table)
+hear_all-requires c = (omega (arith, c.requires.0.room), c.requires.1.state.calendar.spans)
 
 pub deliver_all-delivered-requires : goal.deliver_all-delivered-requires
 deliver_all-delivered-requires c = (
   turns.later _ _ _ _ _ c.requires.0 c.requires.2 c.requires.1 _ c.feed_of-feed.ensures _ c.hear_all.ensures.rest c.hear_all.ensures.spans,
-  c.hear_all.ensures.size ∙ c.requires.1.table,
-  search rules,
   turns.heard_calm _ _ _ _ _ c.requires.0 c.requires.2 c.requires.1 _ c.feed_of-feed.ensures _ _ (rw c.from.ensures at c.hear_all.ensures),
 )
 
@@ -35,7 +33,7 @@ cure_all-cured-requires c = turns.later _ _ _ _ _ c.requires.0 c.requires.2 c.re
 
 pub move_all-servers-requires : goal.move_all-servers-requires
 move_all-servers-requires c = let Z = turns.fed_sized _ _ _ _ _ c.requires.0 c.requires.2 c.requires.1 _ c.feed_of-feed.ensures in
-    (c.deliver_all-delivered.ensures.size ∙ (c.hear_all.ensures.size ∙ c.requires.1.table), Z.servers, Z.pairs)
+    (Z.servers, Z.pairs)
 
 pub echo_all-requires : goal.echo_all-requires
 echo_all-requires c = turns.later _ _ _ _ _ c.requires.0 c.requires.2 c.requires.1 _ c.feed_of-feed.ensures _
@@ -67,7 +65,6 @@ read_on-done-requires c =
       omega (arith, d.scripted.rules.delta, (range _ _ d).delta_hi),
       c.requires.3,
       omega (arith, c.requires.0.room, w.rest.size, c.write_on-written.ensures.outside.rest.size),
-      w.size ∙ c.requires.1.table,
     )
 
 pub forge-requires : goal.forge-requires
@@ -80,9 +77,6 @@ overflow_add-result c = let h = few (goal.at.overflow_add-result c).After-feed_o
 
 pub shape_of-work : goal.shape_of-work
 shape_of-work c = c.forge.ensures.rest.size ∙ (c.read_on-done.ensures.asked.outside.rest.size ∙ (c.write_on-written.ensures.outside.rest.size ∙ (whole (goal.at.shape_of-work c).After-echo_all).rest.size))
-
-pub shape_of-sets : goal.shape_of-sets
-shape_of-sets c = c.read_on-done.ensures.table.size ∙ (whole (goal.at.shape_of-sets c).After-echo_all).size
 
 pub returns : goal.returns
 returns c =

@@ -1,4 +1,4 @@
--- `tick::read_on` meets its contract: in most ticks no read ends or begins.
+-- `read_on` meets its contract: in most ticks no read ends or begins.
 use mathlib.Core.Path.{sym, ◌∙◌}
 use Rattle.ticking.proofs.Turns.{none_due}
 use Rattle.ticking.proofs.read_on.Goals as goal

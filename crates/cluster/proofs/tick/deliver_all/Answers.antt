@@ -30,7 +30,7 @@ middle c = let l = c.loop-b in
           (served_idle _ _ _ l.b _ l.sets (omega (arith, own, c.requires.0.servers)) c.requires.0.pairs S.done.spans
           (rw (c.row-row.ensures.0, c.from-t.ensures) at (sym c.high-high.ensures.0 ∙ e.0))
           (sym all ∙ (sym c.has.ensures ∙ e.1)) e.2
-          (serving_settled _ _ _ _ _ c.requires.0 l.after l.sets l.work l.b own (omega arith) S c.requires.3)))
+          (serving_settled _ _ _ _ _ c.requires.0 l.after l.sets l.work l.b own (omega arith) S c.requires.1)))
     ]
 
 pub loop-b-preserved : goal.loop-b-preserved

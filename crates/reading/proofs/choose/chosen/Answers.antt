@@ -26,11 +26,11 @@ module _ (c : In-loop-j) where
 
 pub returns-then-reply-count : goal.returns-then-reply-count
 returns-then-reply-count c = let d = (goal.at.returns-then-reply-count c).In-loop-j in
-    highest_here (named d) _ _ _ _ (above d) (size d (omega (arith, c.type_inv.sets (c.args.at + (c.loop-j.j - 1))))) c.if-reply-count.true
+    highest_here (named d) _ _ _ _ (above d) (size d (omega arith)) c.if-reply-count.true
 
 pub loop-j-preserved : goal.loop-j-preserved
 loop-j-preserved c = let d = (goal.at.loop-j-preserved c).In-loop-j in
-    highest_below (named d) _ _ _ _ (above d) (size d (omega (arith, c.type_inv.sets (c.args.at + (c.loop-j.j - 1))))) c.if-reply-count.false
+    highest_below (named d) _ _ _ _ (above d) (size d (omega arith)) c.if-reply-count.false
 
 pub returns : goal.returns
 unfolding highest_of

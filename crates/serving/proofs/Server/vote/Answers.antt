@@ -1,5 +1,5 @@
 -- `Server::vote` meets its contract. The loop's invariant: the pairs before j are done; a row whose span begins past the known pairs has none.
-use mathlib.Core.Path.{refl, ◌∙◌}
+use mathlib.Core.Path.{refl}
 use native.Mathlib.Omega.{arith}
 use lib.ListN.{get_or}
 use Rattle.calendar.specs.declared.Stamped.{Stamped}
@@ -11,10 +11,6 @@ loop-j-init c = (λ h. omega arith, rw c.low-j.ensures.0 (voting_none _ _ c.args
 
 pub senders-got-requires : goal.senders-got-requires
 senders-got-requires c = (c.requires.row, omega arith, c.requires.room)
-
-pub heard-self-requires : goal.heard-self-requires
-heard-self-requires c = let l = c.loop-j in
-    (l.auto.sets ∙ c.requires.table, omega arith, omega arith)
 
 pub loop-j-preserved : goal.loop-j-preserved
 loop-j-preserved c = let l = c.loop-j in
