@@ -135,11 +135,10 @@ fn deliver(
 
 // Server b of those that are fed.
 fn sender(feed: Feed, b: usize) -> Sender
-    ensures { result ≡ sender_at feed.links feed.rules feed.t b }
+    ensures { result ≡ sender_at feed.links feed.t b }
 {
     Sender {
         links: feed.links,
-        n: feed.rules.n,
         t: feed.t,
         i: b,
     }

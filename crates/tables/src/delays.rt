@@ -15,8 +15,8 @@ pub fn row_bit(links: Links, u: u8, i: usize) -> usize
 }
 
 // The delay of tick u from party i to party b.
-pub fn delay(plan: &[u8], links: Links, n: usize, u: u8, i: usize, b: usize) -> usize
-    requires { Reach plan.now links n u i b }
+pub fn delay(plan: &[u8], links: Links, u: u8, i: usize, b: usize) -> usize
+    requires { Reach plan.now links links.n u i b }
     ensures { (result ≡ link_delay plan.now links u i b) × (result < 16) }
 {
     usize::from(bits::nibble(plan, row_bit(links, u, i) + Shape::DELAY_BITS * b))
