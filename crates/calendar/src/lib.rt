@@ -5,6 +5,7 @@ ghost use Rattle.limits.specs.Limits.{most_servers, places};
 ghost use Rattle.calendar.specs.Layout.{receivers, rows, calendar_size, row_of, cell_word, low_of, high_of, senders_of};
 ghost use Rattle.calendar.specs.View.{Posted, Cleared, Empty, SamePast};
 ghost use Rattle.calendar.specs.Posts.{in_row, among, to_others, SpanOf, widened};
+ghost use Rattle.tables.specs.Sending.{Sendable};
 
 use limits::{DEPTH, NO_PAIR, PLACES, READERS, SERVERS};
 use tables::sending::Sending;
@@ -157,7 +158,7 @@ pub fn post_kept(work: &mut [u8], row: usize, kept: [Stamped; DEPTH], i: usize)
 
 // A server's vote for pair j is under way to all others.
 pub fn post_vote(work: &mut [u8], sending: Sending, j: u8)
-    requires { (sending.sender < most_servers) × (calendar_size ≤ length work.old) }
+    requires { Sendable sending × (sending.sender < most_servers) × (calendar_size ≤ length work.old) }
     ensures { Posted work.old work.new (to_others sending (λ y. eqb y j)) }
 {
     let i = sending.sender;
@@ -170,7 +171,7 @@ pub fn post_vote(work: &mut [u8], sending: Sending, j: u8)
 
 // A server's votes for the pairs that it keeps are under way to all others.
 pub fn post_votes(work: &mut [u8], sending: Sending, kept: [Stamped; DEPTH])
-    requires { (sending.sender < most_servers) × (calendar_size ≤ length work.old) }
+    requires { Sendable sending × (sending.sender < most_servers) × (calendar_size ≤ length work.old) }
     ensures { Posted work.old work.new (to_others sending (among kept)) }
 {
     let i = sending.sender;

@@ -4,7 +4,7 @@ ghost use Rattle.register.specs.Lists.{one_if, count};
 ghost use Rattle.plan.specs.{Form.most_width, Header.header_of, Packed.plan_of, Playable.Playable, Shape.shape, Shape.Sized};
 ghost use Rattle.limits.specs.Limits.{most_servers};
 ghost use Rattle.limits.specs.Bits.{bit};
-ghost use Rattle.tables.specs.Sending.{arrival_of};
+ghost use Rattle.tables.specs.Sending.{arrival_of, Sendable};
 ghost use Rattle.regular.specs.Tables.{Tables};
 ghost use Rattle.forecast.specs.Steps.{most_ticks, InForce, all_receipts, most_receipts};
 
@@ -40,7 +40,7 @@ fn free(placement: u16, b: usize) -> u32
 
 // How many servers are not faulty when they are reached: a movement comes after the deliveries of its tick, so the tick before tells.
 fn receipts(sending: Sending, placements: &[u16; TICKS]) -> u32
-    requires { (length placements.now ≡ most_ticks)
+    requires { Sendable sending × (length placements.now ≡ most_ticks)
         × ((b : ℕ) → b < sending.n → (1 ≤ arrival_of sending b) × (arrival_of sending b < most_ticks)) }
     ensures { (result ≡ count (λ b. not (bit (most_servers - 1 - b) (get_or placements.now (arrival_of sending b - 1) 0))) sending.n) × (result ≤ most_servers) }
 {
@@ -64,7 +64,7 @@ fn of_writes(plan: &[u8], h: Shape, writes: Writes) -> u32
     for j in 1..writes.known.m {
         let t = writes.begun[j];
         let bit = delays::row_bit(links, t, links.n);
-        let sending = Sending::of(plan, bit, links.n, t, 0);
+        let sending = Sending::of(plan, bit, links.n, usize::from(t), 0);
         r += receipts(sending, &placements);
     }
     r

@@ -17,7 +17,7 @@ fn ask(work: &mut [u8], plan: &[u8], links: Links, t: u8, p: usize)
     ensures { Asked work.old work.new (asked_by plan.now links links.n t p) }
 {
     let bit = delays::row_bit(links, t, links.n + p);
-    let sending = Sending::of(plan, bit, links.n, t, p);
+    let sending = Sending::of(plan, bit, links.n, usize::from(t), p);
     post(work, sending, p);
 }
 

@@ -2,6 +2,7 @@
 // The WRITEs and READs under way, in the lent workspace behind the calendar: which servers the request of a party reaches in a tick. A party's operations
 // do not overlap, so only its last one can have a request under way. specs/Requests says where it stands.
 ghost use Rattle.std.specs.Prelude.{◌≡◌, ◌+◌, ◌*◌, ◌≤◌, ◌<◌, length};
+ghost use Rattle.tables.specs.Sending.{Sendable};
 ghost use Rattle.requests.specs.Requests.{party_slots, request_word, requests_end, reached_of, asked_first, Asked, Taken, Unasked, SameOutside};
 
 use calendar::words;
@@ -39,7 +40,7 @@ pub fn start(work: &mut [u8])
 
 // The request of party p is under way to all servers.
 pub fn post(work: &mut [u8], sending: Sending, p: usize)
-    requires { (p < party_slots) × (requests_end ≤ length work.old) }
+    requires { Sendable sending × (p < party_slots) × (requests_end ≤ length work.old) }
     ensures { Asked work.old work.new (asked_first sending p sending.n) }
 {
     for b in 0..sending.n {

@@ -32,7 +32,7 @@ fn to_servers(plan: &[u8], from: Sender) -> Sending
     ensures { Sent plan.now (link_bit from.links from.t from.i 0) from.links.n from.t from.i result }
 {
     let bit = delays::row_bit(from.links, from.t, from.i);
-    Sending::of(plan, bit, from.links.n, from.t, from.i)
+    Sending::of(plan, bit, from.links.n, usize::from(from.t), from.i)
 }
 
 // A vote for the pair of a WRITE (NO_PAIR: none).

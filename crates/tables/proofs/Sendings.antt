@@ -8,7 +8,7 @@ use lib.Pow.{pow_mono}
 use Rattle.bits.specs.Field.{field_of}
 use Rattle.bits.proofs.Laws.{field_lt, field_split, field_inner}
 use Rattle.tables.specs.declared.sending.Sending.{Sending}
-use Rattle.tables.specs.Sending.{arrival_of, Sent}
+use Rattle.tables.specs.Sending.{arrival_of, Sent, Sendable}
 
 -- more than 56 bits, in two reads
 pub two_reads : (plan : List ℕ) (at w n : ℕ) → 4 * n ≡ 32 + w → n ≤ 16 → field_of plan at 32 * 2 ^ w % 2 ^ 64 + field_of plan (at + 32) w ≡ field_of plan at (4 * n)
@@ -24,3 +24,7 @@ sent plan at m t i s p q d f = record { tick = p; sender = q; servers = d; arriv
     there b l =
         let e : 4 * b + 4 + 4 * (m - 1 - b) ≡ 4 * m = omega arith in
         ap (λ (x : ℕ). t + x) (sym (rw e at (field_inner plan at (4 * b) 4 (4 * (m - 1 - b)))))
+
+-- what was read may be posted
+pub sent_sendable : (plan : List ℕ) (at m t i : ℕ) (s : Sending) → m ≤ 16 → t < 65536 → Sent plan at m t i s → Sendable s
+sent_sendable plan at m t i s h g S = record { servers = omega (arith, S.servers); early = omega (arith, S.tick) }

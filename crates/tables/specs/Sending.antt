@@ -1,5 +1,5 @@
 -- What one party sends in a tick to the servers, from the delays that stand in the plan's bits.
-use Rattle.std.specs.Prelude.{◌≡◌, List, ℕ, ◌+◌, ◌*◌, ◌-◌, ◌/◌, ◌%◌, ◌^◌, ◌<◌}
+use Rattle.std.specs.Prelude.{◌≡◌, List, ℕ, ◌+◌, ◌*◌, ◌-◌, ◌/◌, ◌%◌, ◌^◌, ◌≤◌, ◌<◌}
 use Rattle.bits.specs.Field.{field_of}
 use Rattle.plan.specs.Header.{delay_bits}
 use Rattle.tables.specs.declared.sending.Sending.{Sending}
@@ -14,3 +14,8 @@ pub record Sent (plan : List ℕ) (at m t i : ℕ) (s : Sending) : Type 0 where
   pub sender : s.sender ≡ i
   pub servers : s.n ≡ m
   pub arrives : (b : ℕ) → b < m → arrival_of s b ≡ t + field_of plan (at + delay_bits * b) delay_bits
+
+-- at most 16 servers, at a tick that a sum does not overflow
+pub record Sendable (s : Sending) : Type 0 where
+  pub servers : s.n ≤ 16
+  pub early : s.tick < 65536

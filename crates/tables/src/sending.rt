@@ -3,17 +3,17 @@ ghost use Rattle.std.specs.Prelude.{◌≡◌, ◌*◌, ◌^◌, ◌≤◌, ◌<
 ghost use Rattle.bits.specs.Field.{field_of};
 ghost use Rattle.plan.specs.Header.{delay_bits, DelaysIn};
 ghost use Rattle.limits.specs.Limits.{most_servers};
+ghost use Rattle.tables.specs.Sending.{Sendable, Sent, arrival_of};
 
 use plan::header::Shape;
 
 // What one party sends in a tick to the n servers: the delays as nibbles, the last server's lowest.
 #[derive(Clone, Copy)]
 pub struct Sending {
-    pub tick: u8,
+    pub tick: usize,
     pub sender: usize,
     pub n: usize,
     pub delays: u64,
-    pub ghost few: { n ≤ most_servers },
 }
 
 // The most nibbles that one field holds, and the bits of the first of two.
@@ -38,10 +38,8 @@ fn nibbles(plan: &[u8], at: usize, n: usize) -> u64
 }
 
 impl Sending {
-    ghost use Rattle.tables.specs.Sending.{Sent, arrival_of};
-
     // What a party sends in a tick: its delays to the n servers stand in the plan from bit `at` on.
-    pub fn of(plan: &[u8], at: usize, n: usize, tick: u8, sender: usize) -> Sending
+    pub fn of(plan: &[u8], at: usize, n: usize, tick: usize, sender: usize) -> Sending
         requires { (n ≤ most_servers) × DelaysIn plan.now at n × (at < 2 ^ 59) }
         ensures { Sent plan.now at n tick sender result }
     {
@@ -56,10 +54,10 @@ impl Sending {
     // The tick in which it reaches server b.
     #[tactic(auto, unfolding(crate::specs::Sending::arrival_of))]
     pub fn arrival(self, b: usize) -> usize
-        requires { b < self.n }
+        requires { Sendable self × (b < self.n) }
         ensures { (result ≡ arrival_of self b) × (result < 65552) }
     {
         let late = (self.delays >> (Shape::DELAY_BITS * (self.n - 1 - b))) % NIBBLES;
-        usize::from(self.tick) + late as usize
+        self.tick + late as usize
     }
 }

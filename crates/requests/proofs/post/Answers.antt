@@ -7,4 +7,4 @@ pub loop-b-preserved : goal.loop-b-preserved
 unfolding reaching
 loop-b-preserved c = let l = c.loop-b in
     rw (c.add.ensures, c.word.ensures.0, c.arrival.ensures.0)
-    (asked_more c.args.sending c.args.p c.requires.0 _ _ l.b (omega (arith, l.invariant.outside.rest.size, c.requires.1)) l.invariant)
+    (asked_more c.args.sending c.args.p c.requires.1 _ _ l.b (omega (arith, l.invariant.outside.rest.size, c.requires.2)) l.invariant)

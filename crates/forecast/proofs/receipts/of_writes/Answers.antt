@@ -10,6 +10,7 @@ use Rattle.plan.proofs.Sizes.{playable_sizes}
 use Rattle.tables.specs.Sending.{Sent}
 use Rattle.tables.specs.Links.{link_bit, Linked}
 use Rattle.tables.proofs.LinkLaws.{parties_few, link_inside, link_small}
+use Rattle.tables.proofs.Sendings.{sent_sendable}
 use Rattle.tables.specs.Rules.{LinksOf}
 use Rattle.tables.proofs.Forging.{shape_ranged}
 use Rattle.forecast.specs.Steps.{InForce}
@@ -39,7 +40,7 @@ delays-in c l =
 
 -- what is sent, by the delays of the writer
 sends : (c : After-of-sending) → Sent c.args.plan.now (link_bit c.links_of-links.result (get_or c.args.writes.begun c.loop-j.j 0) c.links_of-links.result.n 0) c.links_of-links.result.n (get_or c.args.writes.begun c.loop-j.j 0) 0 c.of-sending.result
-sends c = rw c.row_bit-bit.ensures at c.of-sending.ensures
+sends c = rw (c.row_bit-bit.ensures, c.from.ensures) at c.of-sending.ensures
 
 pub links_of-links-requires : goal.links_of-links-requires
 links_of-links-requires c = (shape_ranged c.args.h.width c.args.plan.now c.requires.0 c.args.h c.requires.2, c.requires.1)
@@ -67,10 +68,12 @@ of-sending-requires c = let K = delays-in (goal.at.of-sending-requires c).At-loo
     )
 
 pub receipts-r-requires : goal.receipts-r-requires
-receipts-r-requires c = let at = goal.at.receipts-r-requires c in (
-  c.in_force-placements.ensures.size,
-  sent_within c.args.h.width c.args.plan.now c.requires.0 _ (links at.At-loop-j) c.links_of-links.result.n (servers at.At-loop-j) _ (ends at.At-loop-j c.loop-j-test.true) 0 c.of-sending.result (sends at.After-of-sending),
-)
+receipts-r-requires c = let at = goal.at.receipts-r-requires c in
+    let K = delays-in at.At-loop-j c.loop-j-test.true in (
+      sent_sendable _ _ _ (tick at.At-loop-j) 0 _ K.servers (omega (arith, K.ticks)) (sends at.After-of-sending),
+      c.in_force-placements.ensures.size,
+      sent_within c.args.h.width c.args.plan.now c.requires.0 _ (links at.At-loop-j) c.links_of-links.result.n (servers at.At-loop-j) _ (ends at.At-loop-j c.loop-j-test.true) 0 c.of-sending.result (sends at.After-of-sending),
+    )
 
 pub overflow_add-r : goal.overflow_add-r
 overflow_add-r c = omega (arith, c.receipts-r.ensures.1, c.requires.3.written.few)

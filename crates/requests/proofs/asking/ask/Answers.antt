@@ -13,4 +13,4 @@ of-sending-requires c = let L = c.requires.0 in (
 )
 
 pub returns : goal.returns
-returns c = asked_sent _ c.args.links c.args.links.n c.args.t c.args.p _ (rw c.row_bit-bit.ensures at c.of-sending.ensures) _ _ c.post.ensures
+returns c = asked_sent _ c.args.links c.args.links.n c.args.t c.args.p _ (rw (c.row_bit-bit.ensures, c.from.ensures) at c.of-sending.ensures) _ _ c.post.ensures
