@@ -35,7 +35,7 @@ sends_none plan from ends said x j e n =
       e,
       and-false (eqb (reaches plan from (x % receivers) % slots) (x / receivers)),
       and-false (not (eqb (x % receivers) from.i)),
-      and-false (ltb (x % receivers) from.n),
+      and-false (ltb (x % receivers) from.links.n),
     )
     (sending-laws.SendLaws.reply_none plan from ends said.readers (λ y. member y said.pairs) x j n)
 

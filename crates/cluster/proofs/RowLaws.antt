@@ -58,6 +58,7 @@ sized_after plan work after t rules m links Z P S = record {
   pairs = Z.pairs;
   echo = Z.echo;
   reply = Z.reply;
+  same = Z.same;
   linked = Z.linked;
   delays = Z.delays;
 }

@@ -110,7 +110,7 @@ module _ (plan work : List ℕ) (feed : Feed) (ends values : List ℕ) (b : ℕ)
   }
 
   abbrev by : Sender
-  by = sender_at feed.links feed.rules feed.t b
+  by = sender_at feed.links feed.t b
 
   served-at : (asks : ℕ) → ◌≡◌ {A = ℕ → Bool} (λ x. bit x asks) (asks_at feed.arrivals.requests b) → Reached plan ends values (turn_to asks) by s q sets then work mid
       → Served (feed_of plan work feed) ends values b s q sets then mid
@@ -123,7 +123,7 @@ module _ (plan work : List ℕ) (feed : Feed) (ends values : List ℕ) (b : ℕ)
         posted = subst (λ (o : Both). Posted work mid (λ x j k. eqb k b && sends plan by ends o.said x j)) first R.posted;
       }
 
-  pub served_now : (turn : Turn) (from : Sender) → TurnOf feed b turn → from ≡ sender_at feed.links feed.rules feed.t b
+  pub served_now : (turn : Turn) (from : Sender) → TurnOf feed b turn → from ≡ sender_at feed.links feed.t b
       → Reached plan ends values turn from s q sets then work mid → Served (feed_of plan work feed) ends values b s q sets then mid
   served_now turn from T e R = served-at turn.asks T.asks
       (subst (λ (y : Sender). Reached plan ends values (turn_to turn.asks) y s q sets then work mid) e
@@ -149,7 +149,7 @@ served_idle F ends values b s sets l few S none unasked goes K =
       others = tallies-laws.TallyLaws.others_none sets b;
       valued = λ v. v;
       posted = posted_none F.work _ (λ x j k h m.
-          rw (e, quiet_sends F.m F.rules.echo F.rules.reply w got asks live p K few empty far quiet lasts F.plan (sender_at F.links F.rules F.t b) ends (is_faulty p.status) x j m)
+          rw (e, quiet_sends F.m F.rules.echo F.rules.reply w got asks live p K few empty far quiet lasts F.plan (sender_at F.links F.t b) ends (is_faulty p.status) x j m)
           (and-false (eqb k b)));
     }
 
@@ -168,7 +168,7 @@ passed_idle F ends values b r sets S = record { next = get_or r b absent; put = 
 pub none_sent : (F : Fed) (ends : List ℕ) → Tickable F.plan F.work F.t F.rules F.m F.links → (i x j : ℕ) (said : Said) → i < F.rules.n
     → x / receivers ≡ F.t % 16 → sent_by F ends i said x j ≡ false
 none_sent F ends Z i x j said h e =
-    sending-laws.SendLaws.none_now F.plan (sender_at F.links F.rules F.t i) Z.linked.writer h (λ q u v w. Z.delays i q h u v w) ends said x j e
+    sending-laws.SendLaws.none_now F.plan (sender_at F.links F.t i) Z.linked.writer (rw Z.same h) (λ q u v w. Z.delays i q h u v (rw Z.same at w)) ends said x j e
 
 -- ---- the loop over the servers
 

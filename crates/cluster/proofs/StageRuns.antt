@@ -46,7 +46,7 @@ module _ (g : ℕ → ℕ → ℕ → Bool) (a b : List ℕ) (n : ℕ) (A : Post
 abbrev pub healed : List ℕ → Links → Rules → ℕ → List ℕ → List Server → ℕ → ℕ → ℕ → Bool
 healed plan links rules t ends c x j i =
     cured_at rules.delta t (status_of (get_or c i absent).status)
-    && sends_reply plan (sender_at links rules t i) ends (λ y. bit y (get_or c i absent).pending) (λ y. member y (keys (get_or c i absent).kept)) x j
+    && sends_reply plan (sender_at links t i) ends (λ y. bit y (get_or c i absent).pending) (λ y. member y (keys (get_or c i absent).kept)) x j
 
 module _ (plan : List ℕ) (links : Links) (rules : Rules) (m t : ℕ) (ends : List ℕ) (c : List Server) (work : List ℕ) where
   -- the cures of the first n servers have ended
@@ -63,7 +63,7 @@ module _ (plan : List ℕ) (links : Links) (rules : Rules) (m t : ℕ) (ends : L
 
     -- a server whose cure ends
     pub curing_more : b < length c → cured_at rules.delta t (status_of (get_or r b absent).status) ≡ true → (q : Server)
-        → Becomes (cure_ended rules.delta t) (get_or r b absent) q × (q.kept ≡ (get_or r b absent).kept) → (from : Sender) → from ≡ sender_at links rules t b → (after : List ℕ)
+        → Becomes (cure_ended rules.delta t) (get_or r b absent) q × (q.kept ≡ (get_or r b absent).kept) → (from : Sender) → from ≡ sender_at links t b → (after : List ℕ)
         → Posted now after (λ x j k. eqb k from.i && sends_reply plan from ends (λ y. bit y (get_or r b absent).pending) (λ y. member y (keys (get_or r b absent).kept)) x j)
         → Curing (set r b q) after (b + 1)
     curing_more l e q (B, k) from is after P =
@@ -149,7 +149,7 @@ module _ (rules : Rules) (m t : ℕ) (movement : Option ℕ) (c : List Server) (
 -- what server i echoes
 abbrev pub echoed : List ℕ → Links → Rules → ℕ → Option ℕ → List Server → ℕ → ℕ → ℕ → Bool
 echoed plan links rules t movement c x j i =
-    is_some movement && (is_correct (status_of (get_or c i absent).status) && sends_vote plan (sender_at links rules t i) (λ y. member y (keys (get_or c i absent).kept)) x j)
+    is_some movement && (is_correct (status_of (get_or c i absent).status) && sends_vote plan (sender_at links t i) (λ y. member y (keys (get_or c i absent).kept)) x j)
 
 module _ (plan : List ℕ) (links : Links) (rules : Rules) (t : ℕ) (movement : Option ℕ) (c : List Server) (work : List ℕ) where
   -- the first n servers have echoed
@@ -157,7 +157,7 @@ module _ (plan : List ℕ) (links : Links) (rules : Rules) (t : ℕ) (movement :
     pub posted : Posted work after (λ x j i. ltb i n && echoed plan links rules t movement c x j i)
 
   module _ (now : List ℕ) (b : ℕ) (H : Echoing now b) where
-    pub echoing_more : is_some movement ≡ true → is_correct (status_of (get_or c b absent).status) ≡ true → (from : Sender) → from ≡ sender_at links rules t b → (after : List ℕ)
+    pub echoing_more : is_some movement ≡ true → is_correct (status_of (get_or c b absent).status) ≡ true → (from : Sender) → from ≡ sender_at links t b → (after : List ℕ)
         → Posted now after (λ x j k. eqb k from.i && sends_vote plan from (λ y. member y (keys (get_or c b absent).kept)) x j) → Echoing after (b + 1)
     echoing_more f e from is after P = record { posted = posted_next (echoed plan links rules t movement c) work now b H.posted after _ (rw is at P) (λ x j. rw (f, e)) }
 

@@ -189,12 +189,12 @@ module _ (plan work noted work₁ work₂ work₃ : List ℕ) (f : Feed) (ends v
   abbrev cures : ℕ → ℕ → ℕ → Bool
   cures b x j =
       cured_at f.rules.delta f.t (status_of (get_or reached b absent).status)
-      && sends_reply plan (sender_at f.links f.rules f.t b) ends (λ y. bit y (get_or reached b absent).pending) (λ y. member y (keys (get_or reached b absent).kept)) x j
+      && sends_reply plan (sender_at f.links f.t b) ends (λ y. bit y (get_or reached b absent).pending) (λ y. member y (keys (get_or reached b absent).kept)) x j
 
   abbrev votes : ℕ → ℕ → ℕ → Bool
   votes b x j =
       is_some f.movement
-      && (is_correct (status_of (get_or moved b absent).status) && sends_vote plan (sender_at f.links f.rules f.t b) (λ y. member y (keys (get_or moved b absent).kept)) x j)
+      && (is_correct (status_of (get_or moved b absent).status) && sends_vote plan (sender_at f.links f.t b) (λ y. member y (keys (get_or moved b absent).kept)) x j)
 
   module _ (b : ℕ) (l : b < f.rules.n) where
     -- a server's row is not a reader's, so it is as it was before the readers heard
@@ -223,7 +223,7 @@ module _ (plan work noted work₁ work₂ work₃ : List ℕ) (f : Feed) (ends v
     unfolding stages_of
     sent x j =
         rw same_first
-        (sent-all plan (sender_at f.links f.rules f.t b) ends f.rules.delta f.t x j (one b) (said_first_lem f.rules.delta f.t f.m _ _ _ _ _ _ _) f.rules.two (is_seized f.movement b)
+        (sent-all plan (sender_at f.links f.t b) ends f.rules.delta f.t x j (one b) (said_first_lem f.rules.delta f.t f.m _ _ _ _ _ _ _) f.rules.two (is_seized f.movement b)
         (is_some f.movement) (server_at f.m then reached b) (server_at f.m last moved b) at_one at_last)
 
   pub ticked : Ticked (feed_of plan work f) ends c moved sets last work₃ f.rules.n

@@ -51,13 +51,15 @@ pub record Tickable (plan work : List ℕ) (t : ℕ) (rules : Rules) (m : ℕ) (
   pub pairs : m ≤ places
   pub echo : 1 ≤ rules.echo
   pub reply : 1 ≤ rules.reply
-  pub linked : Linked plan links rules.n (suc t)
+  pub same : links.n ≡ rules.n
+  pub linked : Linked plan links links.n (suc t)
   -- what a server sends to another one or to a reader does not arrive in the same tick
   pub delays : (i q : ℕ) → i < rules.n → q < links.parties → (q ≡ i → ⊥) → (q ≡ rules.n → ⊥) → 1 ≤ link_delay plan links t i q
 
 -- what is handed to tick t is what the plan, whose pairs are g 0, g 1 .., says of it
 pub record Fits (P : Plan) (g : ℕ → ℕ) (t : ℕ) (plan : List ℕ) (rules : Rules) (m : ℕ) (links : Links) (arrivals : Arrivals) (movement : Option ℕ) : Type 0 where
   pub n : rules.n ≡ P.n
+  pub servers : links.n ≡ P.n
   pub delta : rules.delta ≡ P.delta
   pub two : rules.two ≡ eqb (kk P) 2
   pub echo : rules.echo ≡ echo_quorum P

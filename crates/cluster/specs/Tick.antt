@@ -64,8 +64,8 @@ pub record Reached (plan ends values : List ℕ) (turn : Turn) (from : Sender) (
   pub posted : Posted work after (λ x j k. eqb k from.i && sends plan from ends out.said x j)
 
 -- server b as one that sends in tick t
-abbrev pub sender_at : Links → Rules → ℕ → ℕ → Sender
-sender_at links rules t b = record { links = links; n = rules.n; t = t; i = b }
+abbrev pub sender_at : Links → ℕ → ℕ → Sender
+sender_at links t b = record { links = links; t = t; i = b }
 
 -- the pairs of the first n servers have the values of their numbers, if they had them before
 abbrev pub Values : ℕ → List ℕ → List Server → List Server → Type 0
@@ -86,7 +86,7 @@ abbrev pub cure_replies : List ℕ → Links → Rules → ℕ → List ℕ → 
 cure_replies plan links rules t ends c x j i =
     ltb i rules.n
     && (cured_at rules.delta t (status_of (get_or c i absent).status)
-    && sends_reply plan (sender_at links rules t i) ends (λ y. bit y (get_or c i absent).pending) (λ y. member y (keys (get_or c i absent).kept)) x j)
+    && sends_reply plan (sender_at links t i) ends (λ y. bit y (get_or c i absent).pending) (λ y. member y (keys (get_or c i absent).kept)) x j)
 
 -- the placement of the tick stands, if it is a movement
 pub record Moved (rules : Rules) (m t : ℕ) (movement : Option ℕ) (c r : List Server) (sets then : List ℕ) : Type 0 where
@@ -102,7 +102,7 @@ abbrev pub echoes : List ℕ → Links → Rules → ℕ → Option ℕ → List
 echoes plan links rules t movement c x j i =
     ltb i rules.n
     && (is_some movement
-    && (is_correct (status_of (get_or c i absent).status) && sends_vote plan (sender_at links rules t i) (λ y. member y (keys (get_or c i absent).kept)) x j))
+    && (is_correct (status_of (get_or c i absent).status) && sends_vote plan (sender_at links t i) (λ y. member y (keys (get_or c i absent).kept)) x j))
 
 -- ---- what a tick is fed
 
@@ -145,7 +145,7 @@ module _ (F : Fed) where
 
   -- what server b sends that said this
   abbrev pub sent_by : List ℕ → ℕ → Said → ℕ → ℕ → Bool
-  sent_by ends b said x j = sends F.plan (sender_at F.links F.rules F.t b) ends said x j
+  sent_by ends b said x j = sends F.plan (sender_at F.links F.t b) ends said x j
 
   -- all servers have taken in every pair with a quorum
   abbrev pub Calm : List ℕ → List Server → Type 0

@@ -135,12 +135,11 @@ fn deliver(
 
 // Server b of those that are fed.
 fn sender(feed: Feed, b: usize) -> Sender
-    ensures { result ≡ sender_at feed.links feed.rules feed.t b }
+    ensures { result ≡ sender_at feed.links feed.t b }
 {
     Sender {
         links: feed.links,
-        n: feed.rules.n,
-        t: usize::from(feed.t),
+        t: feed.t,
         i: b,
     }
 }

@@ -1,6 +1,6 @@
 -- The receipts that the code counts for a WRITE are those of the plan: the delays and the placements that it reads are the plan's.
 -- It stands on where the parts stand in the plan's bits, and on what Check accepts.
-use mathlib.Core.Path.{◌≡◌, ap, ◌∙◌}
+use mathlib.Core.Path.{◌≡◌, ap, sym, subst, ◌∙◌}
 use mathlib.Core.Bool.{not}
 use mathlib.Core.List.{List}
 use Prim.Native.Nat.{ℕ, ◌+◌, ◌-◌, ◌≤◌, ◌<◌}
@@ -41,7 +41,7 @@ to_server n b l = rw (le-ltb n n (omega arith), lt-ltb b n l) tt
 module _ (w : ℕ) (s : List ℕ) (A : Playable w s) (links : Links) (L : LinksOf w (header_of w s) links) (n : ℕ) (servers : n ≡ (header_of w s).n) where
   -- the delays of a tick in which a write begins lie in the plan
   pub linked : w ≤ most_width → (u : ℕ) → u + (header_of w s).delta < (header_of w s).ticks → Linked s links n (u + 1)
-  linked narrow u below = rw servers (table w s A links L narrow (u + 1) (omega arith))
+  linked narrow u below = subst (λ m. Linked s links m (u + 1)) (L.n ∙ sym servers) (table w s A links L narrow (u + 1) (omega arith))
 
   module _ (u : ℕ) (below : u + (header_of w s).delta < (header_of w s).ticks) where
     arrives : (b : ℕ) → b < n → u + link_delay s links u n b ≡ reached_in (plan_of w s) u b

@@ -20,16 +20,15 @@ fn counted(
     count: usize,
     plan: &[u8],
     links: Links,
-    n: usize,
 ) -> [u16; ARRIVALS]
-    requires { Legible width part.now offset count plan.now links n }
+    requires { Legible width part.now offset count plan.now links links.n }
     ensures { Arrived (arrival_at width part.now offset plan.now links) count result }
 {
     let bits = Forged::bits(width);
     let mut r = [0u16; ARRIVALS];
     for e in 0..count {
         let g = forged::message_at(part, offset + bits * e, width);
-        let t = usize::from(g.at) + forged::delay_of(plan, links, n, g);
+        let t = usize::from(g.at) + forged::delay_of(plan, links, g);
         r[t] += 1;
     }
     r
@@ -61,7 +60,6 @@ pub fn most(plan: &[u8], h: Shape) -> u32
         h.forgeries as usize,
         plan,
         links_of(h),
-        h.n as usize,
     );
     highest(&table, h.ticks as usize) as u32
 }

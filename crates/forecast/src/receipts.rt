@@ -58,13 +58,13 @@ fn of_writes(plan: &[u8], h: Shape, writes: Writes) -> u32
         × Tables h.width (plan_of h.width plan.now) writes.known.values writes.begun writes.known.m }
     ensures { (result ≡ all_receipts (plan_of h.width plan.now)) × (result ≤ most_receipts) }
 {
-    let n = h.n as usize;
     let links = links_of(h);
     let placements = in_force(plan, h);
     let mut r: u32 = 0;
     for j in 1..writes.known.m {
-        let t = usize::from(writes.begun[j]);
-        let sending = Sending::of(plan, delays::row_bit(links, t, n), n, t, 0);
+        let t = writes.begun[j];
+        let bit = delays::row_bit(links, t, links.n);
+        let sending = Sending::of(plan, bit, links.n, usize::from(t), 0);
         r += receipts(sending, &placements);
     }
     r

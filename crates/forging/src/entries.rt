@@ -84,11 +84,10 @@ pub fn fill(
     count: usize,
     plan: &[u8],
     links: Links,
-    n: usize,
     values: &[u32; PLACES],
     m: usize,
 )
-    requires { Fillable width work.old part.now offset count plan.now links n m }
+    requires { Fillable width work.old part.now offset count plan.now links links.n m }
     ensures { Filled work.old work.new count (forged_at width part.now offset)
         (λ e. forged_delay plan.now links (forged_at width part.now offset e))
         (λ e. known_number width values.now m (forged_at width part.now offset e)) }
@@ -98,7 +97,7 @@ pub fn fill(
         let g = message_at(part, offset + bits * e, width);
         let entry = ForgedEntry {
             sent: g.at,
-            arrival: g.at + delay_of(plan, links, n, g) as u8,
+            arrival: g.at + delay_of(plan, links, g) as u8,
             receiver: g.to,
             sender: g.from,
             number: known_number(values, m, g.value, g.number),

@@ -71,7 +71,7 @@ is_before begun m k u = ltb k m && ltb (get_or begun k 0) u
 -- what is needed of the script and of the reads so far
 pub record Begun (r : Script) (p : Reading) : Type 0 where
   pub table : There r.reads.reader 0 r.reads.m
-  pub parties : (i : ℕ) → i < r.reads.m → r.rules.n + get_or r.reads.reader i 0 < r.links.parties
+  pub parties : (i : ℕ) → i < r.reads.m → r.links.n + get_or r.reads.reader i 0 < r.links.parties
   pub pairs : r.writes.known.m ≤ places
   pub width : width_in r ≤ most_width
   pub narrow : Narrow (width_in r) r.writes.known
@@ -85,4 +85,4 @@ pub record WentOn (plan : List ℕ) (r : Script) (t : ℕ) (p q : Reading) (answ
   pub answers : answers₁ ≡ placed (width_in r) (chosen_bytes (width_in r) sets₀ r.reads r.writes.known r.rules.reply) p.answered (q.answered - p.answered) answers₀
   pub ends : q.ends ≡ begun_by r.reads.reader (t + 2 * r.rules.delta) p.begun (q.begun - p.begun) p.ends
   pub table : SetUp r.reads.reader p.begun (q.begun - p.begun) sets₀ sets₁
-  pub asked : Asked work₀ work₁ (asked_between plan r.links r.rules.n t r.reads.reader p.begun q.begun)
+  pub asked : Asked work₀ work₁ (asked_between plan r.links r.links.n t r.reads.reader p.begun q.begun)

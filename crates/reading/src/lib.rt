@@ -160,7 +160,7 @@ pub fn go_on(
     script: Script,
     t: u8,
 ) -> Reading
-    requires { Begun script r × Linked plan.now script.links script.rules.n (t + 1) × (script.rules.delta ≤ 15) × (answer_size (width_in script) * script.reads.m ≤ length answers.old)
+    requires { Begun script r × Linked plan.now script.links script.links.n (t + 1) × (script.rules.delta ≤ 15) × (answer_size (width_in script) * script.reads.m ≤ length answers.old)
         × (requests_end ≤ length work.old) }
     ensures { WentOn plan.now script t r result answers.old answers.new work.old work.new sets.old sets.new }
 {
@@ -171,16 +171,7 @@ pub fn go_on(
     let from = r.begun;
     let began = first_from(&reads.begun, reads.m, from, usize::from(t) + 1);
     let ends = begin_all(r.ends, sets, &reads.reader, from, began, t + 2 * delta);
-    ask_all(
-        work,
-        plan,
-        script.links,
-        script.rules.n,
-        usize::from(t),
-        &reads.reader,
-        from,
-        began,
-    );
+    ask_all(work, plan, script.links, t, &reads.reader, from, began);
     Reading {
         ends,
         begun: began,

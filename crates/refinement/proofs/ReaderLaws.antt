@@ -1,6 +1,6 @@
 -- The readers' part of State over one tick: what a reader has noted, what is under way to it after stages 1 to 4, and both after the reads of the
 -- tick have begun and its forged replies are posted. It stands on ReplyLaws and VoteLaws.
-use mathlib.Core.Path.{◌≡◌, refl, sym, ◌∙◌}
+use mathlib.Core.Path.{◌≡◌, refl, sym, subst, ◌∙◌}
 use mathlib.Core.Bool.{Bool, true, false, ◌&&◌, ◌||◌, and_assoc, and_comm, and-false, and-true, or-false, and-or_distrib_left}
 use mathlib.Core.{Logic.inl, Logic.inr, List.List}
 use Prim.Native.Nat.{ℕ, suc, ◌+◌, ◌-◌, ◌≤◌, ◌<◌}
@@ -96,16 +96,16 @@ module _ (P : Plan) (G : Good P) (F : Fed) {g : ℕ → ℕ} (fit : cluster-spec
       let d : ℕ = P.delay t i (P.n + q.reader) in
       let u : 15 + q.reader - 15 ≡ q.reader = omega arith in
       let v : 15 + q.reader - 16 ≡ q.reader - 1 = omega arith in
+      let late = subst (λ n. tables-specs.Links.link_delay F.plan F.links t i (n + q.reader) ≡ d) (sym fit.servers) f.1 in
       rw (
-        fit.n,
         row_receiver s (15 + q.reader) (omega arith),
         row_slot s (15 + q.reader) (omega arith),
         u,
         v,
-        le-ltb (15 + q.reader) P.n (omega (arith, K.servers)),
+        le-ltb (15 + q.reader) F.links.n (omega (arith, K.servers, fit.servers)),
         le-leb 16 (15 + q.reader) (omega arith),
-        lt-ltb (P.n + q.reader) F.links.parties f.0,
-        f.1,
+        lt-ltb (F.links.n + q.reader) F.links.parties (omega (arith, f.0, fit.servers)),
+        late,
         slot_is t d s (G.delay_lo t i (P.n + q.reader)) (omega (arith, G.delay_hi t i (P.n + q.reader), K.slow)) a b,
       )
       (elim (ℕ_discrete (t + d) s) [

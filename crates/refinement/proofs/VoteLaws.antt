@@ -139,7 +139,7 @@ module _ (P : Plan) (G : register-laws.Good.Good P) (F : cluster-specs.Tick.Fed)
         → sent_by F c.ends i said (row_of s b) j ≡ (not (eqb i b) && eqb (t + P.delay t i b) s) && sending-specs.Sends.votes_for said j
     unfolding sending-specs.Sends.sends_vote sending-specs.Sends.sends_reply
     sent-as i said li =
-        rw (row_receiver s b few, row_slot s b few, fit.n, lt-ltb b P.n lb, lt-leb 16 b (omega (arith, K.servers)), or-false) (elim (ℕ_discrete i b) [
+        rw (row_receiver s b few, row_slot s b few, lt-ltb b F.links.n (omega (arith, fit.servers)), lt-leb 16 b (omega (arith, K.servers)), or-false) (elim (ℕ_discrete i b) [
           | yes e ↦ rw (eq-eqb i b e, eq-eqb b i (sym e))
           | no d ↦ rw (
             ne_eqb i b d,

@@ -12,11 +12,12 @@ use tables::sending::Sending;
 use tables::{Links, delays};
 
 // The request of party p, the writer as 0 and reader x as x, goes to all servers in tick t.
-fn ask(work: &mut [u8], plan: &[u8], links: Links, n: usize, t: usize, p: usize)
-    requires { Linked plan.now links n (t + 1) × (n + p < links.parties) × (requests_end ≤ length work.old) }
-    ensures { Asked work.old work.new (asked_by plan.now links n t p) }
+fn ask(work: &mut [u8], plan: &[u8], links: Links, t: u8, p: usize)
+    requires { Linked plan.now links links.n (t + 1) × (links.n + p < links.parties) × (requests_end ≤ length work.old) }
+    ensures { Asked work.old work.new (asked_by plan.now links links.n t p) }
 {
-    let sending = Sending::of(plan, delays::row_bit(links, t, n + p), n, t, p);
+    let bit = delays::row_bit(links, t, links.n + p);
+    let sending = Sending::of(plan, bit, links.n, usize::from(t), p);
     post(work, sending, p);
 }
 
@@ -25,17 +26,16 @@ pub fn ask_all(
     work: &mut [u8],
     plan: &[u8],
     links: Links,
-    n: usize,
-    t: usize,
+    t: u8,
     by: &[u8; TABLE_READS],
     from: usize,
     to: usize,
 )
-    requires { Linked plan.now links n (t + 1) × Readers by.now from to n links.parties × (requests_end ≤ length work.old) }
-    ensures { Asked work.old work.new (asked_between plan.now links n t by.now from to) }
+    requires { Linked plan.now links links.n (t + 1) × Readers by.now from to links.n links.parties × (requests_end ≤ length work.old) }
+    ensures { Asked work.old work.new (asked_between plan.now links links.n t by.now from to) }
 {
     for i in from..to {
-        ask(work, plan, links, n, t, usize::from(by[i]));
+        ask(work, plan, links, t, usize::from(by[i]));
     }
 }
 
@@ -44,20 +44,19 @@ pub fn write_on(
     work: &mut [u8],
     plan: &[u8],
     links: Links,
-    n: usize,
-    t: usize,
+    t: u8,
     begun: &[u8; PLACES],
     m: usize,
     number: u8,
 ) -> u8
-    requires { Linked plan.now links n (t + 1) × (m ≤ places) × (requests_end ≤ length work.old) }
-    ensures { WroteOn plan.now links n t begun.now m number result work.old work.new }
+    requires { Linked plan.now links links.n (t + 1) × (m ≤ places) × (requests_end ≤ length work.old) }
+    ensures { WroteOn plan.now links links.n t begun.now m number result work.old work.new }
 {
-    clear(work, t);
+    clear(work, usize::from(t));
     let next = usize::from(number) + 1;
-    if m <= next || usize::from(begun[next]) != t {
+    if m <= next || begun[next] != t {
         return number;
     }
-    ask(work, plan, links, n, t, 0);
+    ask(work, plan, links, t, 0);
     number + 1
 }

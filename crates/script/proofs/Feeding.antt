@@ -24,8 +24,8 @@ module _ (s : List ℕ) (r : Script) (R : Decoded s r) where
   period_same = ap (λ (h : Header). h.period) R.scripted.header
 
   -- the delays of the tick
-  pub linked_there : (t : ℕ) → t < r.shape.ticks → Linked s r.links r.rules.n (t + 1)
-  linked_there t l = rw R.scripted.rules.n (table (width_in r) s R.playable r.links R.scripted.links R.scripted.narrow (t + 1) (omega (arith, ticks_same)))
+  pub linked_there : (t : ℕ) → t < r.shape.ticks → Linked s r.links r.links.n (t + 1)
+  linked_there t l = table (width_in r) s R.playable r.links R.scripted.links R.scripted.narrow (t + 1) (omega (arith, ticks_same))
 
   pub movement_there : (t : ℕ) → t < r.shape.ticks → (0 < r.shape.period) × (placement_at (width_in r) (t / r.shape.period) + placement_bits ≤ 8 * length s)
   movement_there t l = (

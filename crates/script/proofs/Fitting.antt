@@ -77,6 +77,7 @@ module _ (s before after : List ℕ) (r : script-specs.declared.Script.Script) (
     unfolding plan_of register-specs.Plan.is_move cluster-specs.Inputs.wrote_at cluster-specs.Inputs.asks_at
     script_fits = record {
       n = R.rules.n;
+      servers = R.links.n;
       delta = R.rules.delta;
       two = R.rules.two;
       echo = R.rules.echo;
@@ -121,7 +122,8 @@ module _ (s before after : List ℕ) (r : script-specs.declared.Script.Script) (
         pairs = R.writes.few;
         echo = omega (arith, R.rules.echo);
         reply = omega (arith, R.rules.reply);
-        linked = rw R.rules.n (tables-laws.Placing.table w s A r.links R.links R.narrow (suc t) below);
+        same = R.links.n ∙ sym R.rules.n;
+        linked = tables-laws.Placing.table w s A r.links R.links R.narrow (suc t) below;
         delays = λ i q li lq d e.
             rw (tables-laws.Placing.server_delay w s A r.links R.links t i q below (rw R.rules.n at li) (rw R.links.parties at lq) d (rw R.rules.n at e))
             (plan-laws.AcceptGood.delay_range w s A t i q).0;

@@ -22,7 +22,7 @@ module _ (w : ℕ) (s : List ℕ) (A : plan-specs.Playable.Playable w s) (x : pl
   messages : x.forgeries ≡ (header_of w s).forgeries
   messages = counted w s A x same at starts-at
 
-  pub fillable : w ≤ plan-specs.Form.most_width → (work : List ℕ) (m : ℕ) → entries_end ≤ length work → m ≤ places → Fillable w work bytes (at % 8) x.forgeries s links x.n m
+  pub fillable : w ≤ plan-specs.Form.most_width → (work : List ℕ) (m : ℕ) → entries_end ≤ length work → m ≤ places → Fillable w work bytes (at % 8) x.forgeries s links links.n m
   fillable narrow work m room pairs = record { messages = legible w s A x same at starts-at links linked narrow; room = room; pairs = pairs }
 
   pub forged : (before after values : List ℕ) (m : ℕ) (starts : List ℕ)

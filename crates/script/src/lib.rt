@@ -45,7 +45,6 @@ fn enter(plan: &[u8], work: &mut [u8], header: Shape, links: Links, writes: Writ
         count,
         plan,
         links,
-        usize::from(header.n),
         &writes.known.values,
         writes.known.m,
     );

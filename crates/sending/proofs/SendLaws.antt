@@ -34,7 +34,7 @@ use Rattle.stores.proofs.StoreLaws.{among_keys}
 module _ (plan : List ℕ) (s : Sender) where
   pub vote_or : (P Q : ℕ → Bool) (x j : ℕ) → sends_vote plan s P x j || sends_vote plan s Q x j ≡ sends_vote plan s (λ y. P y || Q y) x j
   unfolding sends_vote
-  vote_or P Q x j = join (ltb (x % receivers) s.n) (not (eqb (x % receivers) s.i)) (eqb (reaches plan s (x % receivers) % 16) (x / receivers)) (P j) (Q j)
+  vote_or P Q x j = join (ltb (x % receivers) s.links.n) (not (eqb (x % receivers) s.i)) (eqb (reaches plan s (x % receivers) % 16) (x / receivers)) (P j) (Q j)
     where
       join : (b c d e f : Bool) → (b && (c && (d && e))) || (b && (c && (d && f))) ≡ b && (c && (d && (e || f)))
       join b c d e f = simp and-or_distrib_left
@@ -43,13 +43,13 @@ module _ (plan : List ℕ) (s : Sender) where
   pub vote_none : (P : ℕ → Bool) (x j : ℕ) → P j ≡ false → sends_vote plan s P x j ≡ false
   unfolding sends_vote
   vote_none P x j e =
-      rw (e, and-false (eqb (reaches plan s (x % receivers) % 16) (x / receivers)), and-false (not (eqb (x % receivers) s.i))) (and-false (ltb (x % receivers) s.n))
+      rw (e, and-false (eqb (reaches plan s (x % receivers) % 16) (x / receivers)), and-false (not (eqb (x % receivers) s.i))) (and-false (ltb (x % receivers) s.links.n))
 
   -- no vote for a known pair
   pub votes_nobody : (a : List ℕ) (w : ℕ) → places ≤ w → Posted a a (λ x j k. eqb k s.i && sends_vote plan s (λ y. eqb y w) x j)
   votes_nobody a w h = posted_none a _ (λ x j k l m. rw (vote_none (λ y. eqb y w) x j (ne_eqb j w (λ e. omega arith))) (and-false (eqb k s.i)))
 
-  module _ (to : Sending) (S : Sent plan (link_bit s.links s.t s.i 0) s.n s.t s.i to) where
+  module _ (to : Sending) (S : Sent plan (link_bit s.links s.t s.i 0) s.links.n s.t s.i to) where
     others-sent : (P : ℕ → Bool) (x j k : ℕ) → to_others to P x j k ≡ eqb k s.i && sends_vote plan s P x j
     unfolding due_in sends_vote
     others-sent P x j k =
@@ -57,7 +57,7 @@ module _ (plan : List ℕ) (s : Sender) where
         let on : Bool = eqb (reaches plan s b % 16) (x / receivers) in
         calendar-laws.Laws.under (ltb b to.n) _ ((not (eqb b to.sender) && on) && (eqb k to.sender && P j))
         (λ e. rw (S.arrives b (rw S.servers at (ltb-true b to.n e)), link_at s.links s.t s.i b))
-        ∙ rw (S.servers, S.sender) (turn (ltb b s.n) (not (eqb b s.i)) on (eqb k s.i) (P j))
+        ∙ rw (S.servers, S.sender) (turn (ltb b s.links.n) (not (eqb b s.i)) on (eqb k s.i) (P j))
       where
         turn : (l a b k p : Bool) → l && ((a && b) && (k && p)) ≡ k && (l && (a && (b && p)))
         turn true true true k p = refl
@@ -92,9 +92,9 @@ module _ (plan : List ℕ) (s : Sender) (ends : List ℕ) (readers : ℕ) (kept 
   reply-at : (x j y : ℕ) → x % receivers ≡ 15 + y → 1 ≤ y
       → replies x j
       ≡ bit y readers
-      && (ltb (s.n + y) s.links.parties
-      && (leb (reaches plan s (s.n + y)) (get_or ends (y - 1) 0)
-      && (eqb (reaches plan s (s.n + y) % 16) (x / receivers) && member j (keys kept))))
+      && (ltb (s.links.n + y) s.links.parties
+      && (leb (reaches plan s (s.links.n + y)) (get_or ends (y - 1) 0)
+      && (eqb (reaches plan s (s.links.n + y) % 16) (x / receivers) && member j (keys kept))))
   unfolding sends_reply
   reply-at x j y e h =
       let p : 15 + y - 15 ≡ y = omega arith in
@@ -128,23 +128,23 @@ module _ (plan : List ℕ) (s : Sender) (ends : List ℕ) (readers : ℕ) (kept 
         let e : bit y readers ≡ false = sym (bit_test y readers) ∙ ne_eqb (readers / 2 ^ y % 2) 1 d in
         replies_none a r y A (λ x j p. reply-at x j y p h ∙ rw e)
 
-    pub replies_absent : s.links.parties ≤ s.n + y → Posted a r (replies_below (y + 1))
-    replies_absent e = replies_none a r y A (λ x j p. reply-at x j y p h ∙ rw (le-ltb (s.n + y) s.links.parties e) (and-false (bit y readers)))
+    pub replies_absent : s.links.parties ≤ s.links.n + y → Posted a r (replies_below (y + 1))
+    replies_absent e = replies_none a r y A (λ x j p. reply-at x j y p h ∙ rw (le-ltb (s.links.n + y) s.links.parties e) (and-false (bit y readers)))
 
-    pub replies_late : get_or ends (y - 1) 0 < reaches plan s (s.n + y) → Posted a r (replies_below (y + 1))
+    pub replies_late : get_or ends (y - 1) 0 < reaches plan s (s.links.n + y) → Posted a r (replies_below (y + 1))
     replies_late e =
         replies_none a r y A
         (λ x j p. reply-at x j y p h
-        ∙ rw (lt-leb (reaches plan s (s.n + y)) (get_or ends (y - 1) 0) e, and-false (ltb (s.n + y) s.links.parties)) (and-false (bit y readers)))
+        ∙ rw (lt-leb (reaches plan s (s.links.n + y)) (get_or ends (y - 1) 0) e, and-false (ltb (s.links.n + y) s.links.parties)) (and-false (bit y readers)))
 
-    pub replies_sent : (w : List ℕ) → y < 5 → readers / 2 ^ y % 2 ≡ 1 → s.n + y < s.links.parties → reaches plan s (s.n + y) ≤ get_or ends (y - 1) 0
-        → Posted r w (in_row (row_of (reaches plan s (s.n + y)) (15 + y)) s.i (among kept)) → Posted a w (replies_below (y + 1))
+    pub replies_sent : (w : List ℕ) → y < 5 → readers / 2 ^ y % 2 ≡ 1 → s.links.n + y < s.links.parties → reaches plan s (s.links.n + y) ≤ get_or ends (y - 1) 0
+        → Posted r w (in_row (row_of (reaches plan s (s.links.n + y)) (15 + y)) s.i (among kept)) → Posted a w (replies_below (y + 1))
     replies_sent w g u p l B = replies-more a r w y _ A B (λ x j k m.
-        let at = reaches plan s (s.n + y) in
+        let at = reaches plan s (s.links.n + y) in
         let e : bit y readers ≡ true = sym (bit_test y readers) ∙ eq-eqb (readers / 2 ^ y % 2) 1 u in
         rw (calendar-laws.Stores.same_row x at (15 + y) m (omega arith), and_assoc (eqb (x % receivers) (15 + y)) (eqb (at % 16) (x / receivers)) (eqb k s.i && among kept j), among_keys kept j)
         (calendar-laws.Laws.under (eqb (x % receivers) (15 + y)) _ _ (λ q.
-        rw (reply-at x j y (eqb-true (x % receivers) (15 + y) q) h, e, lt-ltb (s.n + y) s.links.parties p, le-leb at (get_or ends (y - 1) 0) l)
+        rw (reply-at x j y (eqb-true (x % receivers) (15 + y) q) h, e, lt-ltb (s.links.n + y) s.links.parties p, le-leb at (get_or ends (y - 1) 0) l)
         (turn (eqb k s.i) (eqb (at % 16) (x / receivers)) (member j (keys kept))))))
       where
         turn : (d q f : Bool) → q && (d && f) ≡ d && (q && f)
@@ -157,9 +157,9 @@ module _ (plan : List ℕ) (s : Sender) (ends : List ℕ) (readers : ℕ) (kept 
 
 -- ---- nothing arrives in the tick in which it is sent
 
-module _ (plan : List ℕ) (s : Sender) (few : s.n < s.links.parties) (own : s.i < s.n)
-    (later : (q : ℕ) → q < s.links.parties → (q ≡ s.i → ⊥) → (q ≡ s.n → ⊥) → 1 ≤ link_delay plan s.links s.t s.i q) where
-  other-tick : (x q : ℕ) → q < s.links.parties → (q ≡ s.i → ⊥) → (q ≡ s.n → ⊥) → x / receivers ≡ s.t % 16 → T (eqb (reaches plan s q % 16) (x / receivers)) → ⊥
+module _ (plan : List ℕ) (s : Sender) (few : s.links.n < s.links.parties) (own : s.i < s.links.n)
+    (later : (q : ℕ) → q < s.links.parties → (q ≡ s.i → ⊥) → (q ≡ s.links.n → ⊥) → 1 ≤ link_delay plan s.links s.t s.i q) where
+  other-tick : (x q : ℕ) → q < s.links.parties → (q ≡ s.i → ⊥) → (q ≡ s.links.n → ⊥) → x / receivers ≡ s.t % 16 → T (eqb (reaches plan s q % 16) (x / receivers)) → ⊥
   other-tick x q l d w e y =
       let short : link_delay plan s.links s.t s.i q < 16 = field_lt plan (link_bit s.links s.t s.i q) 4 in
       let p : (s.t + link_delay plan s.links s.t s.i q) % 16 ≡ x / receivers = eqb→eq _ _ y in
@@ -168,7 +168,7 @@ module _ (plan : List ℕ) (s : Sender) (few : s.n < s.links.parties) (own : s.i
   pub no_vote : (P : ℕ → Bool) (x j : ℕ) → x / receivers ≡ s.t % 16 → sends_vote plan s P x j ≡ false
   unfolding sends_vote
   no_vote P x j e = F_eq (sends_vote plan s P x j) (not_T (sends_vote plan s P x j) (λ y.
-      let l = ltb→lt (x % receivers) s.n (search and_l) in
+      let l = ltb→lt (x % receivers) s.links.n (search and_l) in
       let d : T (not (eqb (x % receivers) s.i)) = search (and_l, and_r) in
       other-tick x (x % receivers) (omega arith) (λ w. T_not (eqb (x % receivers) s.i) d (rw w (eqb_refl s.i))) (λ w. omega arith) e (search (and_l, and_r))))
 
@@ -176,7 +176,7 @@ module _ (plan : List ℕ) (s : Sender) (few : s.n < s.links.parties) (own : s.i
   unfolding sends_reply
   no_reply ends R P x j e = F_eq (sends_reply plan s ends R P x j) (not_T (sends_reply plan s ends R P x j) (λ y.
       let l = leb→le 16 (x % receivers) (search and_l) in
-      let q = s.n + (x % receivers - 15) in
+      let q = s.links.n + (x % receivers - 15) in
       other-tick x q (ltb→lt q s.links.parties (search (and_l, and_r))) (λ w. omega arith) (λ w. omega arith) e (search (and_l, and_r))))
 
   pub none_now : (ends : List ℕ) (said : Said) (x j : ℕ) → x / receivers ≡ s.t % 16 → sends plan s ends said x j ≡ false

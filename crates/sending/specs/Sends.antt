@@ -8,9 +8,9 @@ use Rattle.tables.specs.Links.{link_delay, Linked}
 
 -- its delays lie in the plan
 pub record Ready (plan : List ℕ) (s : Sender) : Type 0 where
-  pub linked : Linked plan s.links s.n (s.t + 1)
+  pub linked : Linked plan s.links s.links.n (s.t + 1)
   pub tick : s.t < 128
-  pub sender : s.i < s.n
+  pub sender : s.i < s.links.n
 
 -- what it sent in a tick: a vote for the pair number `wrote`, if there is one; votes for its pairs, if it echoed; its pairs to some readers
 pub record Said : Type 0 where
@@ -23,7 +23,7 @@ pub record Said : Type 0 where
 abbrev pub votes_for : Said → ℕ → Bool
 votes_for said j = eqb j said.wrote || (said.echoed && member j said.pairs)
 
--- a server in a tick, among n servers
+-- a server in a tick
 module _ (plan : List ℕ) (s : Sender) where
   -- the tick in which what it sends reaches party q
   abbrev pub reaches : ℕ → ℕ
@@ -32,7 +32,7 @@ module _ (plan : List ℕ) (s : Sender) where
   -- a vote for pair j, one of P, to server x % receivers, which is another one
   unfoldable pub sends_vote : (ℕ → Bool) → ℕ → ℕ → Bool
   sends_vote P x j =
-      ltb (x % receivers) s.n
+      ltb (x % receivers) s.links.n
       && (not (eqb (x % receivers) s.i)
       && (eqb (reaches (x % receivers) % slots) (x / receivers)
       && P j))
@@ -43,9 +43,9 @@ module _ (plan : List ℕ) (s : Sender) where
   sends_reply ends R P x j =
       leb most_servers (x % receivers)
       && (R (x % receivers - readers_at)
-      && (ltb (s.n + (x % receivers - readers_at)) s.links.parties
-      && (leb (reaches (s.n + (x % receivers - readers_at))) (get_or ends (x % receivers - most_servers) 0)
-      && (eqb (reaches (s.n + (x % receivers - readers_at)) % slots) (x / receivers)
+      && (ltb (s.links.n + (x % receivers - readers_at)) s.links.parties
+      && (leb (reaches (s.links.n + (x % receivers - readers_at))) (get_or ends (x % receivers - most_servers) 0)
+      && (eqb (reaches (s.links.n + (x % receivers - readers_at)) % slots) (x / receivers)
       && P j))))
 
   abbrev pub sends : List ℕ → Said → ℕ → ℕ → Bool

@@ -15,12 +15,11 @@ use limits::{DEPTH, PLACES, READERS};
 use tables::sending::Sending;
 use tables::{Links, delays};
 
-// Server i sends in tick t, one of n.
+// Server i sends in tick t.
 #[derive(Clone, Copy)]
 pub struct Sender {
     pub links: Links,
-    pub n: usize,
-    pub t: usize,
+    pub t: u8,
     pub i: usize,
 }
 
@@ -30,10 +29,10 @@ pub const PAST_READERS: usize = 1 + READERS;
 // Where and when what it sends reaches the servers.
 fn to_servers(plan: &[u8], from: Sender) -> Sending
     requires { Ready plan.now from }
-    ensures { Sent plan.now (link_bit from.links from.t from.i 0) from.n from.t from.i result }
+    ensures { Sent plan.now (link_bit from.links from.t from.i 0) from.links.n from.t from.i result }
 {
     let bit = delays::row_bit(from.links, from.t, from.i);
-    Sending::of(plan, bit, from.n, from.t, from.i)
+    Sending::of(plan, bit, from.links.n, usize::from(from.t), from.i)
 }
 
 // A vote for the pair of a WRITE (NO_PAIR: none).
@@ -66,9 +65,11 @@ pub fn reply(
     requires { (calendar_size ≤ length work.old) × Ready plan.now from }
     ensures { Posted work.old work.new (λ x j k. eqb k from.i && sends_reply plan.now from ends (λ y. bit y readers) (λ y. member y (keys kept)) x j) }
 {
+    let links = from.links;
     for y in 1..PAST_READERS {
-        if (readers >> y) % 2 == 1 && from.n + y < from.links.parties {
-            let at = from.t + delays::delay(plan, from.links, from.n, from.t, from.i, from.n + y);
+        if (readers >> y) % 2 == 1 && links.n + y < links.parties {
+            let late = delays::delay(plan, links, from.t, from.i, links.n + y);
+            let at = usize::from(from.t) + late;
             if at <= usize::from(ends[y - 1]) {
                 calendar::post_kept(work, calendar::row(at, READERS_AT + y), kept, from.i);
             }

@@ -52,14 +52,13 @@ module _ (w : ℕ) (s : List ℕ) (A : plan-specs.Playable.Playable w s) (x : pl
     L : LinksOf w (header_of w s) links
     L = rw same at linked
 
-    pub legible : w ≤ plan-specs.Form.most_width → Legible w part (at % 8) x.forgeries s links x.n
+    pub legible : w ≤ plan-specs.Form.most_width → Legible w part (at % 8) x.forgeries s links links.n
     legible narrow = record {
       narrow = narrow;
       start = omega arith;
       few = omega (arith, counted, (in_range w s A).forgeries_hi);
       inside = rw (part-whole, length-drop, counted) (omega (arith, first_bit, counted, tables-laws.Placing.bits_inside w s A, part_starts));
-      reach = λ e l. rw (ap (λ (h : Header). h.n) same)
-          (subst (λ (g : Forgery). tables-specs.Links.Reach s links (header_of w s).n g.at g.from g.to) (sym (message e)) (message_reach w s A e (omega (arith, counted)) narrow links L));
+      reach = λ e l. subst (λ (g : Forgery). tables-specs.Links.Reach s links links.n g.at g.from g.to) (sym (message e)) (message_reach w s A e (omega (arith, counted)) narrow links L);
     }
 
     pub delay_same : (e : ℕ) → e < (header_of w s).forgeries → forged_delay s links (forged_at w part (at % 8) e) ≡ message_delay w s e

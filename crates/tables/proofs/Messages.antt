@@ -57,7 +57,7 @@ module _ (w : ℕ) (s : List ℕ) (A : plan-specs.Playable.Playable w s) where
     ]
 
     pub message_reach : w ≤ plan-specs.Form.most_width → (links : Links) → LinksOf w (header_of w s) links
-        → Reach s links (header_of w s).n (message_of w s e).at (message_of w s e).from (message_of w s e).to
+        → Reach s links links.n (message_of w s e).at (message_of w s e).from (message_of w s e).to
     message_reach narrow links L = record {
       linked = table w s A links L narrow ((message_of w s e).at + 1) (omega (arith, sent_below));
       sender = omega (arith, sender_below, L.parties);

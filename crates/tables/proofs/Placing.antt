@@ -58,16 +58,16 @@ module _ (w : ℕ) (s : List ℕ) (A : plan-specs.Playable.Playable w s) where
 
   module _ (links : tables-specs.declared.Links.Links) (L : tables-specs.Rules.LinksOf w (header_of w s) links) where
     -- the delays of all ticks below t
-    pub table : w ≤ plan-specs.Form.most_width → (t : ℕ) → t ≤ (header_of w s).ticks → tables-specs.Links.Linked s links (header_of w s).n t
+    pub table : w ≤ plan-specs.Form.most_width → (t : ℕ) → t ≤ (header_of w s).ticks → tables-specs.Links.Linked s links links.n t
     table narrow t l =
         let H = plan-laws.Accept.in_range w s A in
         let p = parties (header_of w s) in
         record {
           start = omega (arith, L.at, (plan-laws.Sizes.playable_sizes w s narrow A).bits_hi);
           ticks = omega (arith, H.ticks_hi);
-          servers = H.n_hi;
-          writer = omega (arith, L.parties);
-          readers = omega (arith, L.parties, H.readers_hi);
+          servers = omega (arith, L.n, H.n_hi);
+          writer = omega (arith, L.n, L.parties);
+          readers = omega (arith, L.n, L.parties, H.readers_hi);
           inside = rw (L.at, L.parties) (omega (arith, bits_inside, mul-le-mul_right (p * p) l));
         }
 

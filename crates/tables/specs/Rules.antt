@@ -13,4 +13,5 @@ pub record RulesOf (h : Header) (r : Rules) : Type 0 where
 
 pub record LinksOf (w : ℕ) (h : Header) (r : Links) : Type 0 where
   pub at : r.at ≡ forgery_at w h h.forgeries
+  pub n : r.n ≡ h.n
   pub parties : r.parties ≡ parties h

@@ -18,16 +18,9 @@ pub fn message_at(part: &[u8], at: usize, width: u8) -> Forged
 }
 
 // How long it takes.
-pub fn delay_of(plan: &[u8], links: Links, n: usize, g: Forged) -> usize
-    requires { Reach plan.now links n g.at g.from g.to }
+pub fn delay_of(plan: &[u8], links: Links, g: Forged) -> usize
+    requires { Reach plan.now links links.n g.at g.from g.to }
     ensures { (result ≡ link_delay plan.now links g.at g.from g.to) × (result < 16) }
 {
-    delays::delay(
-        plan,
-        links,
-        n,
-        usize::from(g.at),
-        usize::from(g.from),
-        usize::from(g.to),
-    )
+    delays::delay(plan, links, g.at, usize::from(g.from), usize::from(g.to))
 }

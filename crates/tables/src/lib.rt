@@ -24,10 +24,11 @@ pub struct Rules {
     pub reply: u32,
 }
 
-// Where the delays stand in the plan's bits, for so many parties.
+// Where the delays stand in the plan's bits, for so many parties, n of them servers.
 #[derive(Clone, Copy)]
 pub struct Links {
     pub at: usize,
+    pub n: usize,
     pub parties: usize,
 }
 
@@ -60,6 +61,7 @@ pub fn links_of(header: Shape) -> Links
 {
     Links {
         at: header.delays_at(),
+        n: usize::from(header.n),
         parties: header.parties(),
     }
 }

@@ -23,19 +23,20 @@ use Rattle.ticking.proofs as ticking-laws
 
 module _ (s : List ℕ) (r : script-specs.declared.Script.Script) (R : Decoded s r) (t : ℕ) (below : t < r.shape.ticks) where
   -- the delay of a request is the plan's, and of 16 ticks each has its own rows
-  delay_same : (p b : ℕ) → p ≤ (header_of (width_in r) s).readers → b < (plan_of (width_in r) s).n → link_delay s r.links t (r.rules.n + p) b ≡ (plan_of (width_in r) s).delay t ((plan_of (width_in r) s).n + p) b
+  delay_same : (p b : ℕ) → p ≤ (header_of (width_in r) s).readers → b < (plan_of (width_in r) s).n → link_delay s r.links t (r.links.n + p) b ≡ (plan_of (width_in r) s).delay t ((plan_of (width_in r) s).n + p) b
   unfolding plan_of is_link
   delay_same p b h l =
-      rw R.scripted.rules.n (tables-laws.Placing.link_delay_lem (width_in r) s R.playable r.links R.scripted.links t ((header_of (width_in r) s).n + p) b
+      subst (λ n. link_delay s r.links t (n + p) b ≡ (plan_of (width_in r) s).delay t ((plan_of (width_in r) s).n + p) b) (sym R.scripted.links.n)
+      (tables-laws.Placing.link_delay_lem (width_in r) s R.playable r.links R.scripted.links t ((header_of (width_in r) s).n + p) b
       (omega (arith, script-laws.Feeding.ticks_same s r R)) (omega arith) (omega arith)
       (rw (le-ltb ((header_of (width_in r) s).n + p) (header_of (width_in r) s).n (omega arith), lt-ltb b (header_of (width_in r) s).n l) tt))
 
   reaches : (p u b : ℕ) → p ≤ (header_of (width_in r) s).readers → b < (plan_of (width_in r) s).n → t < u → u ≤ t + 16
-      → (q : ℕ) → asked_by s r.links r.rules.n t p u q b ≡ eqb q p && eqb (t + (plan_of (width_in r) s).delay t ((plan_of (width_in r) s).n + p) b) u
+      → (q : ℕ) → asked_by s r.links r.links.n t p u q b ≡ eqb q p && eqb (t + (plan_of (width_in r) s).delay t ((plan_of (width_in r) s).n + p) b) u
   unfolding asked_by
   reaches p u b h l lo hi q =
       let d = delay_range (width_in r) s R.playable t ((plan_of (width_in r) s).n + p) b in
-      rw (lt-ltb b r.rules.n (omega (arith, ticking-laws.Tables.servers_same s r R)), delay_same p b h l, own_rows (suc t) (t + (plan_of (width_in r) s).delay t ((plan_of (width_in r) s).n + p) b) u (omega (arith, d.0)) (omega (arith, d.1, (script-laws.Feeding.range s r R).delta_hi)) lo (omega arith))
+      rw (lt-ltb b r.links.n (omega (arith, ticking-laws.Tables.links_same s r R)), delay_same p b h l, own_rows (suc t) (t + (plan_of (width_in r) s).delay t ((plan_of (width_in r) s).n + p) b) u (omega (arith, d.0)) (omega (arith, d.1, (script-laws.Feeding.range s r R).delta_hi)) lo (omega arith))
 
   -- ---- the write
 
@@ -43,7 +44,7 @@ module _ (s : List ℕ) (r : script-specs.declared.Script.Script) (R : Decoded s
     abbrev next : Bool
     next = begins r.writes.begun r.writes.known.m t number
 
-    pub written_next : (number₁ : ℕ) (a b : List ℕ) → WroteOn s r.links r.rules.n t r.writes.begun r.writes.known.m number number₁ a b
+    pub written_next : (number₁ : ℕ) (a b : List ℕ) → WroteOn s r.links r.links.n t r.writes.begun r.writes.known.m number number₁ a b
         → script-specs.Inputs.LatestWrite r.writes.begun r.writes.known.m (suc t) number₁
     written_next number₁ a b W =
         let on = script-laws.Knowing.latest_next (width_in r) s R.playable r.writes.known r.writes.begun R.scripted.writes t number latest in
@@ -56,20 +57,20 @@ module _ (s : List ℕ) (r : script-specs.declared.Script.Script) (R : Decoded s
           ]
         ]
 
-    write-now : (u b : ℕ) → t < u → u ≤ t + 16 → b < (plan_of (width_in r) s).n → next && asked_by s r.links r.rules.n t 0 u 0 b ≡ write_begins (plan_of (width_in r) s) t u b
+    write-now : (u b : ℕ) → t < u → u ≤ t + 16 → b < (plan_of (width_in r) s).n → next && asked_by s r.links r.links.n t 0 u 0 b ≡ write_begins (plan_of (width_in r) s) t u b
     write-now u b lo hi l =
         rw (reaches 0 u b (omega arith) l lo hi 0, add-zero (plan_of (width_in r) s).n)
         (sym (script-laws.Knowing.write_begins_lem (width_in r) s R.playable r.writes.known r.writes.begun R.scripted.writes t u b number latest))
 
-    no_write : (u x b : ℕ) → 1 ≤ x → next && asked_by s r.links r.rules.n t 0 u x b ≡ false
+    no_write : (u x b : ℕ) → 1 ≤ x → next && asked_by s r.links r.links.n t 0 u x b ≡ false
     unfolding asked_by
-    no_write u x b h = rw (ne_eqb x 0 (λ e. omega arith), and-false (ltb b r.rules.n), and-false next)
+    no_write u x b h = rw (ne_eqb x 0 (λ e. omega arith), and-false (ltb b r.links.n), and-false next)
 
     -- ---- the reads
 
     module _ (k k' : ℕ) (U : Until r.reads.begun r.reads.m 0 t k) (N : Until r.reads.begun r.reads.m 0 (t + 1) k') (h : k ≤ k') where
       abbrev asks : ℕ → ℕ → ℕ → Bool
-      asks = asked_between s r.links r.rules.n t r.reads.reader k k'
+      asks = asked_between s r.links r.links.n t r.reads.reader k k'
 
       reader-few : (i : ℕ) → i < r.reads.m → get_or r.reads.reader i 0 ≤ (header_of (width_in r) s).readers
       reader-few i l = (read_stands (width_in r) s R.playable (read_at r.reads i) (ticking-laws.Tables.listed s r R i l)).reader_hi
@@ -78,7 +79,7 @@ module _ (s : List ℕ) (r : script-specs.declared.Script.Script) (R : Decoded s
       no_read : (u b : ℕ) → asks u 0 b ≡ false
       unfolding asked_between asked_by
       no_read u b = T_iff _ false (λ y.
-          let (i, l, z) = any_up_to_e k' (λ i. leb k i && asked_by s r.links r.rules.n t (get_or r.reads.reader i 0) u 0 b) y in
+          let (i, l, z) = any_up_to_e k' (λ i. leb k i && asked_by s r.links r.links.n t (get_or r.reads.reader i 0) u 0 b) y in
           let e = eqb→eq 0 (get_or r.reads.reader i 0) (search (and_l, and_r)) in
           absurd (omega (arith, e, (ticking-laws.Tables.reader_range s r R i (omega (arith, N.few))).0))) (λ y. absurd y)
 
@@ -86,7 +87,7 @@ module _ (s : List ℕ) (r : script-specs.declared.Script.Script) (R : Decoded s
       unfolding asked_between read_begins
       read-now u x b lo hi l = T_iff _ _
           (λ y.
-          let (i, li, z) = any_up_to_e k' (λ i. leb k i && asked_by s r.links r.rules.n t (get_or r.reads.reader i 0) u x b) y in
+          let (i, li, z) = any_up_to_e k' (λ i. leb k i && asked_by s r.links r.links.n t (get_or r.reads.reader i 0) u x b) y in
           let m : i < r.reads.m = omega (arith, N.few) in
           let after = leb→le k i (search and_l) in
           let now : get_or r.reads.begun i 0 ≡ t = omega (arith, ticking-laws.Tables.not_before s r R t k i U after m, N.below i (omega arith) li) in
@@ -106,14 +107,14 @@ module _ (s : List ℕ) (r : script-specs.declared.Script.Script) (R : Decoded s
           let after : k ≤ i = elim (dec_le k i) [ yes a ↦ a | no a ↦ absurd (omega (arith, U.below i (omega arith) (omega arith))) ] in
           let early : i < k' = elim (dec_le k' i) [ yes a ↦ absurd (omega (arith, ticking-laws.Tables.not_before s r R (t + 1) k' i N a m)) | no a ↦ omega arith ] in
           let hits = same_arrival (plan_of (width_in r) s) b u t q.begun (get_or r.reads.reader i 0) x (sym now) er (and_r (eqb q.reader x) _ w) in
-          any_up_to_i k' (λ i. leb k i && asked_by s r.links r.rules.n t (get_or r.reads.reader i 0) u x b) i early
+          any_up_to_i k' (λ i. leb k i && asked_by s r.links r.links.n t (get_or r.reads.reader i 0) u x b) i early
           (and_i (leb k i) _ (le→leb k i after) (subst T (sym (reaches (get_or r.reads.reader i 0) u b (reader-few i m) l lo hi x))
           (and_i (eqb x (get_or r.reads.reader i 0)) _ (subst (λ (y : ℕ). T (eqb x y)) (sym er) (eqb_refl x)) hits))))
 
       -- ---- all together
 
       pub requested_after : (number₁ : ℕ) (work middle after : List ℕ) → Requested (plan_of (width_in r) s) t work
-          → WroteOn s r.links r.rules.n t r.writes.begun r.writes.known.m number number₁ work middle → Asked middle after asks → Requested (plan_of (width_in r) s) (suc t) after
+          → WroteOn s r.links r.links.n t r.writes.begun r.writes.known.m number number₁ work middle → Asked middle after asks → Requested (plan_of (width_in r) s) (suc t) after
       requested_after number₁ work middle after Q W A =
           requested_next (plan_of (width_in r) s) (good (width_in r) s R.playable) (ticking-laws.Tables.knows s r R).slow t work after Q
           (λ u b lo hi l. A.requests u 0 b (omega arith) ∙ (rw (W.requests u 0 b (omega arith), no_read u b, write-now u b lo hi l) (or-false _)))

@@ -32,6 +32,10 @@ module _ (s : List ℕ) (r : Script) (R : Decoded s r) where
   unfolding plan_of
   servers_same = R.scripted.rules.n
 
+  pub links_same : r.links.n ≡ (plan_of (width_in r) s).n
+  unfolding plan_of
+  links_same = R.scripted.links.n
+
   pub delta_same : r.rules.delta ≡ (plan_of (width_in r) s).delta
   unfolding plan_of
   delta_same = R.scripted.rules.delta
@@ -69,6 +73,6 @@ module _ (s : List ℕ) (r : Script) (R : Decoded s r) where
   there k k' h l = record { ordered = h; few = omega (arith, R.scripted.reads.few); readers = λ i a b. reader_range i (omega arith) }
 
   -- every reader is a party
-  pub readers_there : (i : ℕ) → i < r.reads.m → r.rules.n + reader_at i < r.links.parties
+  pub readers_there : (i : ℕ) → i < r.reads.m → r.links.n + reader_at i < r.links.parties
   readers_there i l =
-      omega (arith, R.scripted.rules.n, R.scripted.links.parties, (read_stands (width_in r) s R.playable (read_at r.reads i) (listed i l)).reader_hi)
+      omega (arith, R.scripted.links.n, R.scripted.links.parties, (read_stands (width_in r) s R.playable (read_at r.reads i) (listed i l)).reader_hi)

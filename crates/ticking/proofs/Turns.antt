@@ -34,7 +34,7 @@ none_due s r t q B answers work sets e =
       answers = placed_none (script-specs.Script.width_in r) _ q.answered answers;
       ends = begun_none r.reads.reader (t + 2 * r.rules.delta) q.begun q.ends;
       table = set_up_none r.reads.reader q.begun sets;
-      asked = between_none s r.links r.rules.n t r.reads.reader q.begun work;
+      asked = between_none s r.links r.links.n t r.reads.reader q.begun work;
     }
 
 -- ---- one tick
@@ -82,7 +82,7 @@ module _ (s work sets : List ℕ) (r : script-specs.declared.Script.Script) (p :
 
     module _ (servers : List Server) (then work₁ : List ℕ) (fed : Ticked (feed_of s work f) p.cluster.ends p.cluster.servers servers sets then work₁ f.rules.n)
         (valued : Values f.rules.n r.writes.known.values p.cluster.servers servers) (written : ℕ) (work₂ : List ℕ)
-        (N : WroteOn s r.links r.rules.n p.tick r.writes.begun r.writes.known.m p.written written work₁ work₂)
+        (N : WroteOn s r.links r.links.n p.tick r.writes.begun r.writes.known.m p.written written work₁ work₂)
         (z : reading-specs.declared.Reading.Reading) (answers answers₁ work₃ last : List ℕ) (W : reading-specs.Reading.WentOn s r p.tick reads z answers answers₁ work₂ work₃ then last) where
       outside : SameOutside work₁ work₃
       outside = outside_trans work₁ work₂ work₃ N.outside W.asked.outside

@@ -29,14 +29,13 @@ pub struct Playing {
 // The write that begins in tick t, if there is one. The number of the last one begun then.
 pub fn write_on(work: &mut [u8], plan: &[u8], script: Script, written: u8, t: u8) -> u8
     requires { Decoded plan.now script × (t < script.shape.ticks) × (requests_end ≤ length work.old) }
-    ensures { WroteOn plan.now script.links script.rules.n t script.writes.begun script.writes.known.m written result work.old work.new }
+    ensures { WroteOn plan.now script.links script.links.n t script.writes.begun script.writes.known.m written result work.old work.new }
 {
     asking::write_on(
         work,
         plan,
         script.links,
-        script.rules.n,
-        usize::from(t),
+        t,
         &script.writes.begun,
         script.writes.known.m,
         written,
@@ -53,7 +52,7 @@ pub fn read_on(
     script: Script,
     t: u8,
 ) -> Reading
-    requires { Begun script r × Linked plan.now script.links script.rules.n (t + 1) × (script.rules.delta ≤ 15) × (answer_size (width_in script) * script.reads.m ≤ length answers.old)
+    requires { Begun script r × Linked plan.now script.links script.links.n (t + 1) × (script.rules.delta ≤ 15) × (answer_size (width_in script) * script.reads.m ≤ length answers.old)
         × (requests_end ≤ length work.old) }
     ensures { WentOn plan.now script t r result answers.old answers.new work.old work.new sets.old sets.new }
 {

@@ -5,7 +5,7 @@ use Rattle.script.proofs.Forging.{fillable, forged}
 use Rattle.script.proofs.enter.Goals as goal
 
 pub fill-requires : goal.fill-requires
-fill-requires c = rw (c.from-count.ensures, c.from.ensures) (fillable c.args.header.width c.args.plan.now c.requires.0 c.args.header c.requires.2 _ c.forgeries_at-at.ensures.0
+fill-requires c = rw c.from-count.ensures (fillable c.args.header.width c.args.plan.now c.requires.0 c.args.header c.requires.2 _ c.forgeries_at-at.ensures.0
     c.args.links c.requires.3 c.requires.1 _ _ c.requires.4 c.requires.5)
 
 pub starts-requires : goal.starts-requires

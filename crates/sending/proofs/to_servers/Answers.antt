@@ -7,6 +7,6 @@ pub of-requires : goal.of-requires
 of-requires c = let f = c.args.from in
     let L = c.requires.linked in (
       L.servers,
-      omega (arith, c.row_bit-bit.ensures, link_inside _ f.links f.n f.t L f.i (omega (arith, c.requires.sender, L.writer)), L.writer),
-      omega (arith, c.row_bit-bit.ensures, link_small _ f.links f.n f.t L f.i (omega (arith, c.requires.sender, L.writer))),
+      omega (arith, c.row_bit-bit.ensures, link_inside _ f.links f.links.n f.t L f.i (omega (arith, c.requires.sender, L.writer)), L.writer),
+      omega (arith, c.row_bit-bit.ensures, link_small _ f.links f.links.n f.t L f.i (omega (arith, c.requires.sender, L.writer))),
     )

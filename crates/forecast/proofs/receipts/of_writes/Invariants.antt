@@ -8,4 +8,4 @@ use Rattle.forecast.specs.Steps.{receipts_by}
 use Rattle.forecast.proofs.receipts.of_writes.Given as goal
 
 abbrev pub invariant-loop-j : goal.invariant-loop-j
-invariant-loop-j l = (1 ≤ l.j) × (l.r ≤ most_servers * (l.j - 1)) × (l.r ≡ sum (λ i. receipts_by l.plan l.links l.n l.placements (get_or l.writes.begun (i + 1) 0)) (l.j - 1))
+invariant-loop-j l = (1 ≤ l.j) × (l.r ≤ most_servers * (l.j - 1)) × (l.r ≡ sum (λ i. receipts_by l.plan l.links l.links.n l.placements (get_or l.writes.begun (i + 1) 0)) (l.j - 1))

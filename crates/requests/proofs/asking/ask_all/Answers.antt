@@ -8,4 +8,4 @@ loop-i-init c = between_none _ _ _ _ _ _ _
 pub loop-i-preserved : goal.loop-i-preserved
 loop-i-preserved c = let l = c.loop-i in
     let a = c.args in
-    between_more _ a.links a.n a.t a.by.now a.from _ _ _ l.i l.auto.i l.invariant (rw c.from.ensures at c.ask.ensures)
+    between_more _ a.links a.links.n a.t a.by.now a.from _ _ _ l.i l.auto.i l.invariant (rw c.from.ensures at c.ask.ensures)

@@ -4,10 +4,10 @@ use Rattle.tables.proofs.LinkLaws.{parties_few, link_at, link_small, link_inside
 use Rattle.tables.proofs.delays.delay.Goals as goal
 
 pub overflow_add-row_bit : goal.overflow_add-row_bit
-overflow_add-row_bit c = omega (arith, c.row_bit.ensures, link_small _ c.args.links c.args.n c.args.u c.requires.linked c.args.i c.requires.sender, c.requires.receiver, parties_few _ c.args.links c.args.n c.args.u c.requires.linked)
+overflow_add-row_bit c = omega (arith, c.row_bit.ensures, link_small _ c.args.links c.args.links.n c.args.u c.requires.linked c.args.i c.requires.sender, c.requires.receiver, parties_few _ c.args.links c.args.links.n c.args.u c.requires.linked)
 
 pub nibble-requires : goal.nibble-requires
-nibble-requires c = omega (arith, c.row_bit.ensures, link_inside _ c.args.links c.args.n c.args.u c.requires.linked c.args.i c.requires.sender, c.requires.receiver)
+nibble-requires c = omega (arith, c.row_bit.ensures, link_inside _ c.args.links c.args.links.n c.args.u c.requires.linked c.args.i c.requires.sender, c.requires.receiver)
 
 pub returns : goal.returns
 returns c = let a = c.args in
