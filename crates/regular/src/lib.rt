@@ -13,6 +13,8 @@ use tables::operations::Writes;
 pub struct Times {
     pub writes: Writes,
     pub delta: u8,
+    // There is the initial pair.
+    pub ghost some: { 1 ≤ writes.known.m },
 }
 
 // Did a write begun in tick `begun` finish before a read begun in tick `read`?

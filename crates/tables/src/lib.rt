@@ -32,12 +32,11 @@ pub struct Links {
     pub parties: usize,
 }
 
-// The values of the pairs 0 .. m - 1: of the initial pair, and of as many more as have a place.
+// The values of the pairs 0 .. m - 1: as many as have a place.
 #[derive(Clone, Copy)]
 pub struct Known {
     pub values: [u32; PLACES],
     pub m: usize,
-    pub ghost some: { 1 ≤ m },
     pub ghost few: { m ≤ places },
 }
 
