@@ -63,10 +63,10 @@ fn write(out: &mut [u8], plan: &[u8], h: Shape, width: u8)
     let at = moving::copy(out, plan, at, Shape::PLACEMENT_BITS * h.moves());
     let had = Operation::widths(h.width);
     let wanted = Operation::widths(width);
-    let at = moving::records(out, &wanted, plan, &had, at, h.operations as usize);
+    let at = moving::records(out, &wanted, plan, &had, at, usize::from(h.operations));
     let had = Forged::widths(h.width);
     let wanted = Forged::widths(width);
-    let at = forged(out, &wanted, plan, &had, at, h.forgeries as usize);
+    let at = forged(out, &wanted, plan, &had, at, usize::from(h.forgeries));
     let at = moving::copy(out, plan, at, Shape::DELAY_BITS * h.delay_count());
     bits::put(out, at.to, bits::fill(at.to), 0);
 }

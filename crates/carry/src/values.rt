@@ -51,6 +51,7 @@ fn forged_fit(plan: &[u8], first: usize, fields: Fields, limit: u64) -> bool
 }
 
 // Have all of them at most so many bits.
+#[tactic(auto, using(carrying::proofs::Values::wider_fits))]
 pub fn all_fit(plan: &[u8], h: Shape, width: u8) -> bool
     requires { Sized h.width plan.now (shape h) × (shape h ≡ header_of h.width plan.now) × (width ≤ most_width) }
     ensures { result ≡ values_fit h.width width plan.now }

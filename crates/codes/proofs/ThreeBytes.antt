@@ -3,17 +3,10 @@ use mathlib.Core.Bool.{Bool, true, false, ◌&&◌, cond}
 use mathlib.Core.List.{List, [], ◌∷◌, ◌++◌, map}
 use Prim.Native.Nat.{ℕ, zero, suc, ◌-◌, ◌≤◌}
 use native.Mathlib.Nat.{lt_of_lt_of_le}
-use lib.Dec.{ltb}
-use lib.Pow.{pow_mono}
-use lib.ListN.{length, replicate}
-use Rattle.register.specs.Plan.{value_of, number_of}
-use Rattle.register.specs.Server.{Server}
-use Rattle.register.specs.Cluster.{cluster, server_of}
+use lib.{Dec.ltb, Pow.pow_mono, ListN.length, ListN.replicate}
+use Rattle.register.specs.{Plan.value_of, Plan.number_of, Server.Server, Cluster.cluster, Cluster.server_of}
 use Rattle.register.proofs.Stamped.{value_below}
-use Rattle.plan.specs.Header.{header_of}
-use Rattle.plan.specs.Packed.{store_depth, plan_of}
-use Rattle.plan.specs.Form.{width_of, most_width}
-use Rattle.plan.specs.Check.{Outcome, refused, result, check_in}
+use Rattle.plan.specs.{Header.header_of, Packed.store_depth, Packed.plan_of, Form.width_of, Form.most_width, Check.Outcome, Check.refused, Check.result, Check.check_in}
 use Rattle.plan.proofs.Forms.{form_narrow}
 use Rattle.answers.specs.Workspace.{workspace_size, zeroed}
 use Rattle.results.specs.Look.{shown_by, place_with, empty_place, places_of, Looked, look_shown, look_refused, look_after, look_in}

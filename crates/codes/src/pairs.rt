@@ -12,19 +12,6 @@ use results::look::Pair;
 // The bytes of a pair that Look shows.
 pub const PAIR_BYTES: usize = 4;
 
-fn high(value: u32) -> u8
-    requires { value < 2 ^ most_width }
-    ensures { result ≡ value / 256 / 256 }
-{
-    (value / 256 / 256) as u8
-}
-
-fn low(value: u32) -> u8
-    ensures { result ≡ value % 256 }
-{
-    (value % 256) as u8
-}
-
 // Pair i at its own bytes, if there is room for all of them: three of the value, the highest first, and the number.
 fn put_pair(out: &mut [u8], i: usize, p: Pair)
     requires { (i < store_depth) × (p.value < 2 ^ most_width) }
@@ -35,9 +22,10 @@ fn put_pair(out: &mut [u8], i: usize, p: Pair)
     if out.len() < at + PAIR_BYTES {
         return;
     }
-    out[at] = high(p.value);
-    out[at + 1] = low(p.value / 256);
-    out[at + 2] = low(p.value);
+    let [_, high, middle, low] = p.value.to_be_bytes();
+    out[at] = high;
+    out[at + 1] = middle;
+    out[at + 2] = low;
     out[at + 3] = p.number;
 }
 

@@ -5,30 +5,22 @@ ghost use Rattle.plan.specs.{Form.most_width, Header.header_of, Packed.plan_of, 
 ghost use Rattle.tables.specs.Forged.{Legible};
 ghost use Rattle.forecast.specs.Steps.{most_ticks, most_arrivals, arrival_at, Arrived};
 
-use plan::forgeries::Forged;
 use plan::header::Shape;
-use tables::{Links, forged, links_of};
+use tables::forged::{ForgedPart, delay_of};
+use tables::{Links, links_of};
 
 // One more than the last tick in which what is sent in a plan can arrive.
 const ARRIVALS: usize = Shape::MOST_TICKS as usize + Shape::MOST_DELTA as usize;
 
-// How many of the forged messages arrive in each tick. They stand from bit `offset` of `part` on.
-fn counted(
-    part: &[u8],
-    offset: usize,
-    width: u8,
-    count: usize,
-    plan: &[u8],
-    links: Links,
-) -> [u16; ARRIVALS]
-    requires { Legible width part.now offset count plan.now links links.n }
-    ensures { Arrived (arrival_at width part.now offset plan.now links) count result }
+// How many of the forged messages arrive in each tick.
+fn counted(part: &ForgedPart, plan: &[u8], links: Links) -> [u16; ARRIVALS]
+    requires { Legible part.now.width part.now.bytes.now part.now.offset part.now.count plan.now links links.n }
+    ensures { Arrived (arrival_at part.now.width part.now.bytes.now part.now.offset plan.now links) part.now.count result }
 {
-    let bits = Forged::bits(width);
     let mut r = [0u16; ARRIVALS];
-    for e in 0..count {
-        let g = forged::message_at(part, offset + bits * e, width);
-        let t = usize::from(g.at) + forged::delay_of(plan, links, g);
+    for e in 0..part.count {
+        let g = part.message(e);
+        let t = usize::from(g.at) + delay_of(plan, links, g);
         r[t] += 1;
     }
     r
@@ -46,20 +38,11 @@ fn highest(table: &[u16; ARRIVALS], ticks: usize) -> u16
     r
 }
 
-// The most forged messages that arrive in one tick of the plan. Their part is read from the byte that holds its first bit.
+// The most forged messages that arrive in one tick of the plan.
 pub fn most(plan: &[u8], h: Shape) -> u32
     requires { Playable h.width plan.now × (h.width ≤ most_width) × (shape h ≡ header_of h.width plan.now) }
     ensures { result ≡ largest (forgeries_in (plan_of h.width plan.now)) h.ticks }
 {
-    let at = h.forgeries_at();
-    let byte = at / 8;
-    let table = counted(
-        &plan[byte..],
-        at % 8,
-        h.width,
-        h.forgeries as usize,
-        plan,
-        links_of(h),
-    );
+    let table = counted(&ForgedPart::of(plan, h), plan, links_of(h));
     highest(&table, h.ticks as usize) as u32
 }

@@ -5,9 +5,8 @@ ghost use Rattle.tables.specs.Forged.{forged_at, forged_delay, most_entries};
 ghost use Rattle.limits.specs.Limits.{places};
 
 use limits::{NO_PAIR, PLACES};
-use plan::forgeries::Forged;
 use tables::Links;
-use tables::forged::{delay_of, message_at};
+use tables::forged::{ForgedPart, delay_of};
 
 // The byte at which the forged entries begin, behind the requests.
 pub const ENTRIES: usize = requests::END;
@@ -75,26 +74,22 @@ impl ForgedEntry {
     }
 }
 
-// All forged entries. The forged part of the plan starts at bit `offset` of `part`.
+// All forged entries, those of the forged part of the plan.
 pub fn fill(
     work: &mut [u8],
-    part: &[u8],
-    offset: usize,
-    width: u8,
-    count: usize,
+    part: &ForgedPart,
     plan: &[u8],
     links: Links,
     values: &[u32; PLACES],
     m: usize,
 )
-    requires { Fillable width work.old part.now offset count plan.now links links.n m }
-    ensures { Filled work.old work.new count (forged_at width part.now offset)
-        (λ e. forged_delay plan.now links (forged_at width part.now offset e))
-        (λ e. known_number width values.now m (forged_at width part.now offset e)) }
+    requires { Fillable part.now.width work.old part.now.bytes.now part.now.offset part.now.count plan.now links links.n m }
+    ensures { Filled work.old work.new part.now.count (forged_at part.now.width part.now.bytes.now part.now.offset)
+        (λ e. forged_delay plan.now links (forged_at part.now.width part.now.bytes.now part.now.offset e))
+        (λ e. known_number part.now.width values.now m (forged_at part.now.width part.now.bytes.now part.now.offset e)) }
 {
-    let bits = Forged::bits(width);
-    for e in 0..count {
-        let g = message_at(part, offset + bits * e, width);
+    for e in 0..part.count {
+        let g = part.message(e);
         let entry = ForgedEntry {
             sent: g.at,
             arrival: g.at + delay_of(plan, links, g) as u8,

@@ -8,18 +8,18 @@ use native.Mathlib.Omega.{arith}
 use lib.ListN.{length}
 use borrow.Author.Tests.{le-leb, eq-eqb, eqb-true}
 use Rattle.bits.specs.{Field.field_of, Field.Bytes, Fill.fill, Fill.bytes_for}
-use Rattle.bits.proofs.{Packing.in_final}
-use Rattle.register.proofs.{Logic.T_eq}
+use Rattle.bits.proofs.Packing.{in_final}
+use Rattle.register.proofs.Logic.{T_eq}
 use Rattle.plan.specs.{Form.is_form, Form.width_of, Header.header_of, Header.header_bits, Header.bit_length, Check.Outcome, Check.refused, Check.result, Check.check_of, Buffer.Buffered, Buffer.into_buffer}
 use Rattle.plan.specs.Check as check
 use Rattle.plan.proofs.Accept as accept
-use Rattle.plan.proofs.{Final.bytes_rounded}
-use Rattle.lists.specs.{Lists.Lists, Lists.listed, Lists.lists_of, Lists.packed_plan, Lists.plan_bits, Lists.reads_listed}
+use Rattle.plan.proofs.Final.{bytes_rounded}
+use Rattle.lists.specs.Lists.{Lists, listed, lists_of, packed_plan, plan_bits, reads_listed}
 use Rattle.lists.proofs.Inverse as inverse
 use Rattle.lists.proofs.Again as again
-use Rattle.lists.proofs.{Counted.reads_listed_lem}
+use Rattle.lists.proofs.Counted.{reads_listed_lem}
 use Rattle.pack.specs.{Pack.lengths_implied, Pack.pack_of, Pack.pack_in, Inverse.PacksWell, Inverse.IsPacking}
-use Rattle.pack.proofs.{Tests.Passed, Tests.tests_passed, Tests.passes_tests, Tests.outcome_tests, Tests.form_packs, Tests.no_form_packs}
+use Rattle.pack.proofs.Tests.{Passed, tests_passed, passes_tests, outcome_tests, form_packs, no_form_packs}
 
 -- lists that fit have the lengths that the header implies
 fit_lengths : (w : ℕ) (l : Lists) → inverse.Fit w l → lengths_implied w (listed l) l ≡ true

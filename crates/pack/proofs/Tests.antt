@@ -5,17 +5,12 @@ use mathlib.Core.Bool.{Bool, true, false, ◌&&◌, and-eq-true_iff}
 use mathlib.Core.List.{List}
 use Prim.Native.Nat.{ℕ, ◌<◌}
 use native.Mathlib.Omega.{arith}
-use lib.Dec.{T, leb, lit<}
-use lib.ListN.{length}
+use lib.{Dec.T, Dec.leb, Dec.lit<, ListN.length}
 use Rattle.bits.specs.Layout.{fits}
 use Rattle.register.proofs.Logic.{T_eq}
-use Rattle.plan.specs.Form.{is_form, width_of}
-use Rattle.plan.specs.Header.{Header}
+use Rattle.plan.specs.{Form.is_form, Form.width_of, Header.Header, Check.refused, Check.result, CheckParts.Tests, CheckParts.done, CheckParts.test, CheckParts.run, Buffer.into_buffer}
 use Rattle.plan.specs.Widths as widths
 use Rattle.plan.specs.Check as check
-use Rattle.plan.specs.Check.{refused, result}
-use Rattle.plan.specs.CheckParts.{Tests, done, test, run}
-use Rattle.plan.specs.Buffer.{into_buffer}
 use Rattle.plan.proofs.{Chain.Left, Chain.all_passed, Chain.refusal_by, Buffer.into_outcome}
 use Rattle.lists.specs.Lists as lists
 use Rattle.lists.specs.Lists.{Lists, listed, packed_plan}

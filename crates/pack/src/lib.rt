@@ -33,6 +33,7 @@ fn are_implied(h: Shape, parts: &Parts) -> bool
 }
 
 // The bits of all lists, from the first bit on.
+#[tactic(auto, using(plan::proofs::Sizes::width_times, bits::proofs::Packing::fits_length), unfolding(records::specs::Records::no_wider))]
 fn write(own: &mut [u8], h: Shape, header: &[u32], parts: &Parts)
     requires { (length own.old ≡ implied_bytes) × (h.width ≤ most_width) × Listed h.width (with_header header.now parts.now) (shape h) }
     ensures { Bytes own.new × Wrote own.old own.new 0 (plan_bits h.width (with_header header.now parts.now)) }
@@ -66,6 +67,7 @@ fn write(own: &mut [u8], h: Shape, header: &[u32], parts: &Parts)
 }
 
 // Do the placements fit, and stand in the plan that they are packed to.
+#[tactic(auto, unfolding(records::specs::Records::no_wider))]
 fn placements_pass(plan: &[u8], h: Shape, placements: &[u32]) -> bool
     requires { Sized h.width plan.now (shape h) × (length placements.now ≡ length placement_widths * moves (shape h)) }
     ensures { result ≡ fits (placements_widths (shape h)) placements.now && placements_stand h.width plan.now (shape h) }
@@ -74,6 +76,7 @@ fn placements_pass(plan: &[u8], h: Shape, placements: &[u32]) -> bool
         && placements::all_stand(plan, h)
 }
 
+#[tactic(auto, unfolding(records::specs::Records::no_wider))]
 fn operations_pass(plan: &[u8], h: Shape, operations: &[u32]) -> bool
     requires { Sized h.width plan.now (shape h) × (length operations.now ≡ length (operation_widths h.width) * h.operations) }
     ensures { result ≡ fits (operations_widths h.width (shape h)) operations.now && operations_stand h.width plan.now (shape h) }
@@ -83,6 +86,7 @@ fn operations_pass(plan: &[u8], h: Shape, operations: &[u32]) -> bool
         && operations::all_stand(plan, h)
 }
 
+#[tactic(auto, unfolding(records::specs::Records::no_wider))]
 fn forgeries_pass(plan: &[u8], h: Shape, forgeries: &[u32]) -> bool
     requires { Sized h.width plan.now (shape h) × (shape h ≡ header_of h.width plan.now) × (operations_stand h.width plan.now (shape h) ≡ true)
         × (length forgeries.now ≡ length (forgery_widths h.width) * h.forgeries) }
@@ -125,6 +129,7 @@ fn finish(plan: &[u8], h: Shape, parts: &Parts, out: &mut [u8]) -> Result<usize,
 }
 
 // Are there ten numbers that fit the header's fields.
+#[tactic(auto, using(bits::proofs::Packing::fits_not), unfolding(records::specs::Records::no_wider))]
 fn is_header(numbers: &[u32], width: u8) -> bool
     requires { width ≤ most_width }
     ensures { result ≡ fits (header_widths width) numbers.now }
@@ -158,6 +163,7 @@ fn pack_at(width: u8, header: &[u32], parts: &Parts, out: &mut [u8]) -> Result<u
 }
 
 // In the form that the caller names.
+#[tactic(auto, using(crate::proofs::Tests::form_packs, crate::proofs::Tests::no_form_packs))]
 pub fn pack(
     form: usize,
     header: &[u32],

@@ -13,6 +13,7 @@ ghost use Rattle.script.specs.Script.{Entered, Scripted, width_in};
 use forging::entries;
 use forging::entries::STARTS;
 use plan::header::Shape;
+use tables::forged::ForgedPart;
 use tables::operations::{Reads, Writes};
 use tables::{Links, Rules, links_of, operations, rules_of};
 
@@ -29,26 +30,22 @@ pub struct Script {
     pub starts: [u16; STARTS],
 }
 
-// The forged entries, into the workspace, and where those of each tick start. The forged part is read from the byte that holds its first bit.
+// The forged entries, into the workspace, and where those of each tick start.
 fn enter(plan: &[u8], work: &mut [u8], header: Shape, links: Links, writes: Writes) -> [u16; STARTS]
     requires { Playable header.width plan.now × (header.width ≤ most_width) × (shape header ≡ header_of header.width plan.now)
         × LinksOf header.width (shape header) links × (entries_end ≤ length work.old) × (writes.known.m ≤ places) }
     ensures { Entered header.width plan.now work.old work.new writes.known.values writes.known.m result }
 {
-    let at = header.forgeries_at();
-    let count = usize::from(header.forgeries);
+    let part = ForgedPart::of(plan, header);
     entries::fill(
         work,
-        &plan[at / 8..],
-        at % 8,
-        header.width,
-        count,
+        &part,
         plan,
         links,
         &writes.known.values,
         writes.known.m,
     );
-    entries::starts(work, count)
+    entries::starts(work, part.count)
 }
 
 // Decodes a plan that can be played.

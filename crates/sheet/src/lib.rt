@@ -19,6 +19,7 @@ use regular::Times;
 const OTHER_LINES: usize = 3;
 
 // The line of read i.
+#[tactic(auto, using(crate::proofs::Rows::reader_low, crate::proofs::Rows::count_low))]
 fn line_of(answers: &[u8], width: u8, i: usize, times: &Times) -> [u8; COLUMNS]
     requires { (answer_size width * i + answer_size width ≤ length answers.now) × (i < 256) × (width ≤ most_width) }
     ensures { (s values : List ℕ) (count : ℕ) → Answered width s answers.now count → i < count
@@ -38,6 +39,7 @@ fn line_of(answers: &[u8], width: u8, i: usize, times: &Times) -> [u8; COLUMNS]
 }
 
 // The lines of all reads, from place `start` of the page on, and the place behind them.
+#[tactic(auto, using(plan::proofs::Accept::playable, fitting::proofs::Decoded::few_answers, bits::proofs::Records::record_inside, page::proofs::Lines::lines_length))]
 fn put_reads(
     page: &mut [u8],
     start: usize,
@@ -59,6 +61,7 @@ fn put_reads(
 }
 
 // The whole page, and its length.
+#[tactic(auto, using(page::proofs::Rows::heading_length, page::proofs::Rows::rule_length, crate::proofs::Pages::line_next))]
 fn write(page: &mut [u8], plan: &[u8], width: u8, answers: &[u8], count: usize) -> usize
     requires { (width ≤ most_width) × Answered width plan.now answers.now count }
     ensures { Stored page.old 0 (page_of width plan.now answers.now) page.new result }
@@ -73,6 +76,7 @@ fn write(page: &mut [u8], plan: &[u8], width: u8, answers: &[u8], count: usize) 
 }
 
 // Answers to the reads of an accepted plan.
+#[tactic(auto, using(fitting::proofs::Decoded::few_answers, crate::proofs::Pages::too_short))]
 fn sheet_at(
     plan: &[u8],
     width: u8,

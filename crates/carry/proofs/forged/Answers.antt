@@ -1,16 +1,10 @@
 -- `forged` meets its contract: the records of the part are those of the plan.
 use Prim.Native.Nat.{◌/◌}
 use native.Mathlib.Omega.{arith}
-use lib.ListN.{length-drop}
 use Rattle.bits.specs.Layout.{records}
 use Rattle.register.proofs.Lists.{part_from}
 use Rattle.carry.proofs.Fields.{part_numbers}
 use Rattle.carry.proofs.forged.Goals as goal
-
-pub records-next-requires : goal.records-next-requires
-records-next-requires c = let a = c.args in
-    rw (part_from (a.at.from / 8) a.plan.now, length-drop (a.at.from / 8) a.plan.now)
-    (c.requires.0, c.requires.1, c.requires.2, omega (arith, c.requires.3), c.requires.4, omega (arith, c.requires.5), c.requires.6)
 
 pub returns : goal.returns
 returns c = let a = c.args in

@@ -42,8 +42,8 @@ place3 : (c : After-records-at) → let a = c.args in
 place3 c =
     let b = c.records-at.ensures.1 in
     let p = place2 (goal.at.After-records-at c).After-copy-at in
-    let from = rw c.widths-had.ensures at b.from in
-    let to = rw c.widths-wanted.ensures at b.to in
+    let from = rw (c.widths-had.ensures, c.from.ensures) at b.from in
+    let to = rw (c.widths-wanted.ensures, c.from.ensures) at b.to in
     (omega (arith, from, p.0), omega (arith, to, p.1))
 
 place4 : (c : After-forged-at) → let a = c.args in
@@ -51,8 +51,8 @@ place4 : (c : After-forged-at) → let a = c.args in
 place4 c =
     let b = c.forged-at.ensures.1 in
     let p = place3 (goal.at.After-forged-at c).After-records-at in
-    let from = rw c.widths-had-2.ensures at b.from in
-    let to = rw c.widths-wanted-2.ensures at b.to in
+    let from = rw (c.widths-had-2.ensures, c.from-2.ensures) at b.from in
+    let to = rw (c.widths-wanted-2.ensures, c.from-2.ensures) at b.to in
     (omega (arith, from, p.0), omega (arith, to, p.1))
 
 place5 : (c : After-copy-at-2) → let a = c.args in c.copy-at-2.result.to ≡ header.bit_length a.width (shape a.h)
@@ -81,7 +81,7 @@ records-at-requires c = let r = there (goal.at.records-at-requires c).Start in
     let size = c.copy-at.ensures.0.size ∙ c.record-at.ensures.0.size in
     let a = narrow c.args.h.width c.requires.0.narrow in
     let b = narrow c.args.width c.requires.2 in
-    rw (c.widths-had.ensures, c.widths-wanted.ensures)
+    rw (c.widths-had.ensures, c.widths-wanted.ensures, c.from.ensures)
     (rw a tt, rw b tt, refl, omega (arith, r.read, p.0), omega (arith, r.written, p.1, size), omega (arith, r.near, p.0), omega (arith, r.near_there, p.1))
 
 pub forged-at-requires : goal.forged-at-requires
@@ -91,11 +91,8 @@ forged-at-requires c = let r = there (goal.at.forged-at-requires c).Start in
     let size = c.records-at.ensures.0.size ∙ c.copy-at.ensures.0.size ∙ c.record-at.ensures.0.size in
     let a = narrow c.args.h.width c.requires.0.narrow in
     let b = narrow c.args.width c.requires.2 in
-    rw (c.widths-had-2.ensures, c.widths-wanted-2.ensures)
+    rw (c.widths-had-2.ensures, c.widths-wanted-2.ensures, c.from-2.ensures)
     (rw a tt, rw b tt, refl, omega (arith, r.read, p.0), omega (arith, r.written, p.1, size), omega (arith, r.near, p.0), omega (arith, r.near_there, p.1))
-
-pub delay_count-requires : goal.delay_count-requires
-delay_count-requires c = c.requires.0.ranged
 
 pub copy-at-requires-2 : goal.copy-at-requires-2
 copy-at-requires-2 c = let r = there (goal.at.copy-at-requires-2 c).Start in
@@ -111,9 +108,6 @@ put-requires c = let r = there (goal.at.put-requires c).Start in
     let size = c.copy-at-2.ensures.0.size ∙ c.forged-at.ensures.0.size ∙ c.records-at.ensures.0.size ∙ c.copy-at.ensures.0.size ∙ c.record-at.ensures.0.size in
     (omega (arith, c.fill.ensures), omega (arith, r.written, p, e, size), omega (arith, r.near_there, p))
 
-pub shape_of-out : goal.shape_of-out
-shape_of-out c = c.put.ensures.size ∙ c.copy-at-2.ensures.0.size ∙ c.forged-at.ensures.0.size ∙ c.records-at.ensures.0.size ∙ c.copy-at.ensures.0.size ∙ c.record-at.ensures.0.size
-
 pub returns : goal.returns
 returns c = let a = c.args in
     let s = a.plan.now in
@@ -121,8 +115,8 @@ returns c = let a = c.args in
     plan_moved a.h.width a.width s (shape a.h) c.requires.1 c.requires.3 _ _ _ _ _ _ _
     (same_record s 0 c.header_widths-had.ensures c.header_widths-wanted.ensures c.record-at.ensures.0)
     (same_bits s header.placement_bits c.moves.ensures.0 (place1 (goal.at.returns c).After-record-at) c.copy-at.ensures.0)
-    (same_records s a.h.operations c.widths-had.ensures c.widths-wanted.ensures (place2 (goal.at.returns c).After-copy-at) c.records-at.ensures.0)
-    (same_records s a.h.forgeries c.widths-had-2.ensures c.widths-wanted-2.ensures (place3 (goal.at.returns c).After-records-at) c.forged-at.ensures.0)
+    (same_records s a.h.operations c.widths-had.ensures c.widths-wanted.ensures (place2 (goal.at.returns c).After-copy-at) (rw c.from.ensures at c.records-at.ensures.0))
+    (same_records s a.h.forgeries c.widths-had-2.ensures c.widths-wanted-2.ensures (place3 (goal.at.returns c).After-records-at) (rw c.from-2.ensures at c.forged-at.ensures.0))
     (same_bits s header.delay_bits c.delay_count.ensures.0 (place4 (goal.at.returns c).After-forged-at) c.copy-at-2.ensures.0)
     (same_fill c.fill.ensures (place5 (goal.at.returns c).After-copy-at-2) c.put.ensures)
     (λ i. omega (arith, c.slice_known-1.given i)) (λ i. omega (arith, c.type_inv.out i)) c.requires.4

@@ -1,15 +1,12 @@
 -- `finish` meets its contract: it goes along the chain of the parts' tests.
-use mathlib.Core.Bool.{and-eq-true_iff}
 use Prim.Native.Nat.{ℕ}
 use mathlib.Core.List.{List}
 use lib.ListN.{length}
 use borrow.Author.Tests.{le-leb, lt-leb}
-use borrow.Author.Rules.{rules}
-use Rattle.bits.specs.Layout.{fits}
-use Rattle.plan.specs.{Check.result, Check.operations_stand, CheckParts.behind, Shape.shape}
+use Rattle.plan.specs.{Check.result, CheckParts.behind, Shape.shape}
 use Rattle.plan.proofs.{Chain.Left, Chain.goes, Chain.stops, Chain.ends, Chain.met, Chain.missed, Buffer.into_refused, Buffer.into_result}
 use Rattle.plan.specs.declared.header.Shape.{Shape}
-use Rattle.lists.specs.Lists.{Lists, operations_widths}
+use Rattle.lists.specs.Lists.{Lists}
 use Rattle.pack.specs.{Pack.part_tests, Numbered.parts_of}
 use Rattle.pack.proofs.Tests.{part_chain, parts_left}
 use Rattle.pack.proofs.finish.Goals.{Else-not-delays_pass, Else-not-forgeries_pass, Else-not-operations_pass, Else-not-placements_pass, Else-out-plan}
@@ -39,13 +36,6 @@ returns-then-not-placements_pass c = into_refused _ _ _ (stops (parts_left _ _ _
 
 pub returns-then-not-operations_pass : goal.returns-then-not-operations_pass
 returns-then-not-operations_pass c = into_refused _ _ _ (stops (passed1 (goal.at.returns-then-not-operations_pass c).Else-not-placements_pass) (missed c.operations_pass.ensures c.if-not-operations_pass.true-raw))
-
-pub forgeries_pass-requires : goal.forgeries_pass-requires
-forgeries_pass-requires c = let a = c.args in
-    let h = shape a.h in
-    let fit = fits (operations_widths a.h.width h) a.parts.now.operations.now in
-    let stand = operations_stand a.h.width a.plan.now h in
-    (search rules, search rules, ((and-eq-true_iff fit stand).0 (met c.operations_pass.ensures c.if-not-operations_pass.false-raw)).1, search rules)
 
 pub returns-then-not-forgeries_pass : goal.returns-then-not-forgeries_pass
 returns-then-not-forgeries_pass c = into_refused _ _ _ (stops (passed2 (goal.at.returns-then-not-forgeries_pass c).Else-not-operations_pass) (missed c.forgeries_pass.ensures c.if-not-forgeries_pass.true-raw))

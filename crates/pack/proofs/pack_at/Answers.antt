@@ -68,9 +68,6 @@ pub returns-then-not-is_header : goal.returns-then-not-is_header
 unfolding pack_of pack_tests into_buffer part_tests lengths_implied
 returns-then-not-is_header c = rw (sym c.is_header.ensures ∙ not-true _ c.if-not-is_header.true-raw)
 
-pub of-h-requires : goal.of-h-requires
-of-h-requires c = sym c.is_header.ensures ∙ not-false _ c.if-not-is_header.false-raw
-
 pub returns-then-not-is_in_range : goal.returns-then-not-is_in_range
 unfolding pack_of pack_tests into_buffer part_tests lengths_implied
 returns-then-not-is_in_range c = let e = found (λ w h. header_in_range h) c.of-h.ensures c.is_in_range.ensures ∙ not-true _ c.if-not-is_in_range.true-raw in

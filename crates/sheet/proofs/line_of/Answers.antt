@@ -5,12 +5,8 @@ use Rattle.register.specs.Plan.{Plan}
 use Rattle.plan.specs.Packed.{plan_of}
 use Rattle.results.specs.Judge.{read_of}
 use Rattle.page.specs.Page.{is_marked}
-use Rattle.sheet.proofs.Rows.{reader_low, count_low, begun_is, line_is}
+use Rattle.sheet.proofs.Rows.{begun_is, line_is}
 use Rattle.sheet.proofs.line_of.Goals as goal
-
-pub read_line-requires : goal.read_line-requires
-read_line-requires c = let is = c.read-answer.ensures in
-    (omega (arith, reader_low is), omega arith, omega (arith, count_low is))
 
 pub returns : goal.returns
 unfolding is_marked

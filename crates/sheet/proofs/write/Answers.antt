@@ -19,12 +19,6 @@ heading-wide c = ap length c.heading-heading.ensures ∙ heading_length
 rule-wide : (c : After-rule-rule) → length c.rule-rule.result ≡ line_columns
 rule-wide c = ap length c.rule-rule.ensures ∙ rule_length _
 
-pub put_line-next-requires-2 : goal.put_line-next-requires-2
-put_line-next-requires-2 c = (omega (arith, line_next c.heading-heading.result (heading-wide (goal.at.put_line-next-requires-2 c).After-heading-heading) c.put_line-next.ensures), omega (arith, rule-wide (goal.at.put_line-next-requires-2 c).After-rule-rule))
-
-pub put_reads-next-requires : goal.put_reads-next-requires
-put_reads-next-requires c = (omega (arith, line_next c.heading-heading.result (heading-wide (goal.at.put_reads-next-requires c).After-heading-heading) c.put_line-next.ensures, line_next c.rule-rule.result (rule-wide (goal.at.put_reads-next-requires c).After-rule-rule) c.put_line-next-2.ensures), c.requires.0, c.requires.1)
-
 pub put_line-requires : goal.put_line-requires
 put_line-requires c = let first = line_next c.heading-heading.result (heading-wide (goal.at.put_line-requires c).After-heading-heading) c.put_line-next.ensures in
     let second = line_next c.rule-rule.result (rule-wide (goal.at.put_line-requires c).After-rule-rule) c.put_line-next-2.ensures in

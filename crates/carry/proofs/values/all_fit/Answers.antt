@@ -1,5 +1,5 @@
 -- `values::all_fit` meets its contract: the start value fits, those that are written and those that are forged.
-use mathlib.Core.Path.{◌≡◌, sym}
+use mathlib.Core.Path.{◌≡◌}
 use mathlib.Core.Bool.{Bool, ◌&&◌}
 use mathlib.Core.List.{List}
 use Prim.Native.Nat.{ℕ, ◌^◌}
@@ -12,7 +12,6 @@ use Rattle.bits.proofs.Laws.{one_shl}
 use Rattle.register.specs.{Lists.all_up_to, Plan.value_of}
 use Rattle.plan.specs.{declared.header.Shape.Shape, Header.header_of, Parts.operation_of, Parts.forgery_of, Shape.shape}
 use Rattle.carrying.specs.Carrying.{values_fit}
-use Rattle.carrying.proofs.Values.{wider_fits}
 use Rattle.carry.proofs.Fields.{written_values, forged_values, written_inside, forged_inside}
 use Rattle.carry.proofs.values.all_fit.Goals.{then-from-limit, else-from-limit}
 use Rattle.carry.proofs.values.all_fit.Goals as goal
@@ -28,9 +27,6 @@ forged h s w = all_up_to h.forgeries (λ i. ltb (value_of h.width (forgery_of h.
 parts : (h : Shape) (s : List ℕ) (w : ℕ) → shape h ≡ header_of h.width s → values_fit h.width w s ≡ (ltb h.initial (2 ^ w) && (written h s w && forged h s w))
 unfolding values_fit
 parts h s w e = rw (← e)
-
-pub returns-then-h-width : goal.returns-then-h-width
-returns-then-h-width c = let a = c.args in sym (wider_fits a.h.width a.width a.plan.now c.if-h-width.true)
 
 pub values_fit-requires : goal.values_fit-requires
 values_fit-requires c = let a = c.args in

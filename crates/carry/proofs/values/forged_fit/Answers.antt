@@ -1,15 +1,8 @@
 -- `values::forged_fit` meets its contract: the fields of the part are those of the plan.
 use Prim.Native.Nat.{◌/◌}
-use native.Mathlib.Omega.{arith}
-use lib.ListN.{length-drop}
 use Rattle.register.proofs.Lists.{part_from}
 use Rattle.carry.proofs.Fields.{part_values}
 use Rattle.carry.proofs.values.forged_fit.Goals as goal
-
-pub values_fit-requires : goal.values_fit-requires
-values_fit-requires c = let a = c.args in
-    rw (part_from (a.first / 8) a.plan.now, length-drop (a.first / 8) a.plan.now)
-    (c.requires.0, λ i l. omega (arith, c.requires.3 i l))
 
 pub returns : goal.returns
 returns c = let a = c.args in

@@ -1,8 +1,8 @@
 -- `put_pair` meets its contract: nothing without room, else four stores, which are `stored_at` of four bytes.
-use mathlib.Core.Path.{refl}
-use Prim.Native.Nat.{◌*◌}
+use mathlib.Core.Path.{◌≡◌, refl}
+use Prim.Native.Nat.{◌*◌, ◌/◌, ◌%◌}
 use native.Mathlib.Omega.{arith}
-use lib.ListN.{length-set}
+use lib.ListN.{get_or, length-set}
 use borrow.Author.Tests.{lt-ltb, le-ltb}
 use Rattle.codes.specs.Codes.{pair_size, pair_bytes}
 use Rattle.codes.proofs.PairLaws.{stored}
@@ -23,8 +23,8 @@ bounds-out-at-4 c = simp length-set (omega arith)
 pub returns : goal.returns
 unfolding pair_bytes
 returns c = let a = c.args in
-    let high = c.high.ensures in
-    let mid = c.low.ensures in
-    let least = c.low-2.ensures in
+    let high : get_or c.to_be_bytes.result 1 0 ≡ a.p.value / 256 / 256 = rw c.to_be_bytes.ensures (omega arith) in
+    let mid : get_or c.to_be_bytes.result 2 0 ≡ a.p.value / 256 % 256 = rw c.to_be_bytes.ensures (omega arith) in
+    let least : get_or c.to_be_bytes.result 3 0 ≡ a.p.value % 256 = rw c.to_be_bytes.ensures (omega arith) in
     let all = stored a.out.now (pair_size * a.i) _ _ _ a.p.number _ _ _ high mid least in
     (simp length-set, rw (le-ltb _ _ c.if-out-at.false) all)

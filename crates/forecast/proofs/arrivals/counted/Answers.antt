@@ -3,13 +3,11 @@ use mathlib.Core.Path.{◌≡◌, ap}
 use Prim.Native.Nat.{ℕ, ◌+◌, ◌<◌}
 use native.Mathlib.Omega.{arith}
 use Rattle.register.specs.Plan.{Forgery}
-use Rattle.plan.specs.{Header.forgery_bits, Steps.forgery}
-use Rattle.plan.proofs.Sizes.{forgeries_few}
-use Rattle.bits.proofs.Records.{record_inside}
+use Rattle.plan.specs.{Steps.forgery}
 use Rattle.tables.specs.Forged.{forged_at}
 use Rattle.forecast.specs.Steps.{most_arrivals}
 use Rattle.forecast.proofs.Tables.{arrived_none, arrived_few, arrived_more}
-use Rattle.forecast.proofs.arrivals.counted.Goals.{After-delay_of, After-message_at-g}
+use Rattle.forecast.proofs.arrivals.counted.Goals.{After-delay_of, After-message-g}
 use Rattle.forecast.proofs.arrivals.counted.Goals as goal
 
 abbrev at : Forgery → ℕ
@@ -22,35 +20,21 @@ abbrev to : Forgery → ℕ
 to g = g.to
 
 -- the message that is looked at
-message : (c : After-message_at-g) → forgery c.args.width c.message_at-g.result ≡ forged_at c.args.width c.args.part.now c.args.offset c.loop-e.e
-message c = rw c.bits-bits.ensures at c.message_at-g.ensures.0
+message : (c : After-message-g) → forgery c.args.part.now.width c.message-g.result ≡ forged_at c.args.part.now.width c.args.part.now.bytes.now c.args.part.now.offset c.loop-e.e
+message c = c.message-g.ensures.0
 
 -- the tick of its arrival is in the table
 in_table : (c : After-delay_of) → c.from.result + c.delay_of.result < most_arrivals
-in_table c = omega (arith, c.from.ensures, c.message_at-g.ensures.1, c.delay_of.ensures.1)
+in_table c = omega (arith, c.from.ensures, c.message-g.ensures.1, c.delay_of.ensures.1)
 
 pub loop-e-init : goal.loop-e-init
 loop-e-init c = arrived_none _
 
-pub overflow_mul-bits : goal.overflow_mul-bits
-overflow_mul-bits c = let bits = c.bits-bits in
-    omega (arith, forgeries_few bits.result c.loop-e.e (omega (arith, c.requires.narrow, bits.ensures)) (omega (arith, c.loop-e-test.true, c.requires.few)))
-
-pub overflow_add-offset : goal.overflow_add-offset
-overflow_add-offset c = let bits = c.bits-bits in
-    omega (arith, c.requires.start, forgeries_few bits.result c.loop-e.e (omega (arith, c.requires.narrow, bits.ensures)) (omega (arith, c.loop-e-test.true, c.requires.few)))
-
-pub message_at-g-requires : goal.message_at-g-requires
-message_at-g-requires c = let h = c.loop-e in
-    let bits = c.bits-bits in
-    let l : h.e < c.args.count = c.loop-e-test.true in (
-      rw bits.ensures (omega (arith, c.requires.inside, record_inside (forgery_bits c.args.width) h.e c.args.count l)),
-      omega (arith, c.requires.start, forgeries_few bits.result h.e (omega (arith, c.requires.narrow, bits.ensures)) (omega (arith, c.requires.few))),
-      c.requires.narrow,
-    )
+pub message-g-requires : goal.message-g-requires
+message-g-requires c = (c.requires.narrow, c.requires.start, c.requires.few, c.loop-e-test.true, c.requires.inside)
 
 pub delay_of-requires : goal.delay_of-requires
-delay_of-requires c = let E = message (goal.at.delay_of-requires c).After-message_at-g in
+delay_of-requires c = let E = message (goal.at.delay_of-requires c).After-message-g in
     rw (ap at E, ap from E, ap to E) (c.requires.reach _ c.loop-e-test.true)
 
 pub overflow_add-t : goal.overflow_add-t
@@ -67,9 +51,9 @@ bounds-r-t-in-loop-e c = in_table (goal.at.bounds-r-t-in-loop-e c).After-delay_o
 
 pub loop-e-preserved : goal.loop-e-preserved
 loop-e-preserved c = let h = c.loop-e in
-    let E = message (goal.at.loop-e-preserved c).After-message_at-g in
+    let E = message (goal.at.loop-e-preserved c).After-message-g in
     arrived_more _ h.e h.r h.invariant _ (in_table (goal.at.loop-e-preserved c).After-delay_of) (rw (c.from.ensures, c.delay_of.ensures.0, ap at E, ap from E, ap to E))
 
 pub returns : goal.returns
-returns c = let e : c.loop-e.e ≡ c.args.count = omega arith in
+returns c = let e : c.loop-e.e ≡ c.args.part.now.count = omega arith in
     rw e at c.loop-e.invariant

@@ -3,4 +3,4 @@ use Rattle.forecast.specs.Steps.{arrival_at, Arrived}
 use Rattle.forecast.proofs.arrivals.counted.Given as goal
 
 abbrev pub invariant-loop-e : goal.invariant-loop-e
-invariant-loop-e l = Arrived (arrival_at l.width l.part l.offset l.plan l.links) l.e l.r
+invariant-loop-e l = Arrived (arrival_at l.part.width l.part.bytes.now l.part.offset l.plan l.links) l.e l.r

@@ -1,6 +1,6 @@
 -- `entries::fill` meets its contract. The loop's invariant: the entries passed are the forged messages, and no byte outside them has changed.
 use mathlib.Core.Path.{ap, ◌∙◌}
-use Prim.Native.Nat.{ℕ, ◌<◌}
+use Prim.Native.Nat.{ℕ}
 use native.Mathlib.Omega.{arith}
 use Rattle.register.specs.Plan.{Forgery}
 use Rattle.register.proofs.Stamped.{value_stamped, number_stamped}
@@ -19,11 +19,10 @@ to g = g.to
 
 pub loop-e-preserved : goal.loop-e-preserved
 loop-e-preserved c = let h = c.loop-e in
-    let w = c.args.width in
-    let E = rw c.bits-bits.ensures at c.message_at-g.ensures.0 in
-    let l : h.e < c.args.count = c.loop-e-test.true in
-    let g = c.message_at-g.result in
-    let v = c.message_at-g.ensures.2 in
+    let w = c.args.part.now.width in
+    let E = c.message-g.ensures.0 in
+    let g = c.message-g.result in
+    let v = c.message-g.ensures.2 in
     let known = rw (value_stamped w g.value g.number v, number_stamped w g.value g.number v) at (ap (known_number w c.args.values.now c.args.m) E) in
     let number = ◌∙◌ {b = number_in c.args.values.now c.args.m g.value g.number} c.known_number.ensures known in
     rw (c.put.ensures, c.delay_of.ensures.0, number, ap at E, ap from E, ap to E)
