@@ -2,7 +2,7 @@
 // What Forecast returns, as a number, and its six numbers in a list that the caller lends.
 ghost use Rattle.std.specs.Prelude.{◌≡◌, length};
 ghost use Rattle.forecast.specs.Numbered.{counts};
-ghost use Rattle.capi_forecast.specs.Figures.{figure_count, figures_of, figures_over, forecast_coded};
+ghost use Rattle.capi_forecast.specs.Figures.{figures_of, figures_over, forecast_coded};
 
 use forecast::Counts;
 
@@ -24,7 +24,6 @@ fn figures_of(x: Counts) -> [u32; FIGURES]
 
 // As many of them as fit, at the start of the list.
 fn put(numbers: &mut [u32], figures: &[u32; FIGURES])
-    requires { length figures.now ≡ figure_count }
     ensures { numbers.new ≡ figures_over figures.now numbers.old }
 {
     let count = numbers.len().min(FIGURES);

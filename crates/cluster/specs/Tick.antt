@@ -9,8 +9,7 @@ use Rattle.limits.specs.Limits.{most_servers, most_readers, places}
 use Rattle.calendar.specs.Layout.{slots, receivers, rows, row_of, sender}
 use Rattle.calendar.specs.View.{SamePast, Spanned, Posted}
 use Rattle.serving.specs.declared.Server.{Server}
-use Rattle.tables.specs.declared.Rules.{Rules}
-use Rattle.tables.specs.declared.Links.{Links}
+use Rattle.tables.specs.declared.{Rules.Rules, Links.Links}
 use Rattle.sending.specs.declared.Sender.{Sender}
 use Rattle.serving.specs.declared.Turn.{Turn}
 use Rattle.cluster.specs.declared.{Cluster.Cluster, Arrivals.Arrivals, Feed.Feed}

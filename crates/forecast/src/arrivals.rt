@@ -3,7 +3,7 @@ ghost use Rattle.std.specs.Prelude.{◌≡◌, ◌≤◌, length, get_or};
 ghost use Rattle.traffic.specs.Traffic.{largest, forgeries_in};
 ghost use Rattle.plan.specs.{Form.most_width, Header.header_of, Packed.plan_of, Playable.Playable, Shape.shape};
 ghost use Rattle.tables.specs.Forged.{Legible};
-ghost use Rattle.forecast.specs.Steps.{most_ticks, most_arrivals, arrival_at, Arrived};
+ghost use Rattle.forecast.specs.Steps.{most_ticks, arrival_at, Arrived};
 
 use plan::header::Shape;
 use tables::forged::{ForgedPart, delay_of};
@@ -28,7 +28,7 @@ fn counted(part: &ForgedPart, plan: &[u8], links: Links) -> [u16; ARRIVALS]
 
 // The most of the first `ticks` numbers.
 fn highest(table: &[u16; ARRIVALS], ticks: usize) -> u16
-    requires { (length table.now ≡ most_arrivals) × (ticks ≤ most_ticks) }
+    requires { ticks ≤ most_ticks }
     ensures { result ≡ largest (λ t. get_or table.now t 0) ticks }
 {
     let mut r: u16 = 0;

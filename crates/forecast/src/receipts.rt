@@ -40,7 +40,7 @@ fn free(placement: u16, b: usize) -> u32
 
 // How many servers are not faulty when they are reached: a movement comes after the deliveries of its tick, so the tick before tells.
 fn receipts(sending: Sending, placements: &[u16; TICKS]) -> u32
-    requires { Sendable sending × (length placements.now ≡ most_ticks)
+    requires { Sendable sending
         × ((b : ℕ) → b < sending.n → (1 ≤ arrival_of sending b) × (arrival_of sending b < most_ticks)) }
     ensures { (result ≡ count (λ b. not (bit (most_servers - 1 - b) (get_or placements.now (arrival_of sending b - 1) 0))) sending.n) × (result ≤ most_servers) }
 {

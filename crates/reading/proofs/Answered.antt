@@ -1,8 +1,7 @@
 -- What the code chooses is the answer of the read: pairs that are not known have no quorum, since a pair with one is genuine.
 -- It stands on the safety of reads (register).
 use mathlib.Core.Path.{◌≡◌, refl, sym, ap, ◌∙◌}
-use mathlib.Core.Bool.{Bool, ◌&&◌}
-use mathlib.Core.Logic.{◌⊎◌, inl, inr}
+use mathlib.Core.{Bool.Bool, Bool.◌&&◌, Logic.◌⊎◌, Logic.inl, Logic.inr}
 use mathlib.Core.List.{List, [], ◌∷◌}
 use Prim.Native.Nat.{ℕ, zero, suc, ◌≤◌, ◌<◌}
 use native.Mathlib.Omega.{arith}

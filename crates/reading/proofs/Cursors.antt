@@ -13,8 +13,7 @@ use mathlib.Core.Logic.{inl, inr}
 use borrow.Rule.Slice.PartMut.{put_mid}
 use borrow.Author.Tests.{lt-ltb, ltb-false}
 use Rattle.register.specs.Plan.{stamped}
-use Rattle.tables.specs.declared.Known.{Known}
-use Rattle.tables.specs.Known.{pair_at}
+use Rattle.tables.specs.{declared.Known.Known, Known.pair_at}
 use Rattle.limits.specs.Limits.{places}
 use Rattle.tallies.specs.Tallies.{of_reader, Outside, Emptied}
 use Rattle.std.specs.Prelude.{Some, None}

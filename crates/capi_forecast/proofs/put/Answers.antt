@@ -3,4 +3,4 @@ use Rattle.capi_forecast.proofs.Over.{fitting}
 use Rattle.capi_forecast.proofs.put.Goals as goal
 
 pub returns : goal.returns
-returns c = rw c.copy_from_slice.ensures.after (fitting c.args.figures.now c.args.numbers.now c.min-count.result (rw c.requires c.min-count.ensures))
+returns c = rw c.copy_from_slice.ensures.after (fitting c.args.figures.now c.args.numbers.now c.min-count.result (rw c.told-figures c.min-count.ensures))

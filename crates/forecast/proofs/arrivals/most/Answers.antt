@@ -12,7 +12,7 @@ counted-table-requires c = let P = c.of.ensures in
     rw (P.0, P.1, P.2, P.3) (legible c.args.h.width c.args.plan.now c.requires.0 c.args.h c.requires.2 _ refl _ c.links_of.ensures c.requires.1)
 
 pub highest-requires : goal.highest-requires
-highest-requires c = (c.counted-table.ensures.size, (shape_ranged c.args.h.width c.args.plan.now c.requires.0 c.args.h c.requires.2).ticks_hi)
+highest-requires c = (shape_ranged c.args.h.width c.args.plan.now c.requires.0 c.args.h c.requires.2).ticks_hi
 
 pub returns : goal.returns
 returns c = let P = c.of.ensures in

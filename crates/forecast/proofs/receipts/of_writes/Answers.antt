@@ -71,7 +71,6 @@ pub receipts-r-requires : goal.receipts-r-requires
 receipts-r-requires c = let at = goal.at.receipts-r-requires c in
     let K = delays-in at.At-loop-j c.loop-j-test.true in (
       sent_sendable _ _ _ (tick at.At-loop-j) 0 _ K.servers (omega (arith, K.ticks)) (sends at.After-of-sending),
-      c.in_force-placements.ensures.size,
       sent_within c.args.h.width c.args.plan.now c.requires.0 _ (links at.At-loop-j) c.links_of-links.result.n (servers at.At-loop-j) _ (ends at.At-loop-j c.loop-j-test.true) 0 c.of-sending.result (sends at.After-of-sending),
     )
 

@@ -14,10 +14,10 @@ pub arrival-before-requires : goal.arrival-before-requires
 arrival-before-requires c = (c.requires.0, c.loop-b-test.true)
 
 pub overflow_sub-before : goal.overflow_sub-before
-overflow_sub-before c = omega (arith, c.arrival-before.ensures.0, (c.requires.2 c.loop-b.b c.loop-b-test.true).0)
+overflow_sub-before c = omega (arith, c.arrival-before.ensures.0, (c.requires.1 c.loop-b.b c.loop-b-test.true).0)
 
 pub bounds-placements-before : goal.bounds-placements-before
-bounds-placements-before c = omega (arith, c.arrival-before.ensures.0, (c.requires.2 c.loop-b.b c.loop-b-test.true).1)
+bounds-placements-before c = omega (arith, c.arrival-before.ensures.0, (c.requires.1 c.loop-b.b c.loop-b-test.true).1)
 
 pub free-r-requires : goal.free-r-requires
 free-r-requires c = omega (arith, c.requires.0.servers, c.loop-b-test.true)
