@@ -1,5 +1,7 @@
 -- What was read lies within the buffer, and what comes after each read.
-use Rattle.std.specs.Prelude.{◌≡◌, List, ℕ, zero, suc, ◌+◌, ◌≤◌, length, take, Option, Some, None, Result, Ok, Err}
+use Rattle.std.specs.declared.ops.ControlFlow.{ControlFlow}
+use Rattle.std.specs.declared.ops.ControlFlow.TheVariants.{Break, Continue}
+use Rattle.std.specs.Prelude.{◌≡◌, List, ℕ, zero, suc, ◌+◌, ◌≤◌, length, take, Result, Ok, Err}
 use Rattle.std.specs.declared.io.Error.{Error}
 
 -- `&bytes[..n]` is in bounds and has n bytes.
@@ -17,7 +19,7 @@ Moved n (Err e) = Unit {0}
 
 -- After a read that answered so much, so many bytes being there before it: it failed, 0 is the input's end, and every other number counts
 -- more bytes.
-abbrev pub next_of : Result ℕ Error → ℕ → Result (Option ℕ) Error
+abbrev pub next_of : Result ℕ Error → ℕ → Result (ControlFlow ℕ ℕ) Error
 next_of (Err e) done = Err e
-next_of (Ok zero) done = Ok None
-next_of (Ok (suc k)) done = Ok (Some (done + suc k))
+next_of (Ok zero) done = Ok (Break done)
+next_of (Ok (suc k)) done = Ok (Continue (done + suc k))

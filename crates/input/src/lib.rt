@@ -5,17 +5,19 @@ ghost use Rattle.input.specs.Taken.{Moved, Within, next_of};
 
 use std::io;
 use std::io::Read;
+use std::ops::ControlFlow;
 
-// How many bytes are there after a read that answered `got`, with `done` bytes of the buffer's `room` taken before it; none: the input has ended.
-fn after(got: io::Result<usize>, done: usize, room: usize) -> io::Result<Option<usize>>
+// What comes after a read that answered `got`, with `done` bytes of the buffer's `room` taken before it: reading stops with so many bytes, or goes on
+// with so many.
+fn after(got: io::Result<usize>, done: usize, room: usize) -> io::Result<ControlFlow<usize, usize>>
     requires { (done ≤ room) × Moved (room - done) got }
     ensures { result ≡ next_of got done }
 {
     let more = got?;
     if more == 0 {
-        return Ok(None);
+        return Ok(ControlFlow::Break(done));
     }
-    Ok(Some(done + more))
+    Ok(ControlFlow::Continue(done + more))
 }
 
 // Reads until the input ends, the buffer is full or a read fails: how many bytes there are at the start of the buffer, or the system's reason.
@@ -26,10 +28,10 @@ pub fn take<R: Read>(input: &mut R, bytes: &mut [u8]) -> io::Result<usize>
     // Each read says how far it came, so this counts no range.
     while done < bytes.len() {
         let got = input.read(&mut bytes[done..]);
-        let Some(all) = after(got, done, bytes.len())? else {
-            return Ok(done);
-        };
-        done = all;
+        match after(got, done, bytes.len())? {
+            ControlFlow::Break(all) => return Ok(all),
+            ControlFlow::Continue(all) => done = all,
+        }
     }
     Ok(done)
 }
