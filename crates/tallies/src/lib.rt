@@ -76,7 +76,10 @@ pub fn next_period(sets: &mut [u16; CELLS], end: usize, two: bool)
     ensures { Aged sets.old sets.new end two }
 {
     if two {
-        sets.copy_within(..end, RECENT);
+        // Not `copy_within`: for that whoever links the archive would need `memmove`.
+        for c in 0..end {
+            sets[RECENT + c] = sets[c];
+        }
     } else {
         zero(sets, RECENT, RECENT + end);
     }
