@@ -13,6 +13,7 @@ use results::look::Looked;
 pub const PER_PAIR: usize = 4;
 
 // What Look returned: the condition and PER_PAIR for each pair. As many whole pairs as fit stand at the start of `pairs`; a refusal writes none.
+#[tactic(auto, using(codes::proofs::PairLaws::over_none))]
 fn of_look(l: Result<Looked, Refusal>, pairs: &mut [u8]) -> usize
     requires { ThreeBytes (places_in l) }
     ensures { (result ≡ shown_code (looked l)) × (pairs.new ≡ pairs_over (shown_pairs (looked l)) pairs.old) }

@@ -1,11 +1,7 @@
 -- `of_look` meets its contract: a refusal is passed on with the buffer as it was; else the pairs shown are stored.
 use mathlib.Core.Path.{refl}
 use native.Mathlib.Omega.{arith}
-use Rattle.codes.proofs.PairLaws.{over_none}
 use Rattle.capi_look.proofs.of_look.Goals as goal
-
-pub returns-in-Err : goal.returns-in-Err
-returns-in-Err c = rw c.in-Err.is (c.refusal.ensures, rw (over_none _))
 
 pub put_pairs-shown-requires : goal.put_pairs-shown-requires
 put_pairs-shown-requires c = rw c.in-Ok.is at c.requires

@@ -25,6 +25,8 @@ unfolding pair_bytes
 returns c = let a = c.args in
     let high : get_or c.to_be_bytes.result 1 0 ≡ a.p.value / 256 / 256 = rw c.to_be_bytes.ensures (omega arith) in
     let mid : get_or c.to_be_bytes.result 2 0 ≡ a.p.value / 256 % 256 = rw c.to_be_bytes.ensures (omega arith) in
-    let least : get_or c.to_be_bytes.result 3 0 ≡ a.p.value % 256 = rw c.to_be_bytes.ensures (omega arith) in
-    let all = stored a.out.now (pair_size * a.i) _ _ _ a.p.number _ _ _ high mid least in
-    (simp length-set, rw (le-ltb _ _ c.if-out-at.false) all)
+    let least : get_or c.to_be_bytes.result 3 0 ≡ a.p.value % 256 = rw c.to_be_bytes.ensures (omega arith) in (
+      simp length-set,
+      rw (le-ltb _ _ c.if-out-at.false)
+          (stored a.out.now (pair_size * a.i) _ _ _ a.p.number _ _ _ (omega (arith, high)) (omega (arith, mid)) (omega (arith, least))),
+    )
