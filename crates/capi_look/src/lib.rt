@@ -6,24 +6,32 @@ ghost use Rattle.codes.specs.Codes.{shown_code, ThreeBytes, shown_pairs, pairs_o
 
 use codes::of_condition;
 use codes::pairs::put_pairs;
+use limits::DEPTH;
 use plan::Refusal;
-use results::look::Looked;
+use results::look::{Looked, Pair};
 
 // What each pair that Look shows adds to the condition.
 pub const PER_PAIR: usize = 4;
 
+// The places beside what Look returned: no pair beside a refusal.
+fn places(l: Result<Looked, Refusal>) -> [Option<Pair>; DEPTH]
+    ensures { result ≡ places_in l }
+{
+    match l {
+        Ok(server) => server.places,
+        Err(_) => [None; DEPTH],
+    }
+}
+
 // What Look returned: the condition and PER_PAIR for each pair. As many whole pairs as fit stand at the start of `pairs`; a refusal writes none.
-#[tactic(auto, using(codes::proofs::PairLaws::over_none))]
 fn of_look(l: Result<Looked, Refusal>, pairs: &mut [u8]) -> usize
     requires { ThreeBytes (places_in l) }
     ensures { (result ≡ shown_code (looked l)) × (pairs.new ≡ pairs_over (shown_pairs (looked l)) pairs.old) }
 {
+    let shown = put_pairs(pairs, places(l));
     match l {
         Err(why) => codes::refusal(why),
-        Ok(server) => {
-            let shown = put_pairs(pairs, server.places);
-            of_condition(server.condition) + PER_PAIR * shown
-        }
+        Ok(server) => of_condition(server.condition) + PER_PAIR * shown,
     }
 }
 
